@@ -1,0 +1,55 @@
+-- Numbers as bytes and back, and parts of lists of bytes.
+use mathlib.Core.Path.{_≡_, refl, ap, _∙_}
+use Prim.Native.Nat.{ℕ, zero, suc, _+_, _*_, _/_, _%_, _^_, _<_, _≤_}
+use native.Mathlib.Omega.{arith}
+use native.Mathlib.Nat.{mod-add-div, div-lt-iff-lt-mul}
+use mathlib.Core.List.{List, [], _∷_, _++_}
+use lib.ListN.{length, take, drop}
+use lib.Arith.{digits-div, digits-mod}
+use Rattle.rules.specs.Bytes.{value, le, Bytes}
+use Rattle.rules.specs.Layout.{header}
+use Rattle.rules.specs.Walk.{lengthField}
+
+pub bytes-drop : (n : ℕ) (s : List ℕ) → Bytes s → Bytes (drop n s)
+bytes-drop zero s h = h
+bytes-drop (suc n) [] h = h
+bytes-drop (suc n) (b ∷ bs) h = bytes-drop n bs (h .1)
+
+pub bytes-take : (n : ℕ) (s : List ℕ) → Bytes s → Bytes (take n s)
+bytes-take zero s h = tt
+bytes-take (suc n) [] h = tt
+bytes-take (suc n) (b ∷ bs) h = (h .0, bytes-take n bs (h .1))
+
+pub length-le : (w n : ℕ) → length (le w n) ≡ w
+length-le zero n = refl
+length-le (suc w) n = ap suc (length-le w (n / 256))
+
+pub value-le : (w n : ℕ) → n < 256 ^ w → value (le w n) ≡ n
+value-le zero n h = omega arith
+value-le (suc w) n h =
+    let q : n / 256 < 256 ^ w = div-lt-iff-lt-mul {k = 256} {x = n} {y = 256 ^ w} (omega arith) .1 (omega arith) in
+    omega (arith, value-le w (n / 256) q, mod-add-div n 256)
+
+pub le-value : (s : List ℕ) → Bytes s → le (length s) (value s) ≡ s
+le-value [] h = refl
+le-value (b ∷ bs) h =
+    let c : b + 256 * value bs ≡ value bs * 256 + b = omega arith in
+    rw (c, digits-mod (value bs) (h .0), digits-div (value bs) (h .0), le-value bs (h .1))
+
+pub word-small : (s : List ℕ) → Bytes s → value (take 2 s) < 0x1_0000
+word-small [] h = omega arith
+word-small (a ∷ []) h = omega (arith, h .0)
+word-small (a ∷ b ∷ s) h = omega (arith, h .0, h .1 .0)
+
+-- six bytes or more begin with a header
+pub header-is : (s : List ℕ) → Bytes s → 6 ≤ length s → header (value (take 2 s)) (lengthField s) ++ drop 6 s ≡ s
+header-is [] h l = absurd (omega arith)
+header-is (a ∷ []) h l = absurd (omega arith)
+header-is (a ∷ b ∷ []) h l = absurd (omega arith)
+header-is (a ∷ b ∷ c ∷ []) h l = absurd (omega arith)
+header-is (a ∷ b ∷ c ∷ d ∷ []) h l = absurd (omega arith)
+header-is (a ∷ b ∷ c ∷ d ∷ e ∷ []) h l = absurd (omega arith)
+header-is (a ∷ b ∷ c ∷ d ∷ e ∷ f ∷ s) h l =
+    let p = le-value (a ∷ b ∷ []) (h .0, (h .1 .0, tt)) in
+    let q = le-value (c ∷ d ∷ e ∷ f ∷ []) (bytes-take 4 (c ∷ d ∷ e ∷ f ∷ s) (h .1 .1)) in
+    ap (λ (l : List ℕ). (l ++ le 4 (value (c ∷ d ∷ e ∷ f ∷ []))) ++ s) p ∙ ap (λ (l : List ℕ). (a ∷ b ∷ l) ++ s) q

@@ -1,0 +1,16 @@
+pub mod Bools
+pub mod Bytes
+pub mod Rows
+pub mod Conditions
+pub mod Once
+pub mod OwnSize
+pub mod Steps
+pub mod Sound
+pub mod Complete
+pub mod Verdict
+pub mod Fuel
+pub mod Gaps
+pub mod Pieces
+pub mod Moved
+pub mod Demands
+pub mod Samples

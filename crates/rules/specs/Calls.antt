@@ -1,0 +1,106 @@
+-- What each call of the reader answers and leaves in the lent rows, for every file and every row. The contracts of the
+-- public functions are equations with these definitions.
+use Prim.Native.Nat.{ℕ, _/_}
+use mathlib.Core.Bool.{cond}
+use mathlib.Core.List.{List, [], _∷_, _++_, map}
+use mathlib.Core.Option.{Option, none, some}
+use lib.Dec.{eqb, leb}
+use lib.Ieee.{Float}
+use lib.ListN.{length, drop, getElem?}
+use Rattle.rules.specs.declared.Refusal.{Refusal}
+use Rattle.rules.specs.declared.Refusal.the-variants.{NoRoom, NoSuchMesh, Empty}
+use Rattle.rules.specs.declared.Counts.{Counts}
+use Rattle.rules.specs.declared.Checked.{Checked}
+use Rattle.rules.specs.declared.Sizes.{Sizes}
+use Rattle.rules.specs.declared.Tabled.{Tabled}
+use Rattle.rules.specs.declared.Span.{Span}
+use Rattle.rules.specs.declared.Named.{Named}
+use Rattle.rules.specs.declared.Boxed.{Boxed}
+use Rattle.rules.specs.Layout.{Run, figure}
+use Rattle.rules.specs.Walk.{Answer, refused, accepted, verdict}
+use Rattle.rules.specs.Gives.{recordCount, list, flat, headers, owned, skipped, Mesh, meshes}
+use Rattle.rules.specs.Box.{float, boxOf, centreOf}
+
+-- a call that fills lent rows: its answer, and the rows afterwards
+pub record Effect (A R : Type 0) : Type 0 where
+  pub answer : A
+  pub rows : R
+
+abbrev pub leaving : {A R : Type 0} → A → R → Effect A R
+leaving answer rows = record { answer = answer; rows = rows }
+
+-- a row with new numbers at its front; beyond what is filled it keeps its contents
+abbrev pub filled : {A : Type 0} → List A → List A → List A
+filled new row = new ++ drop (length new) row
+
+-- ---- the check
+
+abbrev pub countsOf : Run → Counts
+countsOf kids = record {
+  records = recordCount (figure kids);
+  headers = headers (figure kids);
+  own = owned (figure kids);
+  skipped = skipped (figure kids);
+}
+
+abbrev pub checkOf : Answer → Checked
+checkOf (refused r) = Checked.Refused r
+checkOf (accepted kids) = Checked.Accepted (countsOf kids)
+
+unfoldable pub checkCall : List ℕ → Checked
+checkCall s = checkOf (verdict s)
+
+-- ---- the list, into a row whose room is counted in whole records
+
+abbrev pub listOf : List ℕ → Answer → Effect Checked (List ℕ)
+listOf row (refused r) = leaving (Checked.Refused r) row
+listOf row (accepted kids) =
+    cond (leb (recordCount (figure kids)) (length row / 6))
+    (leaving (Checked.Accepted (countsOf kids)) (filled (flat (list kids)) row))
+    (leaving (Checked.Refused (NoRoom (recordCount (figure kids)))) row)
+
+unfoldable pub listCall : List ℕ → List ℕ → Effect Checked (List ℕ)
+listCall s row = listOf row (verdict s)
+
+-- ---- one mesh
+
+-- the mesh of a number, among those of a figure; 16 refuses the number, not the file
+abbrev pub pickMesh : {A : Type 0} → (Refusal → A) → (Mesh → A) → ℕ → Option Mesh → A
+pickMesh refuse use-it meshes none = refuse (NoSuchMesh meshes)
+pickMesh refuse use-it meshes (some m) = use-it m
+
+abbrev pub ofMesh : {A : Type 0} → (Refusal → A) → (Mesh → A) → ℕ → Answer → A
+ofMesh refuse use-it mesh (refused r) = refuse r
+ofMesh refuse use-it mesh (accepted kids) = pickMesh refuse use-it (length (meshes kids)) (getElem? (meshes kids) mesh)
+
+-- the tables: a row of floats and a row of corners, three to a vertex and three to a face
+pub record Rows : Type 0 where
+  pub vertices : List Float
+  pub corners : List ℕ
+
+abbrev pub tablesOf : Rows → Mesh → Effect Tabled Rows
+tablesOf rows m =
+    cond (leb (length (m .vertices)) (length (rows .vertices)))
+    (cond (leb (length (m .corners)) (length (rows .corners)))
+    (leaving (Tabled.Filled record { vertices = m .vertexCount; faces = m .faceCount }) record { vertices = filled (map float (m .vertices)) (rows .vertices); corners = filled (m .corners) (rows .corners) })
+    (leaving (Tabled.Refused (NoRoom (length (m .corners)))) rows))
+    (leaving (Tabled.Refused (NoRoom (length (m .vertices)))) rows)
+
+unfoldable pub tablesCall : List ℕ → ℕ → Rows → Effect Tabled Rows
+tablesCall s mesh rows = ofMesh (λ r. leaving (Tabled.Refused r) rows) (tablesOf rows) mesh (verdict s)
+
+-- the name of the mesh's object
+abbrev pub nameOf : Mesh → Named
+nameOf m = Named.At record { offset = m .nameAt; size = m .nameLength }
+
+unfoldable pub nameCall : List ℕ → ℕ → Named
+nameCall s mesh = ofMesh Named.Refused nameOf mesh (verdict s)
+
+-- the box, and its centre
+abbrev pub aroundOf : Mesh → Boxed
+aroundOf m =
+    cond (eqb (m .vertexCount) 0) (Boxed.Refused Empty)
+    (Boxed.Around (boxOf (m .vertexCount) (m .vertices)) (centreOf (boxOf (m .vertexCount) (m .vertices))))
+
+unfoldable pub boxCall : List ℕ → ℕ → Boxed
+boxCall s mesh = ofMesh Boxed.Refused aroundOf mesh (verdict s)

@@ -1,0 +1,14 @@
+pub mod Refusals
+pub mod Bytes
+pub mod Table
+pub mod OwnData
+pub mod Layout
+pub mod Rules
+pub mod Walk
+pub mod Gives
+pub mod Box
+pub mod Calls
+pub mod Gaps
+pub mod Demands
+pub mod Samples
+pub mod Readings
