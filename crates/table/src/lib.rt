@@ -1,0 +1,87 @@
+// The chunk table of document 01 as code looks it up. A row is one number, so that looking at it costs nothing; crate
+// rules has the table in words, and proofs/Facts that each number says what its row says there.
+ghost use mathlib.Core.Path.{_≡_};
+ghost use Rattle.table.specs.Packed.{rowOf, mayHoldIn, plusIn, kindIn, Slot, Size};
+
+// The row of an identifier, 0 where it has none. The columns, from the left:
+// - size of own data: of all of it, of one counted element, or of what there is for each face
+// - whether children may follow
+// - kind of own data: 0 so many bytes, 1 a name, 2 counted elements, 3 for each face, 4 a name and words
+// - slot: the number of its group of "at most one" among the groups of its container; 5 for no group
+// - holds: bit k is set where chunks of place k may stand in it
+// - place: the number of the set of chunks under which it may stand; 1 is the file
+pub fn row(id: usize) -> u64
+    ensures { λ r. ⌜ r ≡ rowOf id ⌝ }
+{
+    match id {
+        0x4D4D => 0x00_1_0_5_004_1,
+        0x0002 => 0x04_0_0_0_000_2,
+        0x3D3D => 0x00_1_0_1_008_2,
+        0x1400 | 0x1450 | 0x1460 | 0x3D3E => 0x04_0_0_5_000_3,
+        0x1420 => 0x02_0_0_5_000_3,
+        0x1470 => 0x00_0_0_5_000_3,
+        0x2100 => 0x00_1_0_5_020_3,
+        0xAFFF => 0x00_1_0_5_010_3,
+        0xA000 => 0x00_0_1_0_000_4,
+        0xA010 | 0xA020 | 0xA030 => 0x00_1_0_5_020_4,
+        0xA040 => 0x00_1_0_5_040_4,
+        0x0010 | 0x0013 => 0x0C_0_0_5_000_5,
+        0x0011 => 0x03_0_0_5_000_5,
+        0x0012 => 0x03_0_0_5_000_5,
+        0x0030 => 0x02_0_0_5_000_6,
+        0x0031 => 0x04_0_0_5_000_6,
+        0x4000 => 0x00_1_1_5_080_3,
+        0x4010 | 0x4012 | 0x4015 => 0x00_0_0_5_000_7,
+        0x4013 | 0x4017 => 0x00_0_0_5_000_7,
+        0x4100 => 0x00_1_0_0_100_7,
+        0x4110 => 0x0C_0_2_0_000_8,
+        0x4120 => 0x08_1_2_1_200_8,
+        0x4130 => 0x00_0_4_5_000_9,
+        0x4150 => 0x04_0_3_0_000_9,
+        0x4140 => 0x08_0_2_2_000_8,
+        0x4160 => 0x30_0_0_3_000_8,
+        0x4165 => 0x01_0_0_4_000_8,
+        0x4600 => 0x0C_1_0_0_420_7,
+        0x4610 => 0x14_1_0_0_800_A,
+        0x4620 => 0x00_0_0_5_000_A,
+        0x4651 => 0x00_0_0_5_000_B,
+        0x4653 => 0x00_0_1_5_000_B,
+        0x4656 => 0x04_0_0_5_000_B,
+        0x4700 => 0x20_0_0_0_000_7,
+        _ => 0,
+    }
+}
+
+// What 4D4D stands under: the file holds the chunks of place 1.
+pub const FILE: u64 = 0x00_1_0_5_002_0;
+
+// Whether a chunk of this row may stand in one of the parent's row.
+pub fn may_hold(parent: u64, row: u64) -> bool
+    ensures { λ r. ⌜ r ≡ mayHoldIn parent row ⌝ }
+{
+    (parent / 16 >> row % 16) % 2 == 1
+}
+
+pub fn slot(row: u64) -> usize
+    ensures { λ r. ⌜ Slot row r ⌝ }
+{
+    (row / 65536 % 16) as usize
+}
+
+pub fn kind(row: u64) -> u64
+    ensures { λ r. ⌜ r ≡ kindIn row ⌝ }
+{
+    row / 1048576 % 16
+}
+
+pub fn may_have_children(row: u64) -> bool
+    ensures { λ r. ⌜ r ≡ plusIn row ⌝ }
+{
+    row / 16777216 % 16 == 1
+}
+
+pub fn size(row: u64) -> usize
+    ensures { λ r. ⌜ Size row r ⌝ }
+{
+    (row / 268435456 % 256) as usize
+}
