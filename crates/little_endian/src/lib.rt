@@ -1,0 +1,40 @@
+// Little-endian numbers in a slice, and the test of a 32-bit float's exponent.
+ghost use mathlib.Core.Path.{_≡_};
+ghost use Prim.Native.Nat.{_+_, _<_, _≤_};
+ghost use lib.ListN.{length, getD};
+ghost use Rattle.little_endian.specs.Numbers.{Word, Long};
+ghost use Rattle.rules.specs.OwnData.{finite};
+
+fn byte_at(s: &[u8], at: usize) -> u32
+    requires { ⌜ at < length (now s) ⌝ }
+    ensures { λ r. ⌜ (r ≡ getD (now (s .entry)) at 0) × (r < 256) ⌝ }
+{
+    s[at] as u32
+}
+
+// The 2-byte number at a position.
+pub fn word_at(s: &[u8], at: usize) -> u32
+    requires { ⌜ at + 2 ≤ length (now s) ⌝ }
+    ensures { λ r. ⌜ Word (now (s .entry)) at r ⌝ }
+{
+    byte_at(s, at) + 256 * byte_at(s, at + 1)
+}
+
+// The 4-byte number at a position.
+pub fn long_at(s: &[u8], at: usize) -> u32
+    requires { ⌜ at + 4 ≤ length (now s) ⌝ }
+    ensures { λ r. ⌜ Long (now (s .entry)) at r ⌝ }
+{
+    byte_at(s, at)
+        + 256 * byte_at(s, at + 1)
+        + 65536 * byte_at(s, at + 2)
+        + 16777216 * byte_at(s, at + 3)
+}
+
+// Whether the float of these bits is neither infinite nor not a number: its eight exponent bits, above 23 fraction bits,
+// are not all ones.
+pub fn is_finite(bits: u32) -> bool
+    ensures { λ r. ⌜ r ≡ finite bits ⌝ }
+{
+    bits / 8388608 % 256 != 255
+}

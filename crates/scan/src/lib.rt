@@ -1,0 +1,92 @@
+// Scans of own data in a slice: where a name ends, and whether all numbers of a list pass a test. Each reads its whole
+// list and branches on nothing in it, so that it runs as fast as the bytes come.
+use little_endian::is_finite;
+use little_endian::long_at;
+use little_endian::word_at;
+ghost use mathlib.Core.Path.{_≡_};
+ghost use Prim.Native.Nat.{_+_, _*_, _≤_, max};
+ghost use lib.ListN.{length, drop};
+ghost use lib.Seq.{slice};
+ghost use Rattle.rules.specs.Bytes.{numbers, every};
+ghost use Rattle.rules.specs.OwnData.{nameSize, corners, finite};
+ghost use Rattle.rules.specs.Rules.{allBelow};
+
+// The bytes of the name at a position, with its zero; one more than there are up to the end, if there is no zero.
+pub fn name_size(s: &[u8], at: usize, end: usize) -> usize
+    requires { ⌜ (at ≤ end) × (end ≤ length (now s)) ⌝ }
+    ensures { λ r. ⌜ r ≡ nameSize (slice at end (now (s .entry))) ⌝ }
+{
+    let mut i = at;
+    while i < end {
+        if s[i] == 0 {
+            return i + 1 - at;
+        }
+        i += 1;
+    }
+    i + 1 - at
+}
+
+// Whether the n floats at a position are finite.
+pub fn all_finite(s: &[u8], at: usize, n: usize) -> bool
+    requires { ⌜ at + 4 * n ≤ length (now s) ⌝ }
+    ensures { λ r. ⌜ r ≡ every finite (numbers 4 n (drop at (now (s .entry)))) ⌝ }
+{
+    let mut good = true;
+    let mut i = 0usize;
+    while i < n {
+        if !is_finite(long_at(s, at + 4 * i)) {
+            good = false;
+        }
+        i += 1;
+    }
+    good
+}
+
+// Whether the n words at a position are below a limit.
+pub fn words_below(s: &[u8], at: usize, n: usize, limit: u32) -> bool
+    requires { ⌜ at + 2 * n ≤ length (now s) ⌝ }
+    ensures { λ r. ⌜ r ≡ allBelow limit (numbers 2 n (drop at (now (s .entry)))) ⌝ }
+{
+    let mut good = true;
+    let mut i = 0usize;
+    while i < n {
+        if limit <= word_at(s, at + 2 * i) {
+            good = false;
+        }
+        i += 1;
+    }
+    good
+}
+
+fn larger(a: u32, b: u32) -> u32
+    ensures { λ r. ⌜ r ≡ max a b ⌝ }
+{
+    if a < b { b } else { a }
+}
+
+// Whether a face at a position, three corner words and a flag word, has its corners below a limit.
+fn face_below(s: &[u8], at: usize, limit: u32) -> bool
+    requires { ⌜ at + 8 ≤ length (now s) ⌝ }
+    ensures { λ r. ⌜ r ≡ allBelow limit (corners 1 (drop at (now (s .entry)))) ⌝ }
+{
+    let a = word_at(s, at);
+    let b = word_at(s, at + 2);
+    let c = word_at(s, at + 4);
+    larger(larger(a, b), c) < limit
+}
+
+// Whether the corners of the n faces at a position are below a limit.
+pub fn corners_below(s: &[u8], at: usize, n: usize, limit: u32) -> bool
+    requires { ⌜ at + 8 * n ≤ length (now s) ⌝ }
+    ensures { λ r. ⌜ r ≡ allBelow limit (corners n (drop at (now (s .entry)))) ⌝ }
+{
+    let mut good = true;
+    let mut i = 0usize;
+    while i < n {
+        if !face_below(s, at + 8 * i, limit) {
+            good = false;
+        }
+        i += 1;
+    }
+    good
+}
