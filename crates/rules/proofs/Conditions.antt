@@ -1,8 +1,9 @@
 -- Conditions in order: none is broken exactly when each holds.
 use mathlib.Core.Path.{_≡_, refl}
-use mathlib.Core.Bool.{true, false, true≢false, false≢true}
+use mathlib.Core.Bool.{Bool, true, false, false≢true}
 use mathlib.Core.List.{List, [], _∷_}
 use mathlib.Core.Option.{Option, none, some, Option·some-ne-none}
+use Rattle.rules.specs.declared.Refusal.{Refusal}
 use Rattle.rules.specs.Walk.{Condition, must, broken}
 
 -- each holds
@@ -21,3 +22,13 @@ unfolding broken
 unbroken [] h = refl
 unbroken (must true r ∷ cs) h = unbroken cs (h .1)
 unbroken (must false r ∷ cs) h = absurd (false≢true (h .0))
+
+-- ---- one condition after the other
+
+pub broken-here : (b : Bool) (r : Refusal) (cs : List Condition) → b ≡ false → broken (must b r ∷ cs) ≡ some r
+unfolding broken
+broken-here b r cs e = rw e
+
+pub broken-later : (b : Bool) (r : Refusal) (cs : List Condition) → b ≡ true → broken (must b r ∷ cs) ≡ broken cs
+unfolding broken
+broken-later b r cs e = rw e

@@ -43,17 +43,21 @@ headerConditions o s n =
     must (leb 6 n) (Short o) ∷
     must (leb n (length s)) (Overrun o) ∷ []
 
--- "7, 8, 9, 10, 11, and 12 for a 4130": a listed child in p after the children `seen`, whose own data is the first k
--- bytes of its body. (These rules do not look at the children, for which `end` stands.)
-abbrev pub childConditions : Parent → List ℕ → ℕ → ℕ → List ℕ → ℕ → List Condition
-childConditions p seen o id body k =
-    must (inPlace p id (take k body) end) (Misplaced o) ∷
-    must (few (p .id) (id ∷ seen)) (Twice o) ∷
+-- "9, 10, 11, and 12 for a 4130": own data, the first k bytes of the body of a chunk in p
+-- (These rules do not look at the children, for which `end` stands.)
+abbrev pub ownConditions : Parent → ℕ → ℕ → List ℕ → ℕ → List Condition
+ownConditions p o id body k =
     must (hasName (shape id) body) (Name o) ∷
     must (leb k (length body)) (Length o) ∷
     must (plus id || leb (length body) k) (Length o) ∷
     must (numbersFinite p id (take k body) end) (Number o) ∷
     must (faceNumbersBelow p id (take k body) end) (Index o) ∷ []
+
+-- "7, 8": a listed child in p, after the children `seen`
+abbrev pub childConditions : Parent → List ℕ → ℕ → ℕ → List ℕ → ℕ → List Condition
+childConditions p seen o id body k =
+    must (inPlace p id (take k body) end) (Misplaced o) ∷
+    must (few (p .id) (id ∷ seen)) (Twice o) ∷ ownConditions p o id body k
 
 -- "and for a mesh 12 for corners, then 13": a chunk whose children begin at o
 abbrev pub meshConditions : Parent → ℕ → ℕ → List ℕ → Run → List Condition

@@ -1,0 +1,109 @@
+-- The conditions of own data, in their order: the first that is broken, or none.
+use mathlib.Core.Path.{_≡_, refl, sym, ap, _∙_, subst}
+use mathlib.Core.Bool.{Bool, true, false, not, _||_}
+use mathlib.Core.List.{List, [], _∷_, _++_}
+use mathlib.Core.Option.{Option, none, some}
+use Prim.Native.Nat.{ℕ, _+_, _-_, _*_, _≤_, _<_}
+use native.Mathlib.Omega.{arith}
+use lib.Dec.{leb}
+use lib.ListN.{length, take, drop, take-append-drop}
+use lib.Seq.{slice, length-slice}
+use borrow.Author.Tests.{le-leb, lt-leb, leb-true, leb-false}
+use Rattle.rules.specs.declared.Refusal.{Refusal}
+use Rattle.rules.specs.declared.Refusal.the-variants.{Name, Length, Number, Index}
+use Rattle.rules.specs.Bytes.{le, value}
+use Rattle.rules.specs.Table.{Shape, counted, named-words, rows, listed, shape, plus}
+use Rattle.rules.specs.Layout.{end}
+use Rattle.rules.specs.OwnData.{nameSize, count, ownSize, hasName}
+use Rattle.rules.specs.Rules.{Parent, numbersFinite, faceNumbersBelow}
+use Rattle.rules.specs.Walk.{broken, ownConditions}
+use Rattle.rules.proofs.Bytes.{value-le}
+use Rattle.rules.proofs.Conditions.{broken-here, broken-later, unbroken}
+use Rattle.rules.proofs.OwnSize.{own-size-less}
+use Rattle.little_endian.proofs.Slices.{take-slice, drop-slice}
+use Rattle.table.specs.Packed.{rowOf, plusIn, shapeIn}
+use Rattle.table.proofs.Facts.{plus-is, shape-is}
+use Rattle.own_data.specs.declared.Own.{Own}
+use Rattle.own_data.specs.declared.Judged.{Judged}
+use Rattle.own_data.specs.Own.{Fits, Exceeds, OwnIs, CountIs, Exact, JudgedIs, Judges}
+
+-- some own data with a given count word
+pub some-around : (n : ℕ) → n < 65536 → CountIs (le 2 n) n
+some-around n h = record { is = sym (value-le 2 n h); small = h }
+
+-- ---- what the conditions come to
+
+module _ (p : Parent) (o id : ℕ) (body : List ℕ) where
+  size : ℕ
+  size = ownSize (shape id) (p .own) body
+
+  judges : (x : Option Refusal) (r : Judged) → broken (ownConditions p o id body (ownSize (shape id) (p .own) body)) ≡ x → JudgedIs (ownSize (shape id) (p .own) body) x r → Judges p o id body r
+  judges x r e h = subst (λ (y : Option Refusal). JudgedIs (ownSize (shape id) (p .own) body) y r) (sym e) h
+
+  pub judge-no-name : hasName (shape id) body ≡ false → Judges p o id body (Judged.Fault (Name o))
+  judge-no-name h = judges (some (Name o)) _ (broken-here _ _ _ h) refl
+
+  pub judge-too-long : Exceeds (shape id) (p .own) body → Judges p o id body (Judged.Fault (Length o))
+  judge-too-long h = judges (some (Length o)) _ (broken-later _ _ _ (h .named) ∙ broken-here _ _ _ (lt-leb (ownSize (shape id) (p .own) body) (length body) (h .beyond))) refl
+
+  module _ (k : ℕ) (fits : Fits (shape id) (p .own) body k) where
+    within : leb (ownSize (shape id) (p .own) body) (length body) ≡ true
+    within = rw (← (fits .is)) (le-leb k (length body) (fits .within))
+
+    pub judge-left-over : (plus id || leb (length body) k) ≡ false → Judges p o id body (Judged.Fault (Length o))
+    judge-left-over h = judges (some (Length o)) _ (broken-later _ _ _ (fits .named) ∙ broken-later _ _ _ within ∙ broken-here _ _ _ (rw (← (fits .is)) h)) refl
+
+    module _ (all : (plus id || leb (length body) k) ≡ true) where
+      past : broken (ownConditions p o id body (ownSize (shape id) (p .own) body)) ≡ broken (drop 3 (ownConditions p o id body (ownSize (shape id) (p .own) body)))
+      past = broken-later _ _ _ (fits .named) ∙ broken-later _ _ _ within ∙ broken-later _ _ _ (rw (← (fits .is)) all)
+
+      pub judge-number : numbersFinite p id (take k body) end ≡ false → Judges p o id body (Judged.Fault (Number o))
+      judge-number h = judges (some (Number o)) _ (past ∙ broken-here _ _ _ (rw (← (fits .is)) h)) refl
+
+      pub judge-index : numbersFinite p id (take k body) end ≡ true → faceNumbersBelow p id (take k body) end ≡ false → Judges p o id body (Judged.Fault (Index o))
+      judge-index f h = judges (some (Index o)) _ (past ∙ broken-later _ _ _ (rw (← (fits .is)) f) ∙ broken-here _ _ _ (rw (← (fits .is)) h)) refl
+
+      pub judge-fine : numbersFinite p id (take k body) end ≡ true → faceNumbersBelow p id (take k body) end ≡ true → Judges p o id body (Judged.Size k)
+      judge-fine f h = judges none _ (past ∙ broken-later _ _ _ (rw (← (fits .is)) f) ∙ broken-later _ _ _ (rw (← (fits .is)) h) ∙ unbroken [] tt) (ap Judged.Size (fits .is))
+
+-- ---- own data in the file
+
+-- what was found of the row's shape is so of the identifier's
+module _ (id row : ℕ) (l : listed id ≡ true) (e : row ≡ rowOf id) (around body : List ℕ) (r : Own) (found : OwnIs (shapeIn row) around body r) where
+  pub own-of-row : (x : Own) → r ≡ x → OwnIs (shape id) around body x
+  own-of-row x f = subst (OwnIs (shape id) around body) f (subst (λ (sh : Shape). OwnIs sh around body r) (ap shapeIn e ∙ shape-is id l) found)
+
+module _ (s : List ℕ) (a stop : ℕ) (order : a ≤ stop) (stays : stop ≤ length s) (id : ℕ) (around : List ℕ) (k : ℕ) (fits : Fits (shape id) around (slice a stop s) k) where
+  pub own-ends : a + k ≤ stop
+  own-ends = omega (arith, length-slice a stop s stays, fits .within)
+
+  pub own-is : take k (slice a stop s) ≡ slice a (a + k) s
+  own-is = take-slice k a stop s own-ends
+
+  own-length : length (slice a (a + k) s) ≡ k
+  own-length = length-slice a (a + k) s (omega (arith, own-ends)) ∙ omega arith
+
+  -- own data that was found is just as long as its shape says
+  own-exact : ownSize (shape id) around (slice a (a + k) s) ≡ length (slice a (a + k) s)
+  own-exact =
+      own-size-less (shape id) around (slice a (a + k) s) (drop k (slice a stop s))
+      (rw (← own-is, take-append-drop k (slice a stop s), own-is, own-length) (sym (fits .is)))
+
+  shape-at : (x : ℕ) (sh : Shape) → shape x ≡ sh → id ≡ x → ownSize sh around (slice a (a + k) s) ≡ length (slice a (a + k) s)
+  shape-at x sh e i = rw (← e, ← i) own-exact
+
+  pub exact : Exact id (slice a (a + k) s)
+  unfolding shape rows
+  exact = record {
+    vertices = λ i. sym (shape-at 0x4110 (counted 12) refl i);
+    pairs = λ i. sym (shape-at 0x4140 (counted 8) refl i);
+    words = λ i. sym (shape-at 0x4130 named-words refl i);
+  }
+
+  -- bytes are left behind it just where the chunk goes on
+  pub left-over-is : (row : ℕ) → listed id ≡ true → row ≡ rowOf id → (plus id || leb (length (slice a stop s)) k) ≡ (plusIn row || leb stop (a + k))
+  left-over-is row l e = rw (length-slice a stop s stays, e, plus-is id l) (ap (λ (b : Bool). plus id || b) (go (leb stop (a + k)) refl))
+    where
+      go : (b : Bool) → leb stop (a + k) ≡ b → leb (stop - a) k ≡ b
+      go true h = le-leb (stop - a) k (omega (arith, leb-true stop (a + k) h))
+      go false h = lt-leb (stop - a) k (omega (arith, leb-false stop (a + k) h))
