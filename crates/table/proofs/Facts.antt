@@ -9,15 +9,15 @@ use Rattle.rules.specs.Bytes.{every}
 use Rattle.rules.specs.Table.{Shape, fixed, name, counted, each, named-words, rows, atMostOne, atLeastOne, among, listed, under, shape, plus, limits, needs}
 use Rattle.rules.proofs.Bools.{and-parts, or-second}
 use Rattle.rules.proofs.Rows.{everyId, among-every, listed-every, under-listed}
-use Rattle.table.specs.Packed.{Packed, packedRows, rowAmong, rowOf, mayHoldIn, plusIn, slotIn, kindIn, sizeIn, shapeFrom, shapeIn}
+use Rattle.table.specs.Packed.{Packed, packedRows, rowAmong, rowOf, mayHoldIn, plusIn, slotOf, kindIn, sizeIn, shapeFrom, shapeIn}
 
 -- ---- tests that two things are the same
 
-abbrev same : Bool → Bool → Bool
+abbrev pub same : Bool → Bool → Bool
 same true b = b
 same false b = not b
 
-same-is : (a b : Bool) → same a b ≡ true → a ≡ b
+pub same-is : (a b : Bool) → same a b ≡ true → a ≡ b
 same-is true b h = sym h
 same-is false true h = absurd (false≢true h)
 same-is false false h = refl
@@ -101,9 +101,6 @@ shape-is x l =
     rw (eqb-true (kindIn (rowOf x)) (kindOf (shape x)) (h .0), eqb-true (sizeIn (rowOf x)) (sizeOf (shape x)) (h .1)) (shape-back (shape x))
 
 -- ---- slots: within a container, chunks of one slot are those of one group, and slot 5 is none's
-
-abbrev pub slotOf : ℕ → ℕ
-slotOf x = slotIn (rowOf x)
 
 -- the slot of a group is that of its first identifier
 abbrev pub groupSlot : List ℕ → ℕ

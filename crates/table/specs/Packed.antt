@@ -76,6 +76,10 @@ plusIn row = eqb (row / 2 ^ 24 % 16) 1
 abbrev pub sizeIn : ℕ → ℕ
 sizeIn row = row / 2 ^ 28 % 256
 
+-- the slot of an identifier
+abbrev pub slotOf : ℕ → ℕ
+slotOf x = slotIn (rowOf x)
+
 -- the shape of a row's own data
 abbrev pub shapeFrom : ℕ → ℕ → Shape
 shapeFrom zero size = fixed size

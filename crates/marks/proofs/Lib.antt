@@ -1,0 +1,5 @@
+pub mod Slots
+pub mod After
+pub mod Children
+pub mod Ends
+pub mod Places
