@@ -13,8 +13,7 @@ use Rattle.rules.specs.Table.{under, among}
 use Rattle.rules.specs.Layout.{Run, end, skip, known, size, identifiers, offsetOf}
 use Rattle.rules.specs.Rules.{Parent, inside, Obeys}
 use Rattle.table.specs.Packed.{slotOf}
-use Rattle.marks.specs.Marks.{marksAfter}
-use Rattle.marks.proofs.Slots.{tallySlot, Under}
+use Rattle.marks.specs.Marks.{tallySlot, Under, marksAfter}
 
 pub under-of : (p : Parent) (t : Run) → Obeys p t → Under (p .id) (identifiers t)
 under-of p end h = tt

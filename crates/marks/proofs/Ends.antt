@@ -26,8 +26,8 @@ use Rattle.scan.proofs.Parts.{corners-slice}
 use Rattle.table.specs.Packed.{slotOf, rowOf, packedRows}
 use Rattle.table.proofs.Facts.{SlotTest, groupSlot, same, same-is}
 use Rattle.marks.specs.declared.Shut.{Shut}
-use Rattle.marks.specs.Marks.{marksAfter, noMarks, Kept, ShutIs, Placed, countAt, cornersAt, pairsAt, MeshPlaced, meshBroken}
-use Rattle.marks.proofs.Slots.{tallySlot, Under, allSlot, tally-slot, groups-slotted}
+use Rattle.marks.specs.Marks.{tallySlot, Under, marksAfter, noMarks, Kept, ShutIs, Placed, countAt, cornersAt, pairsAt, MeshPlaced, meshBroken}
+use Rattle.marks.proofs.Slots.{allSlot, tally-slot, groups-slotted}
 use Rattle.marks.proofs.After.{under-of, marks-zero, Alone, marks-place}
 use Rattle.marks.proofs.Children.{Found, child-none, child-found}
 

@@ -15,17 +15,7 @@ use Rattle.rules.specs.Rules.{tally, few}
 use Rattle.rules.proofs.Bools.{and-parts, both, or-second}
 use Rattle.table.specs.Packed.{slotOf}
 use Rattle.table.proofs.Facts.{groupSlot, SlotTest, slot-is, same-is, same}
-use Rattle.marks.specs.Marks.{free}
-
--- how many chunks of a slot
-abbrev pub tallySlot : ℕ → List ℕ → ℕ
-tallySlot k [] = 0
-tallySlot k (x ∷ xs) = cond (eqb (slotOf x) k) 1 0 + tallySlot k xs
-
--- each may stand under p
-abbrev pub Under : ℕ → List ℕ → Type 0
-Under p [] = Unit
-Under p (x ∷ xs) = (under p x ≡ true) × Under p xs
+use Rattle.marks.specs.Marks.{tallySlot, Under, free}
 
 -- ---- tests of lists
 

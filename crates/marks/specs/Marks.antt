@@ -10,6 +10,7 @@ use lib.ListN.{length, set, getD, drop, replicate}
 use lib.Seq.{slice}
 use Rattle.rules.specs.declared.Refusal.{Refusal}
 use Rattle.rules.specs.declared.Refusal.the-variants.{Index, Count}
+use Rattle.rules.specs.Table.{under}
 use Rattle.rules.specs.OwnData.{corners}
 use Rattle.rules.specs.Layout.{Run, end, skip, known, size, bytes, identifiers}
 use Rattle.rules.specs.Rules.{Parent, inside, few, allBelow, Obeys}
@@ -17,6 +18,16 @@ use Rattle.rules.specs.Walk.{must, broken}
 use Rattle.little_endian.specs.Numbers.{wordAt}
 use Rattle.table.specs.Packed.{slotOf}
 use Rattle.marks.specs.declared.Shut.{Shut}
+
+-- how many chunks of a slot
+abbrev pub tallySlot : ℕ → List ℕ → ℕ
+tallySlot k [] = 0
+tallySlot k (x ∷ xs) = cond (eqb (slotOf x) k) 1 0 + tallySlot k xs
+
+-- each may stand under p
+abbrev pub Under : ℕ → List ℕ → Type 0
+Under p [] = Unit
+Under p (x ∷ xs) = (under p x ≡ true) × Under p xs
 
 -- a slot is free: it is none's, or nothing was seen there
 unfoldable pub free : ℕ → List ℕ → Bool

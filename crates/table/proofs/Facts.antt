@@ -1,10 +1,10 @@
 -- What a packed row says, in the words of crate rules: one test for each field, computed over the whole table.
 use mathlib.Core.Path.{_≡_, refl, sym, _∙_}
-use Prim.Native.Nat.{ℕ}
+use Prim.Native.Nat.{ℕ, _≤_}
 use mathlib.Core.Bool.{Bool, true, false, not, _&&_, _||_, cond, true≢false, false≢true}
 use mathlib.Core.List.{List, [], _∷_}
-use lib.Dec.{eqb, ltb}
-use borrow.Author.Tests.{eqb-true, not-true}
+use lib.Dec.{eqb, ltb, leb}
+use borrow.Author.Tests.{eqb-true, not-true, leb-true}
 use Rattle.rules.specs.Bytes.{every}
 use Rattle.rules.specs.Table.{Shape, fixed, name, counted, each, named-words, rows, atMostOne, atLeastOne, among, listed, under, shape, plus, limits, needs}
 use Rattle.rules.proofs.Bools.{and-parts, or-second}
@@ -122,6 +122,13 @@ pub slot-is : (p x : ℕ) → listed p ≡ true → under p x ≡ true →
     (every (SlotTest x) (limits p) ≡ true) × ((eqb (slotOf x) 5 || not (every (λ g. not (among x g)) (limits p))) ≡ true)
 slot-is p x k u =
     and-parts _ _ (or-second (not (under p x)) _ (listed-every (slotted p) (listed-every (λ p. everyId (slotted p) rows) slot-test p k) x (under-listed p x u)) (rw u))
+
+slot-small-test : everyId (λ x. leb (slotOf x) 5) rows ≡ true
+unfolding rows every packedRows rowOf
+slot-small-test = refl
+
+pub slot-small : (x : ℕ) → listed x ≡ true → slotOf x ≤ 5
+slot-small x l = leb-true (slotOf x) 5 (listed-every (λ x. leb (slotOf x) 5) slot-small-test x l)
 
 -- ---- leaves
 

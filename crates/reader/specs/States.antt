@@ -1,0 +1,78 @@
+-- What the functions of the walk say, in the words of crate rules. Nothing here is a meaning of its own: positions in the
+-- file stand for the lists of bytes of the rules' walk, and numbers for the layout that it gives.
+use mathlib.Core.Path.{_≡_}
+use mathlib.Core.Logic.{_↔_}
+use mathlib.Core.Bool.{Bool, true, cond}
+use mathlib.Core.List.{List, [], _∷_}
+use mathlib.Core.Option.{Option, none, some}
+use Prim.Native.Nat.{ℕ, suc, _+_, _*_, _-_, _≤_, _<_, _^_}
+use lib.ListN.{length, getD, set}
+use Rattle.rules.specs.declared.Refusal.{Refusal}
+use Rattle.rules.specs.Table.{listed, plus, shape}
+use Rattle.rules.specs.OwnData.{count, ownSize}
+use Rattle.rules.specs.Rules.{Parent, inside, limit, few}
+use Rattle.rules.specs.Gives.{recordCount, skipped}
+use Rattle.rules.specs.Walk.{Step, stop, pass, enter, broken, ownConditions, opened, Answer, refused, accepted, ended, walk}
+use Rattle.little_endian.specs.Numbers.{wordAt, longAt}
+use Rattle.table.specs.Packed.{rowOf, slotOf}
+use Rattle.own_data.specs.Own.{CountIs}
+use Rattle.marks.specs.Marks.{tallySlot, Under, marksAfter}
+use Rattle.reader.specs.declared.Header.{Header}
+use Rattle.reader.specs.declared.Head.{Head}
+
+-- ---- the header of a chunk at `at`
+
+abbrev pub HeaderIs : List ℕ → ℕ → Option Refusal → Header → Type 0
+HeaderIs s at (some x) r = r ≡ Header.Fault x
+HeaderIs s at none r = r ≡ Header.Is (wordAt s at) (at + longAt s (at + 2))
+
+abbrev pub HeaderWithin : ℕ → ℕ → Header → Type 0
+HeaderWithin at end (Header.Fault x) = Unit
+HeaderWithin at end (Header.Is id past) = (at + 6 ≤ past) × (past ≤ end) × (id < 2 ^ 16)
+
+-- ---- one step
+
+-- a step of the walk at `at`, as the code answers it
+abbrev pub HeadIs : ℕ → Step → Head → Type 0
+HeadIs at (stop x) r = r ≡ Head.Fault x
+HeadIs at (pass id body rest) r = r ≡ Head.Skip (at + (6 + length body))
+HeadIs at (enter id own kids rest) r =
+    r ≡ cond (plus id) (Head.Enter id (rowOf id) (count own) (at + (6 + length own)) (at + (6 + length own + length kids))) (Head.Leaf (at + (6 + length own + length kids)))
+
+-- the step that enters a listed chunk whose place is fine, if its own data is
+abbrev pub openedBy : Parent → ℕ → ℕ → List ℕ → List ℕ → Step
+openedBy p o id body rest =
+    opened id body rest (ownSize (shape id) (p .own) body) (broken (ownConditions p o id body (ownSize (shape id) (p .own) body)))
+
+-- the marks after it
+abbrev pub MarksAre : ℕ → Step → List ℕ → List ℕ → Type 0
+MarksAre at (stop x) marks marks′ = Unit
+MarksAre at (pass id body rest) marks marks′ = marks′ ≡ marks
+MarksAre at (enter id own kids rest) marks marks′ = marks′ ≡ set marks (slotOf id) at
+
+abbrev pub HeadWithin : ℕ → ℕ → Head → Type 0
+HeadWithin at end (Head.Fault x) = Unit
+HeadWithin at end (Head.Skip past) = (at + 6 ≤ past) × (past ≤ end)
+HeadWithin at end (Head.Leaf past) = (at + 6 ≤ past) × (past ≤ end)
+HeadWithin at end (Head.Enter id row word from past) = (at + 6 ≤ from) × (from ≤ past) × (past ≤ end) × (word < 2 ^ 16)
+
+-- ---- where the code stands
+
+-- a file within the limit, a count word, and marks of five slots
+pub record Room (end count : ℕ) (s marks : List ℕ) : Type 0 where
+  pub ends : end ≤ length s
+  pub short : length s ≤ limit
+  pub word : count < 2 ^ 16
+  pub five : length marks ≡ 5
+
+-- the code's row, count word and marks are those of a run in p, after the children `seen`
+pub record Context (p : Parent) (seen : List ℕ) (row word : ℕ) (marks : List ℕ) : Type 0 where
+  pub is-listed : listed (p .id) ≡ true
+  pub row-is : row ≡ rowOf (p .id)
+  pub count-is : CountIs (p .own) word
+  pub all-under : Under (p .id) seen
+  pub not-twice : few (p .id) seen ≡ true
+  pub marked : (k : ℕ) → k < 5 → (getD marks k 0 ≡ 0) ↔ (tallySlot k seen ≡ 0)
+
+abbrev pub SomeContext : ℕ → ℕ → List ℕ → Type 0
+SomeContext row word marks = (p : Parent) × (seen : List ℕ) × Context p seen row word marks
