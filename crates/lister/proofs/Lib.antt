@@ -1,0 +1,5 @@
+pub mod Rows
+pub mod Runs
+pub mod Chunks
+pub mod Owns
+pub mod Loop
