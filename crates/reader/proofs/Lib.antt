@@ -1,2 +1,7 @@
 pub mod Opens
 pub mod Contexts
+pub mod Parts
+pub mod Chunks
+pub mod Entering
+pub mod Runs
+pub mod Loop

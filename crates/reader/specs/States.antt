@@ -19,6 +19,7 @@ use Rattle.own_data.specs.Own.{CountIs}
 use Rattle.marks.specs.Marks.{tallySlot, Under, marksAfter}
 use Rattle.reader.specs.declared.Header.{Header}
 use Rattle.reader.specs.declared.Head.{Head}
+use Rattle.reader.specs.declared.Ran.{Ran}
 
 -- ---- the header of a chunk at `at`
 
@@ -55,6 +56,34 @@ HeadWithin at end (Head.Fault x) = Unit
 HeadWithin at end (Head.Skip past) = (at + 6 ≤ past) × (past ≤ end)
 HeadWithin at end (Head.Leaf past) = (at + 6 ≤ past) × (past ≤ end)
 HeadWithin at end (Head.Enter id row word from past) = (at + 6 ≤ from) × (from ≤ past) × (past ≤ end) × (word < 2 ^ 16)
+
+-- ---- a chunk and a run
+
+-- the answer to a chunk's children, at its end
+abbrev pub ClosedIs : ℕ → Answer → Ran → Type 0
+ClosedIs past (refused x) r = r ≡ Ran.Refused x
+ClosedIs past (accepted t) r = r ≡ Ran.Done past (recordCount t + 1) (skipped t)
+
+-- a chunk at `at`, by the step that meets it, and the marks before and after it
+abbrev pub ChunkIs : Parent → ℕ → Step → Ran → List ℕ → List ℕ → Type 0
+ChunkIs p at (stop x) r marks marks′ = r ≡ Ran.Refused x
+ChunkIs p at (pass id body rest) r marks marks′ = (r ≡ Ran.Done (at + (6 + length body)) 0 (6 + length body)) × (marks′ ≡ marks)
+ChunkIs p at (enter id own kids rest) r marks marks′ =
+    ClosedIs (at + (6 + length own + length kids)) (ended p at id own (walk (inside p id own) [] (at + (6 + length own)) kids)) r × (marks′ ≡ set marks (slotOf id) at)
+
+-- a run from o to `end`, where so many records and skipped bytes came before it
+abbrev pub RunIs : ℕ → ℕ → ℕ → ℕ → List ℕ → Answer → Ran → List ℕ → Type 0
+RunIs end records bytes o marks (refused x) r marks′ = r ≡ Ran.Refused x
+RunIs end records bytes o marks (accepted t) r marks′ = (r ≡ Ran.Done end (records + recordCount t) (bytes + skipped t)) × (marks′ ≡ marksAfter o t marks)
+
+-- six bytes for each record, and the skipped ones, stand where the chunk or the run does
+abbrev pub ChunkWithin : ℕ → ℕ → Ran → Type 0
+ChunkWithin at end (Ran.Refused x) = Unit
+ChunkWithin at end (Ran.Done next records bytes) = (at < next) × (next ≤ end) × (6 * records + bytes ≤ next - at)
+
+abbrev pub RunWithin : ℕ → ℕ → Ran → Type 0
+RunWithin at end (Ran.Refused x) = Unit
+RunWithin at end (Ran.Done next records bytes) = 6 * records + bytes ≤ end - at
 
 -- ---- where the code stands
 
