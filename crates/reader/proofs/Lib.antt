@@ -5,3 +5,4 @@ pub mod Chunks
 pub mod Entering
 pub mod Runs
 pub mod Loop
+pub mod Files

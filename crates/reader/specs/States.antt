@@ -6,11 +6,12 @@ use mathlib.Core.Bool.{Bool, true, cond}
 use mathlib.Core.List.{List, [], _∷_}
 use mathlib.Core.Option.{Option, none, some}
 use Prim.Native.Nat.{ℕ, suc, _+_, _*_, _-_, _≤_, _<_, _^_}
-use lib.ListN.{length, getD, set}
+use lib.ListN.{length, getD, set, drop}
 use Rattle.rules.specs.declared.Refusal.{Refusal}
 use Rattle.rules.specs.Table.{listed, plus, shape}
 use Rattle.rules.specs.OwnData.{count, ownSize}
-use Rattle.rules.specs.Rules.{Parent, inside, limit, few}
+use Rattle.rules.specs.declared.Counts.{Counts}
+use Rattle.rules.specs.Rules.{Parent, file, inside, limit, few}
 use Rattle.rules.specs.Gives.{recordCount, skipped}
 use Rattle.rules.specs.Walk.{Step, stop, pass, enter, broken, ownConditions, opened, Answer, refused, accepted, ended, walk}
 use Rattle.little_endian.specs.Numbers.{wordAt, longAt}
@@ -105,3 +106,15 @@ pub record Context (p : Parent) (seen : List ℕ) (row word : ℕ) (marks : List
 
 abbrev pub SomeContext : ℕ → ℕ → List ℕ → Type 0
 SomeContext row word marks = (p : Parent) × (seen : List ℕ) × Context p seen row word marks
+
+-- ---- the whole file
+
+-- the answer to the children of 4D4D, at its end
+unfoldable pub figureAnswer : List ℕ → Answer
+figureAnswer s = ended file 0 0x4D4D [] (walk (inside file 0x4D4D []) [] 6 (drop 6 s))
+
+pub record CountsAre (records bytes size : ℕ) (r : Counts) : Type 0 where
+  pub records-are : r .records ≡ records
+  pub headers-are : r .headers ≡ 6 * records
+  pub own-is : r .own + 6 * records + bytes ≡ size
+  pub skipped-are : r .skipped ≡ bytes

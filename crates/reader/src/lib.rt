@@ -18,8 +18,10 @@ ghost use Rattle.rules.specs.Table.{listed};
 ghost use Rattle.rules.specs.Rules.{Parent};
 ghost use Rattle.table.specs.Packed.{rowOf};
 ghost use Rattle.own_data.specs.Own.{CountIs};
-ghost use Rattle.rules.specs.Walk.{broken, headerConditions, lengthField, step, walk};
-ghost use Rattle.reader.specs.States.{HeaderIs, HeaderWithin, HeadIs, MarksAre, HeadWithin, Room, Context, SomeContext, openedBy, ChunkIs, ChunkWithin, RunIs, RunWithin};
+ghost use Rattle.rules.specs.Walk.{broken, fileConditions, headerConditions, lengthField, step, walk};
+ghost use Rattle.rules.specs.Calls.{checkOf, checkCall};
+ghost use Rattle.marks.specs.Marks.{ShutIs};
+ghost use Rattle.reader.specs.States.{HeaderIs, HeaderWithin, HeadIs, MarksAre, HeadWithin, Room, Context, SomeContext, openedBy, ChunkIs, ChunkWithin, RunIs, RunWithin, CountsAre, figureAnswer};
 
 // The header of a chunk: a fault, or its identifier and where the chunk ends.
 pub enum Header {
@@ -201,5 +203,76 @@ fn run(file: &[u8], parent: u64, count: u32, at: usize, end: usize, marks: &mut 
         next: end,
         records,
         skipped,
+    }
+}
+
+// The file's own conditions: its length, and the header of its one chunk 4D4D.
+fn judge_file(file: &[u8]) -> Shut
+    ensures { λ r. ⌜ ShutIs (broken (fileConditions (now (file .entry)) (lengthField (now (file .entry))))) r ⌝ }
+{
+    let size = file.len();
+    if 1048576 < size {
+        return Shut::Fault(Refusal::TooLong);
+    }
+    if size < 6 {
+        return Shut::Fault(Refusal::NotAFigure);
+    }
+    if word_at(file, 0) != 0x4D4D {
+        return Shut::Fault(Refusal::NotAFigure);
+    }
+    let len = long_at(file, 2) as usize;
+    if len < 6 {
+        return Shut::Fault(Refusal::Short(0));
+    }
+    if size < len {
+        return Shut::Fault(Refusal::Overrun(0));
+    }
+    if len < size {
+        return Shut::Fault(Refusal::Trailing(len));
+    }
+    Shut::Fine
+}
+
+// The counts of a file of so many bytes. Each byte is in a header, in own data or skipped.
+fn counts(records: usize, skipped: usize, size: usize) -> Counts
+    requires { ⌜ (6 * records + skipped ≤ size) × (size ≤ 1048576) ⌝ }
+    ensures { λ r. ⌜ CountsAre records skipped size r ⌝ }
+{
+    let headers = 6 * records;
+    Counts {
+        records,
+        headers,
+        own: size - headers - skipped,
+        skipped,
+    }
+}
+
+// The children of 4D4D, and 4D4D at its end.
+fn check_figure(file: &[u8]) -> Checked
+    requires { ⌜ (6 ≤ length (now file)) × (length (now file) ≤ 1048576) ⌝ }
+    ensures { λ r. ⌜ r ≡ checkOf (figureAnswer (now (file .entry))) ⌝ }
+{
+    let size = file.len();
+    let mut marks = [0u32; 5];
+    match run(file, table::row(0x4D4D), 0, 6, size, &mut marks) {
+        Ran::Refused(r) => Checked::Refused(r),
+        Ran::Done {
+            next: _,
+            records,
+            skipped,
+        } => match marks::at_end(file, 0x4D4D, 0, &marks) {
+            Shut::Fault(r) => Checked::Refused(r),
+            Shut::Fine => Checked::Accepted(counts(records + 1, skipped, size)),
+        },
+    }
+}
+
+// Whether a file is a figure: the counts of its records and bytes, or the first fault in file order.
+pub fn check(file: &[u8]) -> Checked
+    ensures { λ r. ⌜ r ≡ checkCall (now (file .entry)) ⌝ }
+{
+    match judge_file(file) {
+        Shut::Fault(r) => Checked::Refused(r),
+        Shut::Fine => check_figure(file),
     }
 }
