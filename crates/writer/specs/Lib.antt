@@ -1,0 +1,3 @@
+pub mod Bare
+pub mod Write
+pub mod Put
