@@ -4,7 +4,7 @@ use Prim.Native.Nat.{ℕ, _+_, _*_, _%_}
 use native.Mathlib.Omega.{arith}
 use mathlib.Core.List.{List, [], _∷_, _++_, map, append-assoc, append-nil}
 use lib.Ieee.{Float, binary32, toBits}
-use lib.ListN.{length, length-append, length-map}
+use lib.ListN.{length, drop, length-append, length-map}
 use Rattle.rules.specs.Bytes.{le}
 use Rattle.rules.specs.Layout.{Run, end, known, figure, size, header, bytes}
 use Rattle.rules.proofs.Sound.{length-bytes}
@@ -50,6 +50,12 @@ module _ (name vertices faces : List ℕ) where
       ap (λ (l : List ℕ). header 0x4D4D n₁ ++ (header 0x3D3D n₂ ++ l)) (chunk-bytes 0x4000 name mesh n₃ (omega arith)) ∙
       ap (λ (l : List ℕ). header 0x4D4D n₁ ++ (header 0x3D3D n₂ ++ (header 0x4000 n₃ ++ (name ++ l)))) (chunk-bytes 0x4100 [] lists n₄ (omega arith)) ∙
       ap (λ (l : List ℕ). header 0x4D4D n₁ ++ (header 0x3D3D n₂ ++ (header 0x4000 n₃ ++ (name ++ (header 0x4100 n₄ ++ l))))) lists-bytes
+
+  -- the name stands behind three headers
+  pub name-place : (rest : List ℕ) × (drop 18 (bytes (figure (sixChunks name vertices faces))) ≡ name ++ rest)
+  name-place =
+      let n : ℕ = 18 + length vertices + length faces in
+      (_, ap (drop 18) (six-bytes (6 + (6 + (6 + length name + n))) (6 + (6 + length name + n)) (6 + length name + n) n refl refl refl refl))
 
 -- ---- lengths
 

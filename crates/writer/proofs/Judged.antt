@@ -96,3 +96,11 @@ pub called : (name : List ℕ) (vertices : List Float) (corners out : List ℕ) 
     writeCall name vertices corners out ≡ writing (bytes (figure (bare name vertices corners))) out w
 unfolding writeCall
 called name vertices corners out w e = ap (writing (bytes (figure (bare name vertices corners))) out) e
+
+pub answered : (name : List ℕ) (vertices : List Float) (corners out : List ℕ) → writeCall name vertices corners out .answer ≡ judged name vertices corners (length out)
+unfolding writeCall
+answered name vertices corners out = go (judged name vertices corners (length out))
+  where
+    go : (w : Written) → writing (bytes (figure (bare name vertices corners))) out w .answer ≡ w
+    go (Refused r) = refl
+    go (Size size) = refl

@@ -4,3 +4,8 @@ pub mod Put
 pub mod Packed
 pub mod Floats
 pub mod Bare
+pub mod Six
+pub mod Unpacked
+pub mod ReadsBack
+pub mod Repacked
+pub mod WritesAgain
