@@ -9,3 +9,4 @@ pub mod Unpacked
 pub mod ReadsBack
 pub mod Repacked
 pub mod WritesAgain
+pub mod JustSix

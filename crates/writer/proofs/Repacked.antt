@@ -80,7 +80,7 @@ packed-corners (suc f) s b l z =
 
 -- ---- names
 
-none : (s : List ℕ) → length s ≡ 0 → s ≡ []
+pub none : (s : List ℕ) → length s ≡ 0 → s ≡ []
 none [] h = refl
 none (x ∷ s) h = absurd (omega arith)
 

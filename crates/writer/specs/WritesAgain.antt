@@ -3,7 +3,7 @@
 use mathlib.Core.Path.{_≡_}
 use Prim.Native.Nat.{ℕ, zero, suc, _*_, _≤_}
 use mathlib.Core.Bool.{Bool, true}
-use mathlib.Core.List.{List, [], _∷_}
+use mathlib.Core.List.{List, [], _∷_, map}
 use lib.Dec.{eqb}
 use lib.Ieee.{Float}
 use lib.ListN.{length, take, drop}
@@ -13,11 +13,20 @@ use Rattle.rules.specs.declared.Span.{Span}
 use Rattle.rules.specs.declared.Named.{Named}
 use Rattle.rules.specs.Bytes.{value, every, Bytes}
 use Rattle.rules.specs.OwnData.{count}
+use Rattle.rules.specs.Layout.{Run, figure}
 use Rattle.rules.specs.Walk.{accepted, verdict}
+use Rattle.rules.specs.Gives.{Record, list, skipped}
 use Rattle.rules.specs.Calls.{leaving, filled, Rows, tablesCall, nameCall}
 use Rattle.writer.specs.declared.Written.the-variants.{Size}
 use Rattle.writer.specs.Bare.{sixChunks}
 use Rattle.writer.specs.Write.{writeCall}
+
+-- JUST THESE SIX CHUNKS, in this order: an accepted file whose list has their identifiers, and of which nothing is
+-- skipped, has the layout `sixChunks`.
+abbrev pub JustSix : Type 0
+JustSix = (s : List ℕ) → Bytes s → (kids : Run) → verdict s ≡ accepted kids →
+    map (λ (r : Record). r .identifier) (list kids) ≡ 0x4D4D ∷ 0x3D3D ∷ 0x4000 ∷ 0x4100 ∷ 0x4110 ∷ 0x4120 ∷ [] → skipped (figure kids) ≡ 0 →
+    (name : List ℕ) × (vertices : List ℕ) × (faces : List ℕ) × (kids ≡ sixChunks name vertices faces)
 
 -- the flag words of f faces, and of the own data of a 4120
 abbrev pub flags : ℕ → List ℕ → List ℕ

@@ -207,8 +207,9 @@ fn put_vertex_list(vertices: &[f32], at: usize, out: &mut [u8]) -> usize
     ensures { λ r. ⌜ Put (now (out .entry)) at (bytes (known 0x4110 (vertexData (now (vertices .entry))) end end)) (now (out .exit)) r ⌝ }
 {
     let n = vertices.len() / 3;
-    let data = put_header(0x4110, 8 + 12 * n, at, out);
-    put_floats(vertices, put_word(n as u16, data, out), out)
+    let count = put_header(0x4110, 8 + 12 * n, at, out);
+    let floats = put_word(n as u16, count, out);
+    put_floats(vertices, floats, out)
 }
 
 // The chunk 4120.
@@ -218,8 +219,9 @@ fn put_face_list(corners: &[u16], at: usize, out: &mut [u8]) -> usize
     ensures { λ r. ⌜ Put (now (out .entry)) at (bytes (known 0x4120 (faceData (now (corners .entry))) end end)) (now (out .exit)) r ⌝ }
 {
     let f = corners.len() / 3;
-    let data = put_header(0x4120, 8 + 8 * f, at, out);
-    put_faces(corners, put_word(f as u16, data, out), out)
+    let count = put_header(0x4120, 8 + 8 * f, at, out);
+    let faces = put_word(f as u16, count, out);
+    put_faces(corners, faces, out)
 }
 
 // The whole figure, of `size` bytes, at the front of out. All chunks around the two lists end where the file ends.
@@ -246,8 +248,8 @@ pub fn write(name: &[u8], vertices: &[f32], corners: &[u16], out: &mut [u8]) -> 
     match judge(name, vertices, corners, out.len()) {
         Written::Refused(r) => Written::Refused(r),
         Written::Size(size) => {
-            put_figure(name, vertices, corners, size, out);
-            Written::Size(size)
+            let end = put_figure(name, vertices, corners, size, out);
+            Written::Size(end)
         }
     }
 }

@@ -1,9 +1,9 @@
 -- `writer::first_not_below` meets its contract: the corners that the loop has passed are below n.
-use Prim.Native.Nat.{ℕ, _-_}
+use Prim.Native.Nat.{ℕ, _-_, _≤_, _<_}
 use native.Mathlib.Omega.{arith}
 use mathlib.Core.Bool.{Bool}
 use lib.Dec.{ltb}
-use lib.ListN.{length}
+use lib.ListN.{length, getD}
 use borrow.Author.Tests.{lt-ltb, le-ltb}
 use Rattle.writer.proofs.FirstFault.{Passed, passed-none, passed-more, found, all-passed}
 use Rattle.writer.proofs.first_not_below.Statement.{statement}
@@ -36,7 +36,8 @@ returns : tie.Need-returns Inv-loop μ-loop
 returns c =
     let a = c .before .before .before .before .args in
     let l = c .before .before .before .loop in
-    found (below (a .n)) (a .corners .now) (l .i) 0 (omega arith) (l .inv) (le-ltb _ _ (c .if1 .taken))
+    let h : a .n ≤ getD (a .corners .now) (l .i) 0 = omega arith in
+    found (below (a .n)) (a .corners .now) (l .i) 0 (omega arith) (l .inv) (le-ltb _ _ h)
 
 add-i : tie.Need-add-i Inv-loop μ-loop
 add-i c = omega arith
@@ -48,7 +49,8 @@ loop-again : tie.Need-loop-again Inv-loop μ-loop
 loop-again c =
     let a = c .before .before .before .before .args in
     let l = c .before .before .before .loop in
-    passed-more (below (a .n)) (a .corners .now) (l .i) 0 (omega arith) (l .inv) (lt-ltb _ _ (c .if1 .left))
+    let h : getD (a .corners .now) (l .i) 0 < a .n = omega arith in
+    passed-more (below (a .n)) (a .corners .now) (l .i) 0 (omega arith) (l .inv) (lt-ltb _ _ h)
 
 returns-2 : tie.Need-returns-2 Inv-loop μ-loop
 returns-2 c =

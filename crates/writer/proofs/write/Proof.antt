@@ -1,10 +1,14 @@
 -- `writer::write` meets its contract: the judgement, and the figure where it gives a size.
-use mathlib.Core.Path.{sym, ap, _∙_}
+use mathlib.Core.Path.{_≡_, sym, ap, _∙_}
 use Prim.Native.Nat.{ℕ}
+use native.Mathlib.Omega.{arith}
 use mathlib.Core.List.{List}
+use lib.ListN.{length}
 use Rattle.rules.specs.Calls.{Effect}
 use Rattle.writer.specs.declared.Written.{Written}
-use Rattle.writer.proofs.Judged.{called}
+use Rattle.writer.specs.declared.Written.the-variants.{Size}
+use Rattle.writer.proofs.Bare.{length-bare}
+use Rattle.writer.proofs.Judged.{ready, called}
 use Rattle.writer.proofs.Put.{put-front}
 use borrow.Author.Needs.{needs}
 use Rattle.writer.proofs.write.Statement.{statement}
@@ -38,8 +42,13 @@ same-length c = search needs
 returns-2 : tie.Need-returns-2
 returns-2 c =
     let a = c .before .before .before .before .before .before .before .before .before .before .before .before .args in
-    let e = called (a .name .now) (a .vertices .now) (a .corners .now) (a .out .now) _ (sym (c .before .before .before .before .before .before .before .judge .ensures) ∙ c .before .before .before .before .before .size .given .1) in
-    (sym (ap (λ (w : Effect Written (List ℕ)). w .answer) e), put-front (c .before .before .put-figure .ensures) ∙ sym (ap (λ (w : Effect Written (List ℕ)). w .rows) e))
+    let j = sym (c .before .before .before .before .before .before .before .judge .ensures) ∙ c .before .before .before .before .before .size .given .1 in
+    let e = called (a .name .now) (a .vertices .now) (a .corners .now) (a .out .now) _ j in
+    let r = ready (a .name .now) (a .vertices .now) (a .corners .now) (length (a .out .now)) _ j in
+    let put = c .before .before .put-figure in
+    let long = length-bare (a .name .now) (a .vertices .now) (a .corners .now) (r .whole-vertices) in
+    let end : put .result ≡ c .before .before .before .before .before .size .given .0 .0 = omega (arith, put .ensures .ends, r .size-is) in
+    (ap Size end ∙ sym (ap (λ (w : Effect Written (List ℕ)). w .answer) e), put-front (put .ensures) ∙ sym (ap (λ (w : Effect Written (List ℕ)). w .rows) e))
 
 pub write-spec : {M : Type 1} → statement M
 write-spec =
