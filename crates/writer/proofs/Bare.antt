@@ -1,5 +1,5 @@
 -- A bare figure as bytes: its chunks one after another, and how long they are.
-use mathlib.Core.Path.{_≡_, refl, sym, ap, _∙_}
+use mathlib.Core.Path.{_≡_, refl, ap, _∙_}
 use Prim.Native.Nat.{ℕ, _+_, _*_, _%_}
 use native.Mathlib.Omega.{arith}
 use mathlib.Core.List.{List, [], _∷_, _++_, map, append-assoc, append-nil}
@@ -8,7 +8,7 @@ use lib.ListN.{length, drop, length-append, length-map}
 use Rattle.rules.specs.Bytes.{le}
 use Rattle.rules.specs.Layout.{Run, end, known, figure, size, header, bytes}
 use Rattle.rules.proofs.Sound.{length-bytes}
-use Rattle.writer.specs.Bare.{triples, packed, nameData, vertexData, faceWords, faceData, sixChunks, bare}
+use Rattle.writer.specs.Bare.{triples, packed, vertexData, faceWords, faceData, sixChunks, bare}
 use Rattle.writer.specs.Write.{figureSize}
 use Rattle.writer.proofs.Packed.{length-packed, length-face-words}
 

@@ -1,6 +1,6 @@
 -- Looking for the first fault of a row, by a loop: one law for every kind of row and test.
 -- What the loop has passed holds no fault, so that the first fault is the first of what is left.
-use mathlib.Core.Path.{_≡_, refl, sym, ap, _∙_}
+use mathlib.Core.Path.{_≡_, refl, ap}
 use Prim.Native.Nat.{ℕ, zero, suc, _+_, _<_, _≤_}
 use native.Mathlib.Numerals.{add-one}
 use native.Mathlib.Omega.{arith}

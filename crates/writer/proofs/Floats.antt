@@ -3,11 +3,11 @@
 use mathlib.Core.Path.{_≡_, refl, sym, ap, _∙_, subst}
 use Prim.Native.Nat.{ℕ, zero, suc, _+_, _/_, _%_, _^_, _<_}
 use native.Mathlib.Omega.{arith}
-use mathlib.Core.Bool.{Bool, true, false, not, _&&_, cond, true≢false, false≢true}
+use mathlib.Core.Bool.{Bool, true, false, not, cond, false≢true}
 use mathlib.Core.List.{List, [], _∷_, map}
 use lib.Dec.{T, eqb, leb, ltb}
-use lib.Ieee.{Float, nan, inf, fin, binary32, fits, isNan, odd, ofFields, ofBits, nanBits, toBits}
-use lib.Ieee.Bits.{is-true, ofBits-toBits, toBits-lt, toBits-ofBits, nanBits-is}
+use lib.Ieee.{Float, nan, inf, fin, binary32, fits, isNan, odd, ofFields, ofBits, toBits}
+use lib.Ieee.Bits.{ofBits-toBits, toBits-lt, toBits-ofBits}
 use borrow.Author.Tests.{eqb-true, eqb-false, ne-eqb, lt-ltb, ltb-true}
 use Rattle.rules.specs.Bytes.{every}
 use Rattle.rules.specs.OwnData.{finite}

@@ -3,8 +3,8 @@ use mathlib.Core.Path.{_≡_, refl, sym, ap, _∙_}
 use mathlib.Core.Logic.{_⊎_, inl, inr}
 use Prim.Native.Nat.{ℕ, suc, _+_}
 use native.Mathlib.Omega.{arith}
-use mathlib.Core.Bool.{Bool, true, false, not, _&&_, true≢false, false≢true}
-use mathlib.Core.List.{List, [], _∷_, _++_, map, append-assoc, append-nil}
+use mathlib.Core.Bool.{Bool, true, false, not, true≢false, false≢true}
+use mathlib.Core.List.{List, [], _∷_, _++_, map, append-assoc}
 use lib.ListN.{length}
 use borrow.Author.Tests.{eqb-true, not-true}
 use Rattle.rules.specs.Bytes.{every}
@@ -12,8 +12,8 @@ use Rattle.rules.specs.Table.{fixed, rows, under, shape, plus}
 use Rattle.rules.specs.OwnData.{ownSize}
 use Rattle.rules.specs.Layout.{Run, end, skip, known, size, figure}
 use Rattle.rules.specs.Rules.{Parent, file, inside, noChild, Lawful, Obeys}
-use Rattle.rules.specs.Gives.{Record, recordCount, recordsOf, list, skipped}
-use Rattle.rules.proofs.Bools.{and-parts, or-second}
+use Rattle.rules.specs.Gives.{Record, recordCount, recordsOf, skipped}
+use Rattle.rules.proofs.Bools.{and-parts}
 use Rattle.rules.proofs.Verdict.{demand2}
 use Rattle.writer.specs.Bare.{sixChunks}
 use Rattle.writer.specs.WritesAgain.{JustSix}

@@ -10,3 +10,4 @@ pub mod ReadsBack
 pub mod Repacked
 pub mod WritesAgain
 pub mod JustSix
+pub mod Samples

@@ -5,8 +5,8 @@ use Prim.Native.Nat.{ℕ, _+_, _-_, _*_, _%_, _≤_, _<_}
 use native.Mathlib.Omega.{arith}
 use mathlib.Core.Bool.{Bool, true, false, cond}
 use mathlib.Core.List.{List, [], _∷_, _++_, map, append-assoc}
-use lib.Dec.{eqb, ltb, leb}
-use lib.Ieee.{Float, binary32, toBits}
+use lib.Dec.{eqb, leb}
+use lib.Ieee.{Float}
 use lib.ListN.{length, take, drop, length-append, length-drop, length-map, take-append-drop}
 use lib.Seq.{take-at}
 use borrow.Author.Tests.{eq-eqb, le-leb}
@@ -29,7 +29,7 @@ use Rattle.rules.proofs.Conditions.{Met}
 use Rattle.rules.proofs.Verdict.{demand2}
 use Rattle.writer.specs.declared.Written.the-variants.{Size}
 use Rattle.writer.specs.Bare.{triples, nameData, vertexData, faceData, sixChunks, bare}
-use Rattle.writer.specs.Write.{notZero, wholeRow, figureSize, writeConditions, judged, writeCall}
+use Rattle.writer.specs.Write.{wholeRow, figureSize, writeConditions, judged, writeCall}
 use Rattle.writer.specs.WritesAgain.{faceFlags, WritesAgain}
 use Rattle.writer.proofs.Bare.{leaf-bytes, six-bytes, name-place, length-bare}
 use Rattle.writer.proofs.Floats.{patterns-finite, patterns-back}

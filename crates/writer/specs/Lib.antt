@@ -3,3 +3,4 @@ pub mod Write
 pub mod Put
 pub mod ReadsBack
 pub mod WritesAgain
+pub mod Samples

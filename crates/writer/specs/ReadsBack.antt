@@ -6,11 +6,8 @@ use mathlib.Core.List.{List, [], _∷_}
 use lib.Ieee.{Float, binary32, fits}
 use lib.ListN.{length, take, drop}
 use Rattle.rules.specs.declared.Refusal.the-variants.{NoSuchMesh}
-use Rattle.rules.specs.declared.Counts.{Counts}
 use Rattle.rules.specs.declared.Checked.{Checked}
-use Rattle.rules.specs.declared.Sizes.{Sizes}
 use Rattle.rules.specs.declared.Tabled.{Tabled}
-use Rattle.rules.specs.declared.Span.{Span}
 use Rattle.rules.specs.declared.Named.{Named}
 use Rattle.rules.specs.Bytes.{every}
 use Rattle.rules.specs.Layout.{figure, bytes}

@@ -46,15 +46,20 @@ finiteFloat (fin s m e) = true
 abbrev pub figureSize : List ℕ → List Float → List ℕ → ℕ
 figureSize name vertices corners = 41 + length name + 12 * triples vertices + 8 * triples corners
 
--- "Refusals in order": 9, 13 (floats first), 11, 12, 1, 15
+-- "Refusals in order, the place always the first fault of its kind", for a buffer of `room` bytes
 abbrev pub writeConditions : List ℕ → List Float → List ℕ → ℕ → List Condition
 writeConditions name vertices corners room =
+    -- 9, the name holds a zero byte (place: its position)
     eachMust notZero name Name ∷
+    -- 13, a row's length is no multiple of 3 or over 196,605, floats first (place: that length)
     must (wholeRow (length vertices)) (Count (length vertices)) ∷
     must (wholeRow (length corners)) (Count (length corners)) ∷
+    -- 11, 12 (position in the row)
     eachMust finiteFloat vertices Number ∷
     eachMust (λ c. ltb c (triples vertices)) corners Index ∷
+    -- 1, size over 1,048,576 (place 0)
     must (leb (figureSize name vertices corners) limit) TooLong ∷
+    -- 15 (place: the size)
     must (leb (figureSize name vertices corners) room) (NoRoom (figureSize name vertices corners)) ∷ []
 
 -- ---- the call

@@ -11,7 +11,7 @@ ghost use Rattle.rules.specs.Bytes.{le, every};
 ghost use Rattle.rules.specs.Layout.{end, known, figure, header, bytes};
 ghost use Rattle.writer.specs.Bare.{triples, packed, faceWords, nameData, vertexData, faceData, bare};
 ghost use Rattle.writer.specs.Put.{Put};
-ghost use Rattle.writer.specs.Write.{firstFault, notZero, wholeRow, finiteFloat, figureSize, judged, writeCall};
+ghost use Rattle.writer.specs.Write.{firstFault, notZero, wholeRow, finiteFloat, judged, writeCall};
 
 // The size of what was written, or a refusal.
 pub enum Written {

@@ -4,10 +4,6 @@ use lib.ListN.{length}
 use borrow.Author.Needs.{needs}
 use Rattle.triangle.proofs.print_line.Statement.{statement}
 use Rattle.triangle.proofs.print_line.Tie as tie
-use Rattle.triangle.proofs.print_line.Reads as reads
-use Rattle.triangle.proofs.print_line.Lts as lts
-use Rattle.triangle.proofs.end_line.Reads as end-line-reads
-use Rattle.triangle.proofs.print_byte.Reads as print-byte-reads
 
 abbrev Inv-loop : tie.InvT-loop
 Inv-loop bytes i₀ i = i ≤ length bytes

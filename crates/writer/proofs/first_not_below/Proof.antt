@@ -8,8 +8,6 @@ use borrow.Author.Tests.{lt-ltb, le-ltb}
 use Rattle.writer.proofs.FirstFault.{Passed, passed-none, passed-more, found, all-passed}
 use Rattle.writer.proofs.first_not_below.Statement.{statement}
 use Rattle.writer.proofs.first_not_below.Tie as tie
-use Rattle.writer.proofs.first_not_below.Reads as reads
-use Rattle.writer.proofs.first_not_below.Lts as lts
 
 abbrev below : ℕ → ℕ → Bool
 below n x = ltb x n

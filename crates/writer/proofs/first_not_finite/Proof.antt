@@ -10,9 +10,6 @@ use Rattle.writer.specs.Write.{finiteFloat}
 use Rattle.writer.proofs.FirstFault.{Passed, passed-none, passed-more, found, all-passed}
 use Rattle.writer.proofs.first_not_finite.Statement.{statement}
 use Rattle.writer.proofs.first_not_finite.Tie as tie
-use Rattle.writer.proofs.first_not_finite.Reads as reads
-use Rattle.writer.proofs.first_not_finite.Lts as lts
-use Rattle.writer.proofs.is_finite.Reads as is-finite-reads
 
 abbrev Inv-loop : tie.InvT-loop
 Inv-loop vertices i₀ i = Passed finiteFloat vertices i

@@ -7,8 +7,6 @@ use Rattle.writer.specs.Write.{notZero}
 use Rattle.writer.proofs.FirstFault.{Passed, passed-none, passed-more, found, all-passed}
 use Rattle.writer.proofs.first_zero.Statement.{statement}
 use Rattle.writer.proofs.first_zero.Tie as tie
-use Rattle.writer.proofs.first_zero.Reads as reads
-use Rattle.writer.proofs.first_zero.Lts as lts
 
 abbrev Inv-loop : tie.InvT-loop
 Inv-loop name i₀ i = Passed notZero name i

@@ -1,12 +1,10 @@
 -- `writer::is_finite` meets its contract: the finite floats are those between the two infinities.
 use mathlib.Core.Path.{_≡_, refl, sym, _∙_}
-use mathlib.Core.Bool.{Bool, true, false}
-use lib.Ieee.{Float, nan, inf, fin, binary32, lt, neg, ofBits, ofFields, nanBits}
+use mathlib.Core.Bool.{true, false}
+use lib.Ieee.{Float, nan, inf, fin, lt, neg, ofBits, ofFields, nanBits}
 use Rattle.writer.specs.Write.{finiteFloat}
 use Rattle.writer.proofs.is_finite.Statement.{statement}
 use Rattle.writer.proofs.is_finite.Tie as tie
-use Rattle.writer.proofs.is_finite.Reads as reads
-use Rattle.writer.proofs.is_finite.Lts as lts
 
 float-from-bits-infinity : tie.Need-float-from-bits-infinity
 unfolding nanBits

@@ -4,7 +4,6 @@ use mathlib.Core.Path.{refl, sym, ap, _∙_}
 use Prim.Native.Nat.{ℕ, _≤_}
 use native.Mathlib.Omega.{arith}
 use mathlib.Core.List.{List}
-use lib.Dec.{ltb}
 use lib.ListN.{length, take}
 use borrow.Author.Needs.{needs}
 use borrow.Author.Tests.{not-true, not-false, le-leb, lt-leb}
@@ -12,18 +11,11 @@ use Rattle.rules.specs.declared.Refusal.the-variants.{Name, Number, Index}
 use Rattle.rules.specs.Walk.{Condition}
 use Rattle.rules.proofs.Conditions.{Met}
 use Rattle.writer.specs.declared.Written.the-variants.{Refused}
-use Rattle.writer.specs.Bare.{triples}
-use Rattle.writer.specs.Write.{notZero, wholeRow, finiteFloat, writeConditions}
+use Rattle.writer.specs.Write.{notZero, finiteFloat, writeConditions}
 use Rattle.writer.proofs.FirstFault.{every-good, some-bad}
 use Rattle.writer.proofs.Judged.{met-more, whole-row, refused-at, sized}
 use Rattle.writer.proofs.judge.Statement.{statement}
 use Rattle.writer.proofs.judge.Tie as tie
-use Rattle.writer.proofs.judge.Reads as reads
-use Rattle.writer.proofs.judge.Lts as lts
-use Rattle.writer.proofs.first_not_below.Reads as first-not-below-reads
-use Rattle.writer.proofs.first_not_finite.Reads as first-not-finite-reads
-use Rattle.writer.proofs.first_zero.Reads as first-zero-reads
-use Rattle.writer.proofs.whole_row.Reads as whole-row-reads
 
 -- ---- past each test, one condition more holds
 

@@ -4,9 +4,6 @@ use Rattle.writer.proofs.Put.{put-then}
 use borrow.Author.Needs.{needs}
 use Rattle.writer.proofs.put_face.Statement.{statement}
 use Rattle.writer.proofs.put_face.Tie as tie
-use Rattle.writer.proofs.put_face.Reads as reads
-use Rattle.writer.proofs.put_face.Lts as lts
-use Rattle.writer.proofs.put_word.Reads as put-word-reads
 
 put-word-requires : tie.Need-put-word-requires
 put-word-requires c κs = search needs

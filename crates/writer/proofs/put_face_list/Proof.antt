@@ -7,11 +7,6 @@ use Rattle.writer.proofs.Put.{put-then}
 use borrow.Author.Needs.{needs}
 use Rattle.writer.proofs.put_face_list.Statement.{statement}
 use Rattle.writer.proofs.put_face_list.Tie as tie
-use Rattle.writer.proofs.put_face_list.Reads as reads
-use Rattle.writer.proofs.put_face_list.Lts as lts
-use Rattle.writer.proofs.put_faces.Reads as put-faces-reads
-use Rattle.writer.proofs.put_header.Reads as put-header-reads
-use Rattle.writer.proofs.put_word.Reads as put-word-reads
 
 mul-put-header : tie.Need-mul-put-header
 mul-put-header c = search needs

@@ -9,9 +9,6 @@ use Rattle.writer.proofs.Put.{put-none, put-then}
 use Rattle.writer.proofs.Packed.{face-more}
 use Rattle.writer.proofs.put_faces.Statement.{statement}
 use Rattle.writer.proofs.put_faces.Tie as tie
-use Rattle.writer.proofs.put_faces.Reads as reads
-use Rattle.writer.proofs.put_faces.Lts as lts
-use Rattle.writer.proofs.put_face.Reads as put-face-reads
 
 abbrev Inv-loop : tie.InvT-loop
 Inv-loop corners at out₀ f next₀ i₀ out next i = (i ≤ f) × (length out ≡ length out₀) × (next ≡ at + 8 * i) × Put out₀ at (packed 2 (faceWords i corners)) out next

@@ -12,12 +12,6 @@ use Rattle.writer.proofs.Put.{put-then}
 use borrow.Author.Needs.{needs}
 use Rattle.writer.proofs.put_figure.Statement.{statement}
 use Rattle.writer.proofs.put_figure.Tie as tie
-use Rattle.writer.proofs.put_figure.Reads as reads
-use Rattle.writer.proofs.put_figure.Lts as lts
-use Rattle.writer.proofs.put_face_list.Reads as put-face-list-reads
-use Rattle.writer.proofs.put_header.Reads as put-header-reads
-use Rattle.writer.proofs.put_name.Reads as put-name-reads
-use Rattle.writer.proofs.put_vertex_list.Reads as put-vertex-list-reads
 
 judged-ready : (s : tie.Start) → Ready (s .args .name .now) (s .args .vertices .now) (s .args .corners .now) (length (s .args .out .now)) (s .args .size)
 judged-ready s = ready _ _ _ _ _ (s .pre)

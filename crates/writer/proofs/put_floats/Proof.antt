@@ -15,9 +15,6 @@ use Rattle.writer.proofs.Put.{put-none, put-then}
 use Rattle.writer.proofs.Packed.{packed-more}
 use Rattle.writer.proofs.put_floats.Statement.{statement}
 use Rattle.writer.proofs.put_floats.Tie as tie
-use Rattle.writer.proofs.put_floats.Reads as reads
-use Rattle.writer.proofs.put_floats.Lts as lts
-use Rattle.writer.proofs.put_long.Reads as put-long-reads
 
 abbrev Inv-loop : tie.InvT-loop
 Inv-loop vertices at out₀ next₀ i₀ out next i = (i ≤ length vertices) × (length out ≡ length out₀) × (next ≡ at + 4 * i) × Put out₀ at (packed 4 (take i (map (toBits binary32) vertices))) out next

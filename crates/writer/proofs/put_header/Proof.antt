@@ -4,10 +4,6 @@ use Rattle.writer.proofs.Put.{put-then}
 use borrow.Author.Needs.{needs}
 use Rattle.writer.proofs.put_header.Statement.{statement}
 use Rattle.writer.proofs.put_header.Tie as tie
-use Rattle.writer.proofs.put_header.Reads as reads
-use Rattle.writer.proofs.put_header.Lts as lts
-use Rattle.writer.proofs.put_long.Reads as put-long-reads
-use Rattle.writer.proofs.put_word.Reads as put-word-reads
 
 cast-put-long : tie.Need-cast-put-long
 cast-put-long c = search needs

@@ -8,9 +8,6 @@ use Rattle.writer.proofs.Put.{put-then}
 use borrow.Author.Needs.{needs}
 use Rattle.writer.proofs.put_long.Statement.{statement}
 use Rattle.writer.proofs.put_long.Tie as tie
-use Rattle.writer.proofs.put_long.Reads as reads
-use Rattle.writer.proofs.put_long.Lts as lts
-use Rattle.writer.proofs.put_word.Reads as put-word-reads
 
 halves : (v : ℕ) → le 2 (v % 65536) ++ le 2 (v / 65536) ≡ le 4 v
 halves v =

@@ -9,8 +9,6 @@ use Rattle.writer.specs.Put.{Put}
 use Rattle.writer.proofs.Put.{put-none, put-byte, put-then}
 use Rattle.writer.proofs.put_name.Statement.{statement}
 use Rattle.writer.proofs.put_name.Tie as tie
-use Rattle.writer.proofs.put_name.Reads as reads
-use Rattle.writer.proofs.put_name.Lts as lts
 
 abbrev Inv-loop : tie.InvT-loop
 Inv-loop name at out₀ next₀ i₀ out next i = (i ≤ length name) × (length out ≡ length out₀) × (next ≡ at + i) × Put out₀ at (take i name) out next

@@ -7,8 +7,6 @@ use Rattle.writer.proofs.Put.{put-byte, put-then}
 use borrow.Author.Needs.{needs}
 use Rattle.writer.proofs.put_word.Statement.{statement}
 use Rattle.writer.proofs.put_word.Tie as tie
-use Rattle.writer.proofs.put_word.Reads as reads
-use Rattle.writer.proofs.put_word.Lts as lts
 
 cast-out : tie.Need-cast-out
 cast-out c = search needs

@@ -1,11 +1,7 @@
 -- `writer::whole_row` meets its contract: the two halves of its test are those of `wholeRow`.
-use mathlib.Core.Path.{_∙_, sym}
 use borrow.Author.Tests.{eq-eqb, ne-eqb}
-use Rattle.writer.specs.Write.{wholeRow}
 use Rattle.writer.proofs.whole_row.Statement.{statement}
 use Rattle.writer.proofs.whole_row.Tie as tie
-use Rattle.writer.proofs.whole_row.Reads as reads
-use Rattle.writer.proofs.whole_row.Lts as lts
 
 returns : tie.Need-returns
 returns c = rw (eq-eqb _ _ (c .if1 .taken))

@@ -13,10 +13,6 @@ use Rattle.writer.proofs.Put.{put-front}
 use borrow.Author.Needs.{needs}
 use Rattle.writer.proofs.write.Statement.{statement}
 use Rattle.writer.proofs.write.Tie as tie
-use Rattle.writer.proofs.write.Reads as reads
-use Rattle.writer.proofs.write.Lts as lts
-use Rattle.writer.proofs.judge.Reads as judge-reads
-use Rattle.writer.proofs.put_figure.Reads as put-figure-reads
 
 judge-requires : tie.Need-judge-requires
 judge-requires c κs = search needs
