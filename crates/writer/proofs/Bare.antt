@@ -51,11 +51,14 @@ module _ (name vertices faces : List ℕ) where
       ap (λ (l : List ℕ). header 0x4D4D n₁ ++ (header 0x3D3D n₂ ++ (header 0x4000 n₃ ++ (name ++ l)))) (chunk-bytes 0x4100 [] lists n₄ (omega arith)) ∙
       ap (λ (l : List ℕ). header 0x4D4D n₁ ++ (header 0x3D3D n₂ ++ (header 0x4000 n₃ ++ (name ++ (header 0x4100 n₄ ++ l))))) lists-bytes
 
-  -- the name stands behind three headers
-  pub name-place : (rest : List ℕ) × (drop 18 (bytes (figure (sixChunks name vertices faces))) ≡ name ++ rest)
+  -- the name stands behind three headers, and the mesh behind the name
+  abbrev pub behind : List ℕ
+  behind = header 0x4100 (18 + length vertices + length faces) ++ (bytes (known 0x4110 vertices end end) ++ bytes (known 0x4120 faces end end))
+
+  pub name-place : drop 18 (bytes (figure (sixChunks name vertices faces))) ≡ name ++ behind
   name-place =
       let n : ℕ = 18 + length vertices + length faces in
-      (_, ap (drop 18) (six-bytes (6 + (6 + (6 + length name + n))) (6 + (6 + length name + n)) (6 + length name + n) n refl refl refl refl))
+      ap (drop 18) (six-bytes (6 + (6 + (6 + length name + n))) (6 + (6 + length name + n)) (6 + length name + n) n refl refl refl refl)
 
 -- ---- lengths
 

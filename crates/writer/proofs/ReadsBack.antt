@@ -22,7 +22,7 @@ use Rattle.writer.specs.declared.Written.{Written}
 use Rattle.writer.specs.declared.Written.the-variants.{Size}
 use Rattle.writer.specs.Write.{judged, writeCall}
 use Rattle.writer.specs.ReadsBack.{Floats32, ReadsBack, WrittenReadsBack}
-use Rattle.writer.proofs.Bare.{name-place, length-vertex-data, length-face-data, length-bare}
+use Rattle.writer.proofs.Bare.{behind, name-place, length-vertex-data, length-face-data, length-bare}
 use Rattle.writer.proofs.Floats.{floats-small, floats-finite, floats-back}
 use Rattle.writer.proofs.Judged.{Ready, ready, called, answered}
 use Rattle.writer.proofs.Six.{Exact, obeys, mesh, name-call, no-other, tables-call, list-call}
@@ -76,7 +76,8 @@ module _ (name : List ℕ) (vertices : List Float) (corners : List ℕ) (room si
         let e = verdict-good (bytes (figure (bare name vertices corners))) (bare name vertices corners) meets in
         let named : length (nameData name) ≡ 1 + length name = length-append name (0 ∷ []) ∙ omega arith in
         let unzeroed : length (nameData name) - 1 ≡ length name = omega arith in
-        let place = name-place (nameData name) (vertexData vertices) (faceData corners) in
+        let more = behind (nameData name) (vertexData vertices) (faceData corners) in
+        let place = name-place (nameData name) (vertexData vertices) (faceData corners) ∙ append-assoc name (0 ∷ []) more in
         record {
           is = refl;
           size = length-bare name vertices corners (r .whole-vertices);
@@ -85,7 +86,7 @@ module _ (name : List ℕ) (vertices : List Float) (corners : List ℕ) (room si
           list = list-call _ _ _ _ e (length name) (triples vertices) (triples corners) named (length-vertex-data vertices (r .whole-vertices)) (length-face-data corners);
           one-mesh = no-other _ _ _ _ e;
           name-at = name-call _ _ _ _ e ∙ rw unzeroed;
-          name-is = ap (take (length name)) (place .1 ∙ append-assoc name (0 ∷ []) (place .0)) ∙ take-at name (0 ∷ place .0) (length name) refl;
+          name-is = ap (take (length name)) place ∙ take-at name (0 ∷ more) (length name) refl;
           tables = λ rows v c. tables-call _ _ _ _ e rows ∙ tables-are rows v c;
         }
 

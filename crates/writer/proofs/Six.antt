@@ -15,7 +15,7 @@ use Rattle.rules.specs.Table.{rows, atMostOne, atLeastOne, under, shape, plus, 
 use Rattle.rules.specs.OwnData.{nameSize, count, vertexNumbers, faceCorners, finite}
 use Rattle.rules.specs.Layout.{Run, figure}
 use Rattle.rules.specs.Rules.{Parent, file, inPlace, childrenInPlus, ownDataExact, numbersFinite, faceNumbersBelow, cornersBelow, mappingMatches, notTwice, noneMissing, allBelow, Lawful, Obeys}
-use Rattle.rules.specs.Gives.{owned, Mesh, meshes}
+use Rattle.rules.specs.Gives.{owned, Mesh}
 use Rattle.rules.specs.Walk.{accepted, verdict}
 use Rattle.rules.specs.Calls.{leaving, filled, listOf, listCall, ofMesh, Rows, tablesOf, tablesCall, nameOf, nameCall}
 use Rattle.rules.proofs.Bools.{both, and-parts}
@@ -72,6 +72,7 @@ module _ (name vertices faces : List ℕ) where
         corners-below = mesh .0 .corners-below;
       }
 
+  -- their one mesh
   abbrev pub mesh : Mesh
   mesh = record {
     nameAt = 18;
@@ -81,9 +82,6 @@ module _ (name vertices faces : List ℕ) where
     faceCount = count faces;
     corners = faceCorners faces;
   }
-
-  pub one-mesh : meshes (sixChunks name vertices faces) ≡ mesh ∷ []
-  one-mesh = refl
 
 -- ---- the calls of the reader, of a file that is accepted with this layout
 

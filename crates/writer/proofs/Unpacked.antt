@@ -8,7 +8,7 @@ use lib.Dec.{eqb, ltb}
 use lib.ListN.{length}
 use lib.Seq.{take-at, drop-at}
 use borrow.Author.Tests.{ltb-true}
-use Rattle.rules.specs.Bytes.{value, le, numbers, every}
+use Rattle.rules.specs.Bytes.{le, numbers, every}
 use Rattle.rules.specs.OwnData.{nameSize, corners}
 use Rattle.rules.specs.Rules.{allBelow}
 use Rattle.rules.proofs.Bools.{and-parts}
@@ -28,10 +28,6 @@ numbers-packed w (n ∷ ns) h =
     let d = drop-at (le w n) (packed w ns) w (length-le w n) in
     rw (t, d, value-le w n (p .0), numbers-packed w ns (p .1))
 
--- a word read from where it was written
-word : (n : ℕ) → n < 0x1_0000 → value (le 2 n) ≡ n
-word n h = value-le 2 n h
-
 pub corners-packed : (f : ℕ) (cs : List ℕ) → length cs ≡ 3 * f → allBelow 0x1_0000 cs ≡ true → corners f (packed 2 (faceWords f cs)) ≡ cs
 corners-packed zero [] l h = refl
 corners-packed zero (a ∷ cs) l h = absurd (omega arith)
@@ -42,7 +38,7 @@ corners-packed (suc f) (a ∷ b ∷ c ∷ cs) l h =
     let p = below-parts 0x1_0000 a (b ∷ c ∷ cs) h in
     let q = below-parts 0x1_0000 b (c ∷ cs) (p .1) in
     let r = below-parts 0x1_0000 c cs (q .1) in
-    rw (word a (p .0), word b (q .0), word c (r .0), corners-packed f cs (omega arith) (r .1))
+    rw (value-le 2 a (p .0), value-le 2 b (q .0), value-le 2 c (r .0), corners-packed f cs (omega arith) (r .1))
 
 pub name-size : (name : List ℕ) → every notZero name ≡ true → nameSize (nameData name) ≡ length (nameData name)
 unfolding every

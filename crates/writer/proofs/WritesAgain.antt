@@ -31,7 +31,7 @@ use Rattle.writer.specs.declared.Written.the-variants.{Size}
 use Rattle.writer.specs.Bare.{triples, nameData, vertexData, faceData, sixChunks, bare}
 use Rattle.writer.specs.Write.{wholeRow, figureSize, writeConditions, judged, writeCall}
 use Rattle.writer.specs.WritesAgain.{faceFlags, WritesAgain}
-use Rattle.writer.proofs.Bare.{leaf-bytes, six-bytes, name-place, length-bare}
+use Rattle.writer.proofs.Bare.{leaf-bytes, behind, name-place, length-bare}
 use Rattle.writer.proofs.Floats.{patterns-finite, patterns-back}
 use Rattle.writer.proofs.Judged.{sized, called}
 use Rattle.writer.proofs.Repacked.{length-numbers, length-corners, front, packed-numbers, numbers-small, packed-corners, name-parts}
@@ -78,12 +78,11 @@ leaf-own id own b = bytes-parts (header id (6 + length own)) own (subst Bytes (l
 
 own-bytes : (name vertices faces : List ℕ) → Bytes (bytes (figure (sixChunks name vertices faces))) → Bytes vertices × Bytes faces
 own-bytes name vertices faces b =
-    let n : ℕ = 18 + length vertices + length faces in
     let v : List ℕ = bytes (known 0x4110 vertices end end) in
     let f : List ℕ = bytes (known 0x4120 faces end end) in
-    let six = six-bytes name vertices faces (6 + (6 + (6 + length name + n))) (6 + (6 + length name + n)) (6 + length name + n) n refl refl refl refl in
-    let behind : Bytes (name ++ (header 0x4100 n ++ (v ++ f))) = subst Bytes (ap (drop 18) six) (bytes-drop 18 (bytes (figure (sixChunks name vertices faces))) b) in
-    let p = bytes-parts v f (bytes-parts (header 0x4100 n) (v ++ f) (bytes-parts name (header 0x4100 n ++ (v ++ f)) behind .1) .1) in
+    let here = subst Bytes (name-place name vertices faces) (bytes-drop 18 (bytes (figure (sixChunks name vertices faces))) b) in
+    let lists = bytes-parts (header 0x4100 (18 + length vertices + length faces)) (v ++ f) (bytes-parts name (behind name vertices faces) here .1) .1 in
+    let p = bytes-parts v f lists in
     (leaf-own 0x4110 vertices (p .0), leaf-own 0x4120 faces (p .1))
 
 -- ---- what the reader's calls fill
@@ -114,8 +113,7 @@ module _ (s name vertices faces : List ℕ) (e : verdict s ≡ accepted (sixChun
       (span : Span) → nameCall s 0 ≡ Named.At span → take (span .size) (drop (span .offset) s) ≡ short
   read-name is short n span at =
       let q : span ≡ record { offset = 18; size = length name - 1 } = cc (name-call s name vertices faces e) in
-      let place = name-place name vertices faces in
-      rw q (ap (λ (l : List ℕ). take (length name - 1) (drop 18 l)) (sym is) ∙ ap (take (length name - 1)) (place .1) ∙ front-name name short (place .0) n)
+      rw q (ap (λ (l : List ℕ). take (length name - 1) (drop 18 l)) (sym is) ∙ ap (take (length name - 1)) (name-place name vertices faces) ∙ front-name name short (behind name vertices faces) n)
 
   read-tables : (rows : Rows) (sizes : Sizes) → tablesCall s 0 rows .answer ≡ Tabled.Filled sizes →
       (take (3 * sizes .vertices) (tablesCall s 0 rows .rows .vertices) ≡ floats vertices) × (take (3 * sizes .faces) (tablesCall s 0 rows .rows .corners) ≡ faceCorners faces)

@@ -19,6 +19,11 @@ pub enum Written {
     Refused(Refusal),
 }
 
+// The longest file, and the longest row: three numbers for each of 65,535 vertices or faces.
+const LIMIT: usize = 1048576;
+
+const LONGEST_ROW: usize = 196605;
+
 // ---- the judgement
 
 // The position of the first zero byte; where there is none, the length.
@@ -39,7 +44,7 @@ fn first_zero(name: &[u8]) -> usize
 fn whole_row(n: usize) -> bool
     ensures { λ r. ⌜ r ≡ wholeRow n ⌝ }
 {
-    n % 3 == 0 && n <= 196605
+    n % 3 == 0 && n <= LONGEST_ROW
 }
 
 // Whether a float is neither infinite nor not a number.
@@ -102,7 +107,7 @@ fn judge(name: &[u8], vertices: &[f32], corners: &[u16], room: usize) -> Written
         return Written::Refused(Refusal::Index(not_below));
     }
     let size = 41 + name.len() + 12 * n + 8 * (corners.len() / 3);
-    if 1048576 < size {
+    if LIMIT < size {
         return Written::Refused(Refusal::TooLong);
     }
     if room < size {
@@ -224,7 +229,7 @@ fn put_face_list(corners: &[u16], at: usize, out: &mut [u8]) -> usize
     put_faces(corners, faces, out)
 }
 
-// The whole figure, of `size` bytes, at the front of out. All chunks around the two lists end where the file ends.
+// The whole figure, of `size` bytes, at the front of out. The chunks around the two lists end where the file ends.
 fn put_figure(name: &[u8], vertices: &[f32], corners: &[u16], size: usize, out: &mut [u8]) -> usize
     requires { ⌜ judged (now name) (now vertices) (now corners) (length (now out)) ≡ Written.Size size ⌝ }
     ensures { λ r. ⌜ Put (now (out .entry)) 0 (bytes (figure (bare (now (name .entry)) (now (vertices .entry)) (now (corners .entry))))) (now (out .exit)) r ⌝ }
@@ -233,8 +238,8 @@ fn put_figure(name: &[u8], vertices: &[f32], corners: &[u16], size: usize, out: 
     let object = put_header(0x3D3D, size - scene, scene, out);
     let label = put_header(0x4000, size - object, object, out);
     let mesh = put_name(name, label, out);
-    let list = put_header(0x4100, size - mesh, mesh, out);
-    put_face_list(corners, put_vertex_list(vertices, list, out), out)
+    let lists = put_header(0x4100, size - mesh, mesh, out);
+    put_face_list(corners, put_vertex_list(vertices, lists, out), out)
 }
 
 // ---- the call
