@@ -1,0 +1,15 @@
+pub mod First
+pub mod Then
+pub mod Prefix
+pub mod TwoWays
+pub mod Bare
+pub mod Context
+pub mod Field
+pub mod Number
+pub mod Exchange
+pub mod Around
+pub mod Chunk
+pub mod Reread
+pub mod Gets
+pub mod Turned
+pub mod Byte
