@@ -13,3 +13,7 @@ pub mod Reread
 pub mod Gets
 pub mod Turned
 pub mod Byte
+pub mod Allowed
+pub mod Figure
+pub mod Accepted
+pub mod Exact

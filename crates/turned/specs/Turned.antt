@@ -37,6 +37,7 @@ pub record SameButLength (i : ℕ) (r : Record) (n : ℕ) (kids kids′ : Run) :
   pub meshes-same : meshes kids′ ≡ meshes kids
 
 -- ANY OTHER VALUE IN ONE LENGTH FIELD: the result is refused, or accepted with the same but for that length.
+-- (It is accepted where whole unlisted chunks have changed their parent, and nothing else: specs/Exact.)
 abbrev pub SameOrRefused : Type 0
 SameOrRefused = (s : List ℕ) (kids : Run) (i : ℕ) (r : Record) (n : ℕ) → OtherLength s kids i r n →
     (kids′ : Run) → verdict (withLength (r .offset) n s) ≡ accepted kids′ → SameButLength i r n kids kids′
