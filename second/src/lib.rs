@@ -1,8 +1,10 @@
 //! The independent second reader of strict 3D Studio figures: written from
 //! the paper alone, to be compared with the reader under test.
 
+pub mod boundary;
 mod bounding_box;
 mod bytes;
+pub mod differ;
 mod judge;
 mod list;
 mod own;
