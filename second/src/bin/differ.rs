@@ -4,12 +4,16 @@
 use second::boundary::{Boundary, Right, Second, LINKED};
 use second::differ::compare::Pair;
 use second::differ::run::{run, words, Plan};
+use second::differ::seeded::{Seeded, ERRORS};
 use second::differ::{real, turned};
 use std::path::Path;
 use std::process::ExitCode;
 use std::time::Instant;
 
-const USAGE: &str = "differ --count N --seed S | differ --turned FILE... | differ --real FOLDER...";
+const USAGE: &str = "differ --count N --seed S      both sides over N files grown from a seed
+differ --turned FILE...        every bit of some files turned
+differ --real FOLDER...        both sides over the figures in some folders
+differ --seeded                the second reader against errors seeded on purpose";
 
 fn main() -> ExitCode {
     let arguments: Vec<String> = std::env::args().skip(1).collect();
@@ -24,6 +28,7 @@ fn main() -> ExitCode {
     let outcome = match arguments[..] {
         ["--turned", ref files @ ..] => all_turned(files, pair),
         ["--real", ref folders @ ..] => all_real(folders, pair),
+        ["--seeded"] => all_seeded(),
         _ => match plan(&arguments) {
             Some(plan) => grown(plan, pair),
             None => Err(USAGE.to_string()),
@@ -101,6 +106,29 @@ fn all_real<L: Boundary, R: Boundary>(
                 "{}  {shown}",
                 line.map_err(|found| format!("{shown}\n{found}"))?
             );
+        }
+    }
+    Ok(())
+}
+
+/// The smallest file that shows each of the errors seeded on purpose.
+fn all_seeded() -> Result<(), String> {
+    let plan = Plan {
+        count: 6_000,
+        seed: 7,
+        loud: false,
+    };
+    for error in std::iter::once(None).chain(ERRORS.iter().copied().map(Some)) {
+        let pair = &mut Pair::new(Second, Seeded { error });
+        match (error, run(plan, pair)) {
+            (None, Ok(_)) => println!("no error: no difference"),
+            (Some(error), Err(failure)) => {
+                println!(
+                    "{error:?}: {}",
+                    failure.shrunk(plan.seed, pair).words(plan.seed)
+                );
+            }
+            (error, _) => return Err(format!("{error:?}: not as it should be")),
         }
     }
     Ok(())

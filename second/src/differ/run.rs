@@ -167,12 +167,21 @@ impl Failure {
     /// What is printed of it.
     pub fn words(&self, seed: u64) -> String {
         let subject = match &self.subject {
-            Subject::File(file) => format!("  file   {} bytes {}", file.len(), hex(file)),
+            Subject::File(file) => format!("  file   {} bytes {}", file.len(), shown(file)),
             Subject::Writing(_) => "  (a writing)".to_string(),
         };
         let Failure { family, index, .. } = self;
         let difference = &self.difference;
         format!("DIFFERENCE in {family}, case {index} of seed {seed}\n{subject}\n{difference}")
+    }
+}
+
+/// A file as hex digits; of a long one the beginning and the end, as the case
+/// and the seed bring it back whole.
+fn shown(file: &[u8]) -> String {
+    match file.len() {
+        0..10_000 => hex(file),
+        long => format!("{} ... {}", hex(&file[..512]), hex(&file[long - 128..])),
     }
 }
 

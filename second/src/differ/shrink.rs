@@ -12,6 +12,7 @@ pub fn shrink(mut file: Vec<u8>, fails: &mut dyn FnMut(&[u8]) -> bool) -> Vec<u8
     let until = Instant::now() + Duration::from_secs(10);
     loop {
         let before = (file.len(), zeros(&file));
+        drop_chunks(&mut file, fails, until);
         let mut size = file.len() / 2;
         while size > 0 && Instant::now() < until {
             shorten(&mut file, size, fails, until);
@@ -26,6 +27,21 @@ pub fn shrink(mut file: Vec<u8>, fails: &mut dyn FnMut(&[u8]) -> bool) -> Vec<u8
 
 fn zeros(file: &[u8]) -> usize {
     file.iter().filter(|byte| **byte == 0).count()
+}
+
+/// Takes out whole chunks wherever the file still fails.
+fn drop_chunks(file: &mut Vec<u8>, fails: &mut dyn FnMut(&[u8]) -> bool, until: Instant) {
+    let mut which = 1;
+    while let Some(&(header, end)) = spans(file).get(which) {
+        let less = lowered(file, header, end - header);
+        match Instant::now() < until && fails(&less) {
+            true => *file = less,
+            false => which += 1,
+        }
+        if Instant::now() >= until {
+            return;
+        }
+    }
 }
 
 /// Takes out runs of bytes of one size wherever the file still fails.
