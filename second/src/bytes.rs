@@ -54,22 +54,25 @@ pub fn all_finite(floats: &[u8]) -> bool {
     bits(floats).fold(true, |so_far, bits| so_far & finite(bits))
 }
 
+/// The highest of some words, 0 if there are none.
+pub fn highest(words: impl Iterator<Item = u16>) -> usize {
+    usize::from(words.fold(0, u16::max))
+}
+
 /// Whether the three corners of each 8-byte face are below a count.
 pub fn corners_below(faces: &[u8], count: usize) -> bool {
-    let mut highest = [0_u16; 4];
+    let mut high = [0; 4];
     for face in faces.as_chunks::<8>().0 {
-        for (corner, so_far) in highest.iter_mut().enumerate() {
-            *so_far = (*so_far).max(word(face, 2 * corner));
+        for (corner, so_far) in high.iter_mut().enumerate() {
+            *so_far = u16::max(*so_far, word(face, 2 * corner));
         }
     }
-    let [a, b, c, _flags] = highest;
-    faces.is_empty() || usize::from(a.max(b).max(c)) < count
+    let [a, b, c, _flags] = high;
+    faces.is_empty() || highest([a, b, c].into_iter()) < count
 }
 
 /// Whether all words of a row are below a count.
 pub fn words_below(words: &[u8], count: usize) -> bool {
-    let words = words.as_chunks::<2>().0.iter();
-    words
-        .map(|bytes| usize::from(u16::from_le_bytes(*bytes)))
-        .fold(true, |so_far, word| so_far & (word < count))
+    let all = words.as_chunks::<2>().0.iter();
+    words.is_empty() || highest(all.map(|bytes| u16::from_le_bytes(*bytes))) < count
 }

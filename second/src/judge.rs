@@ -8,7 +8,7 @@ use crate::{Number, Refusal, HEADER, LIMIT};
 
 /// The identifier that a figure begins with, and its row.
 const FIGURE: u16 = 0x4D4D;
-const FIGURE_ROW: Row = row(FIGURE).expect("the table begins with it");
+const FIGURE_ROW: &Row = row(FIGURE).expect("the table begins with it");
 
 /// The count of known chunks, and the three byte counts.
 #[derive(Clone, Copy, Debug, Default, PartialEq, Eq)]
@@ -77,42 +77,54 @@ fn walked(file: &[u8], wanted: Option<u32>) -> Result<Walk<'_>, Refusal> {
         wanted,
         found: None,
     };
-    walk.known(&FIGURE_ROW, 0, length)?;
+    walk.known(FIGURE_ROW, 0, length)?;
     walk.counts.headers = HEADER * walk.counts.records;
     Ok(walk)
 }
 
+impl Parent {
+    /// Takes a known chunk for a child, or 7 or 8.
+    #[inline(always)]
+    fn take(&mut self, row: &Row, at: usize) -> Result<(), Refusal> {
+        Number::Misplaced.unless(row.under & self.place != 0, at)?;
+        Number::Twice.unless(row.once & self.seen == 0, at)?;
+        self.seen |= row.once;
+        Ok(())
+    }
+}
+
 impl Walk<'_> {
-    /// Walks the children from an offset to the parent's end; depth is bounded
-    /// by the table, siblings take no stack.
+    /// Walks the children from an offset to the parent's end, and judges what
+    /// must be there; depth is bounded by the table, siblings take no stack.
     fn children(&mut self, parent: &mut Parent, mut at: usize) -> Result<(), Refusal> {
+        let mut skipped = 0;
         while at < parent.end {
-            at = self.child(parent, at)?;
+            let (identifier, length) = self.header(at, parent.end)?;
+            match row(identifier) {
+                None => skipped += length,
+                Some(row) => {
+                    parent.take(row, at)?;
+                    self.known(row, at, at + length)?;
+                }
+            }
+            at += length;
         }
+        self.counts.skipped += skipped;
         Number::Missing.unless(parent.needs & !parent.seen == 0, parent.chunk)
     }
 
-    /// Judges the child at an offset with all inside, and answers its end.
-    #[inline]
-    fn child(&mut self, parent: &mut Parent, at: usize) -> Result<usize, Refusal> {
-        let rest = &self.file[at..parent.end];
+    /// The header of the child at an offset, or 6, 4 or 5.
+    #[inline(always)]
+    fn header(&self, at: usize, end: usize) -> Result<(u16, usize), Refusal> {
+        let rest = &self.file[at..end];
         let (identifier, length) = header(rest).ok_or(Number::Stray.at(at))?;
         Number::Short.unless(length >= HEADER, at)?;
         Number::Overrun.unless(length <= rest.len(), at)?;
-        let end = at + length;
-        let Some(row) = row(identifier) else {
-            self.counts.skipped += length;
-            return Ok(end);
-        };
-        Number::Misplaced.unless(row.under & parent.place != 0, at)?;
-        Number::Twice.unless(row.once & parent.seen == 0, at)?;
-        parent.seen |= row.once;
-        self.known(&row, at, end)?;
-        Ok(end)
+        Ok((identifier, length))
     }
 
     /// Judges and counts a known chunk that stands in its place.
-    #[inline]
+    #[inline(always)]
     fn known(&mut self, row: &Row, at: usize, end: usize) -> Result<(), Refusal> {
         let own = self.mesh.own(row, &self.file[at + HEADER..end], at)?;
         self.counts.records += 1;
@@ -123,7 +135,9 @@ impl Walk<'_> {
         }
     }
 
-    /// Walks what stands behind the own data of a chunk whose row has a "+".
+    /// Walks what stands behind the own data of a chunk whose row has a "+";
+    /// the only call that nests, so that bare chunks are walked without one.
+    #[inline(never)]
     fn inside(&mut self, row: &Row, at: usize, own: usize, end: usize) -> Result<(), Refusal> {
         let mut parent = Parent {
             chunk: at,

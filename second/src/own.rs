@@ -30,15 +30,23 @@ pub struct Mesh {
 impl Mesh {
     /// Judges the own data at the beginning of the body of the chunk at `at`,
     /// and answers its length.
-    #[inline]
+    #[inline(always)]
     pub fn own(&mut self, row: &Row, body: &[u8], at: usize) -> Result<usize, Refusal> {
+        match row.own {
+            Own::Bytes(bytes) => fitting(row, usize::from(bytes), body, at),
+            Own::Name => fitting(row, named(body, at)?, body, at),
+            Own::Smoothing => fitting(row, 4 * self.faces.count, body, at),
+            Own::Vertices | Own::Faces | Own::Mapping | Own::Group => self.counted(row, body, at),
+        }
+    }
+
+    /// Judges own data with a count word and so many entries.
+    #[inline(never)]
+    fn counted(&mut self, row: &Row, body: &[u8], at: usize) -> Result<usize, Refusal> {
         let (before, entry) = match row.own {
-            Own::Bytes(bytes) => return fitting(row, usize::from(bytes), body, at),
-            Own::Name => return fitting(row, named(body, at)?, body, at),
-            Own::Smoothing => return fitting(row, 4 * self.faces.count, body, at),
             Own::Vertices => (0, 12),
-            Own::Faces | Own::Mapping => (0, 8),
             Own::Group => (named(body, at)?, 2),
+            _ => (0, 8),
         };
         let count = first_word(&body[before..]).ok_or(Number::Length.at(at))?;
         let length = fitting(row, before + 2 + entry * count, body, at)?;
@@ -89,6 +97,7 @@ impl Mesh {
 }
 
 /// The length of the name a body begins with, or 9.
+#[inline(never)]
 fn named(body: &[u8], at: usize) -> Result<usize, Refusal> {
     name_length(body).ok_or(Number::Name.at(at))
 }

@@ -1,7 +1,7 @@
 //! The writer of a bare figure of one mesh: six chunks, flag words 0, from
 //! a name, a row of floats and a row of corners.
 
-use crate::bytes::finite;
+use crate::bytes::{finite, highest};
 use crate::{Number, Refusal, HEADER, LIMIT};
 
 /// The most numbers in a row: a count word holds 65,535 vertices or faces.
@@ -51,11 +51,10 @@ fn judge(name: &[u8], vertices: &[f32], corners: &[u16]) -> Result<(), Refusal> 
         return refused(Number::Number, vertices, |float| !good(float));
     }
     let n = vertices.len() / 3;
-    match corners.iter().max() {
-        Some(highest) if usize::from(*highest) >= n => {
-            refused(Number::Index, corners, |corner| usize::from(*corner) >= n)
-        }
-        _ => Ok(()),
+    let bad = |corner: &u16| usize::from(*corner) >= n;
+    match corners.is_empty() || highest(corners.iter().copied()) < n {
+        true => Ok(()),
+        false => refused(Number::Index, corners, bad),
     }
 }
 
@@ -105,8 +104,8 @@ impl<'a> Pen<'a> {
         self.word(f);
         let slots = self.take(8 * f).as_chunks_mut::<8>().0;
         for (slot, [a, b, c]) in slots.iter_mut().zip(corners.as_chunks::<3>().0) {
-            let face = [a.to_le_bytes(), b.to_le_bytes(), c.to_le_bytes(), [0, 0]];
-            slot.copy_from_slice(face.as_flattened());
+            let face = u64::from(*a) | u64::from(*b) << 16 | u64::from(*c) << 32;
+            *slot = face.to_le_bytes();
         }
     }
 }

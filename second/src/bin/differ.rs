@@ -113,12 +113,12 @@ fn all_real<L: Boundary, R: Boundary>(
 
 /// The smallest file that shows each of the errors seeded on purpose.
 fn all_seeded() -> Result<(), String> {
-    let plan = Plan {
-        count: 6_000,
-        seed: 7,
-        loud: false,
-    };
     for error in std::iter::once(None).chain(ERRORS.iter().copied().map(Some)) {
+        let plan = Plan {
+            count: if error.is_some() { 6_000 } else { 1_000_000 },
+            seed: 7,
+            loud: error.is_none(),
+        };
         let pair = &mut Pair::new(Second, Seeded { error });
         match (error, run(plan, pair)) {
             (None, Ok(_)) => println!("no error: no difference"),
@@ -128,7 +128,8 @@ fn all_seeded() -> Result<(), String> {
                     failure.shrunk(plan.seed, pair).words(plan.seed)
                 );
             }
-            (error, _) => return Err(format!("{error:?}: not as it should be")),
+            (None, Err(failure)) => return Err(failure.shrunk(plan.seed, pair).words(plan.seed)),
+            (Some(error), Ok(_)) => return Err(format!("{error:?}: not seen")),
         }
     }
     Ok(())

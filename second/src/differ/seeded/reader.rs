@@ -78,7 +78,7 @@ pub fn read(seeded: Seeded, file: &[u8]) -> Result<Read, Refusal> {
         return Err(Number::Trailing.at(if off { file.len() } else { length }));
     }
     let row = row(0x4D4D).unwrap_or_else(|| unreachable!());
-    reader.known(row, [0, length, 0, 0])?;
+    reader.known(*row, [0, length, 0, 0])?;
     Ok(reader.read)
 }
 
@@ -98,9 +98,9 @@ impl Reader<'_> {
     /// The row of the chunk at an offset, or of another by mistake.
     fn row(&self, at: usize) -> Option<Row> {
         match self.word(at) as u16 {
-            0xB000 if self.makes(Error::KeyframerListed) => row(0x4D4D),
+            0xB000 if self.makes(Error::KeyframerListed) => row(0x4D4D).copied(),
             0x4D4D if self.makes(Error::FigureInsideSkipped) => None,
-            identifier => row(identifier),
+            identifier => row(identifier).copied(),
         }
     }
 
