@@ -4,6 +4,7 @@
 use crate::figures::{corners, vertices, Figure};
 use crate::measure::{both, Times};
 use second::boundary::{refusal, Boundary, Right};
+use second::Refusal;
 use std::hint::black_box;
 
 /// The calls over a file.
@@ -52,37 +53,40 @@ impl Lent {
             vertices,
             corners,
         } = self;
-        let accepted = |answer: u64| assert!(refusal(black_box(answer)).is_none());
         match call {
             Call::Check => {
-                let left = || assert!(black_box(second::check(black_box(file))).is_ok());
+                let left = || done(second::check(black_box(file)));
                 both(turns, left, || accepted(right.check(black_box(file))))
             }
             Call::List => {
-                let left = || assert!(black_box(second::list(black_box(file), row)).is_ok());
+                let left = || done(second::list(black_box(file), row));
                 both(turns, left, || {
                     accepted(right.list(black_box(file), records))
                 })
             }
             Call::Tables => {
-                let left = || {
-                    let filled = second::tables(black_box(file), mesh, floats, words);
-                    assert!(black_box(filled).is_ok());
-                };
+                let left = || done(second::tables(black_box(file), mesh, floats, words));
                 let right = || accepted(right.tables(black_box(file), mesh, vertices, corners));
                 both(turns, left, right)
             }
             Call::Box => {
-                let left = || {
-                    let found = second::bounding_box(black_box(file), mesh);
-                    assert!(black_box(found).is_ok());
-                };
                 let mut nine = [0; 36];
+                let left = || done(second::bounding_box(black_box(file), mesh));
                 let right = || accepted(right.bounding_box(black_box(file), mesh, &mut nine));
                 both(turns, left, right)
             }
         }
     }
+}
+
+/// What the second reader answered, which is no refusal.
+fn done<T>(answer: Result<T, Refusal>) {
+    assert!(black_box(answer).is_ok());
+}
+
+/// What the other side answered, which is no refusal.
+fn accepted(answer: u64) {
+    assert!(refusal(black_box(answer)).is_none());
 }
 
 /// Times the writer on a figure of about a size, on both sides.
@@ -92,12 +96,15 @@ pub fn write(size: usize, turns: usize) -> (usize, Times) {
     let (mut ours, mut theirs) = (vec![0; size], vec![0; size]);
     let (name, right) = (b"written", Right::default());
     let left = || {
-        let size = second::write(name, black_box(&vertices), &corners, &mut ours);
-        assert!(black_box(size).is_ok());
+        done(second::write(
+            name,
+            black_box(&vertices),
+            &corners,
+            &mut ours,
+        ));
     };
     let right = || {
-        let size = right.write(name, black_box(&vertices), &corners, &mut theirs);
-        assert!(refusal(black_box(size)).is_none());
+        accepted(right.write(name, black_box(&vertices), &corners, &mut theirs));
     };
     (48 + 20 * n, both(turns, left, right))
 }

@@ -26,10 +26,7 @@ fn main() {
 
 /// All calls over all figures at the limit.
 fn limit(lent: &mut Lent) {
-    println!(
-        "\n{:<26}{:<8}{:>9}{:>10}{:>10}{:>10}{:>8}",
-        "figure of 1,048,576 bytes", "call", "copying", "second", "library", "ratio", "ns/B"
-    );
+    println!("\nfigure of 1,048,576 bytes call      copying    second   library     ratio    ns/B");
     for figure in figures::all(second::LIMIT) {
         assert_eq!(figure.bytes.len(), second::LIMIT);
         let copying = copying(&figure.bytes);

@@ -12,6 +12,7 @@ fn plan(count: u64) -> Plan {
         count,
         seed: 7,
         loud: false,
+        trace: false,
     }
 }
 

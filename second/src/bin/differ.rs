@@ -11,6 +11,7 @@ use std::process::ExitCode;
 use std::time::Instant;
 
 const USAGE: &str = "differ --count N --seed S      both sides over N files grown from a seed
+                               (--trace names each case before it is run)
 differ --turned FILE...        every bit of some files turned
 differ --real FOLDER...        both sides over the figures in some folders
 differ --seeded                the second reader against errors seeded on purpose";
@@ -49,15 +50,27 @@ fn plan(arguments: &[&str]) -> Option<Plan> {
         count: 200_000,
         seed: 1,
         loud: true,
+        trace: false,
     };
-    for pair in arguments.chunks(2) {
-        match pair {
-            ["--count", count] => plan.count = count.parse().ok()?,
-            ["--seed", seed] => plan.seed = seed.parse().ok()?,
+    let mut rest = arguments;
+    loop {
+        rest = match rest {
+            [] => return Some(plan),
+            ["--trace", rest @ ..] => {
+                plan.trace = true;
+                rest
+            }
+            ["--count", count, rest @ ..] => {
+                plan.count = count.parse().ok()?;
+                rest
+            }
+            ["--seed", seed, rest @ ..] => {
+                plan.seed = seed.parse().ok()?;
+                rest
+            }
             _ => return None,
-        }
+        };
     }
-    Some(plan)
 }
 
 /// Many cases from a seed.
@@ -118,6 +131,7 @@ fn all_seeded() -> Result<(), String> {
             count: if error.is_some() { 6_000 } else { 1_000_000 },
             seed: 7,
             loud: error.is_none(),
+            trace: false,
         };
         let pair = &mut Pair::new(Second, Seeded { error });
         match (error, run(plan, pair)) {

@@ -41,6 +41,11 @@ impl Rooms {
                 .collect(),
         }
     }
+
+    /// How many meshes there is room for.
+    pub fn meshes(&self) -> usize {
+        self.tables.len()
+    }
 }
 
 /// What a side says of a file when just so much room is lent.

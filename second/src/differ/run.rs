@@ -27,6 +27,8 @@ pub struct Plan {
     pub count: u64,
     pub seed: u64,
     pub loud: bool,
+    /// Names each case before it is run, to find one that never comes back.
+    pub trace: bool,
 }
 
 /// Runs all families; how often each answer was met, if no difference is found.
@@ -38,7 +40,7 @@ pub fn run<L: Boundary, R: Boundary>(
     for (family, share, what) in FAMILIES {
         let begin = Instant::now();
         let cases = (plan.count * share).div_ceil(10_000).max(24);
-        let tally = cases_of(family, cases, plan.seed, pair)?;
+        let tally = plan.cases_of(family, cases, pair)?;
         plan.say(&format!("{family:?}"), what, &tally, begin);
         add(&mut total, &tally);
     }
@@ -58,38 +60,6 @@ pub fn run<L: Boundary, R: Boundary>(
     plan.say("Sweep", "every identifier under each parent", &tally, begin);
     add(&mut total, &tally);
     Ok(total)
-}
-
-/// The cases of one family.
-fn cases_of<L: Boundary, R: Boundary>(
-    family: Family,
-    cases: u64,
-    seed: u64,
-    pair: &mut Pair<L, R>,
-) -> Result<Tally, Box<Failure>> {
-    let mut tally = [0; 18];
-    for index in 0..cases {
-        let source = Random::of_case(seed, family as u64, index);
-        let mut random = source.clone();
-        let subject = make(family, index, &mut random);
-        let mut judged = judge(family, &subject, &mut random, pair);
-        if family == Family::Grown {
-            let tree = judge_tree(&mut source.clone(), pair);
-            judged = judged.and_then(|answer| tree.map(|()| answer));
-        }
-        match judged {
-            Ok(answer) => count(&mut tally, answer),
-            Err(difference) => {
-                return Err(Box::new(Failure {
-                    family: format!("{family:?}"),
-                    index,
-                    subject,
-                    difference,
-                }))
-            }
-        }
-    }
-    Ok(tally)
 }
 
 /// Counts an answer by its number.
@@ -121,6 +91,41 @@ pub fn words(tally: &Tally) -> String {
 }
 
 impl Plan {
+    /// The cases of one family.
+    fn cases_of<L: Boundary, R: Boundary>(
+        &self,
+        family: Family,
+        cases: u64,
+        pair: &mut Pair<L, R>,
+    ) -> Result<Tally, Box<Failure>> {
+        let mut tally = [0; 18];
+        for index in 0..cases {
+            let source = Random::of_case(self.seed, family as u64, index);
+            let mut random = source.clone();
+            if self.trace {
+                eprintln!("{family:?} {index}");
+            }
+            let subject = make(family, index, &mut random);
+            let mut judged = judge(family, &subject, &mut random, pair);
+            if family == Family::Grown {
+                let tree = judge_tree(&mut source.clone(), pair);
+                judged = judged.and_then(|answer| tree.map(|()| answer));
+            }
+            match judged {
+                Ok(answer) => count(&mut tally, answer),
+                Err(difference) => {
+                    return Err(Box::new(Failure {
+                        family: format!("{family:?}"),
+                        index,
+                        subject,
+                        difference,
+                    }))
+                }
+            }
+        }
+        Ok(tally)
+    }
+
     /// The line of a family.
     fn say(&self, family: &str, what: &str, tally: &Tally, begin: Instant) {
         if self.loud {

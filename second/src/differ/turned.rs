@@ -2,7 +2,7 @@
 //! and how many are accepted with the same answers or with others.
 
 use super::compare::{spoken, Call, Difference, Pair};
-use super::facts::{self, Facts};
+use super::facts::{self, Facts, Rooms};
 use crate::boundary::{refusal, Boundary};
 
 /// What became of the turned bits.
@@ -21,14 +21,16 @@ pub fn turned<L: Boundary, R: Boundary>(
     pair: &mut Pair<L, R>,
 ) -> Result<Turned, Difference> {
     let mut counts = Turned::default();
-    let before = said(&pair.right, file);
+    let rooms = facts::rooms(&pair.right, file);
+    let before = said(&pair.right, file, &rooms);
     let mut bytes = file.to_vec();
     for bit in 0..8 * file.len() {
         bytes[bit / 8] ^= 1 << (bit % 8);
         if refusal(pair.ask(&bytes, Call::Check)?).is_some() {
             counts.refused += 1;
         } else {
-            let (left, after) = (said(&pair.left, &bytes), said(&pair.right, &bytes));
+            let left = said(&pair.left, &bytes, &rooms);
+            let after = said(&pair.right, &bytes, &rooms);
             if left != after {
                 return Err(Difference {
                     call: format!("all answers with bit {bit} turned"),
@@ -46,9 +48,14 @@ pub fn turned<L: Boundary, R: Boundary>(
     Ok(counts)
 }
 
-/// The list and all tables that a side gives for a file; names are left out,
-/// since only their spans are answered and the list has them.
-fn said(side: &impl Boundary, file: &[u8]) -> Result<Facts, String> {
+/// The list and all tables that a side gives for a file, with the room that
+/// was enough for the file before if it still is.
+fn said(side: &impl Boundary, file: &[u8], rooms: &Rooms) -> Result<Facts, String> {
+    if facts::meshes(side, file) == rooms.meshes() {
+        if let Ok(facts) = facts::ask(side, file, rooms) {
+            return Ok(facts);
+        }
+    }
     facts::ask(side, file, &facts::rooms(side, file))
 }
 

@@ -1,4 +1,5 @@
-//! The plain writer, and the errors that can be made in it.
+//! The plain writer, and the errors that can be made in it: in the order of
+//! its refusals, in their places, and in the bytes.
 
 use super::{Error, Seeded};
 use crate::differ::node::Node;
