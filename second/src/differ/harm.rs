@@ -6,7 +6,7 @@ use super::node::{Node, Path};
 use super::random::Random;
 use crate::{row, Own};
 
-/// What can be done to a chunk, named after the refusal it aims at.
+/// What can be done to a chunk, mostly named after the refusal it aims at.
 #[derive(Clone, Copy, Debug, PartialEq, Eq)]
 pub enum Harm {
     Misplaced,
@@ -16,6 +16,7 @@ pub enum Harm {
     Number,
     Index,
     Count,
+    Bare,
     Missing,
     Stray,
     Short,
@@ -23,7 +24,7 @@ pub enum Harm {
 }
 
 /// In the order they are done: the first few move the chunk about.
-pub const HARMS: [Harm; 11] = [
+pub const HARMS: [Harm; 12] = [
     Harm::Misplaced,
     Harm::Twice,
     Harm::Name,
@@ -31,6 +32,7 @@ pub const HARMS: [Harm; 11] = [
     Harm::Number,
     Harm::Index,
     Harm::Count,
+    Harm::Bare,
     Harm::Missing,
     Harm::Stray,
     Harm::Short,
@@ -99,6 +101,7 @@ pub fn harm_at(harm: Harm, root: &mut Node, path: &mut Path, random: &mut Random
         Harm::Number => not_a_number(in_mesh(root, path, &[0x4110, 0x4140]), random),
         Harm::Index => index(root, path, random),
         Harm::Count => miscount(in_mesh(root, path, &[0x4140]), random),
+        Harm::Bare => strip(root, path, random),
         Harm::Missing => bereave(root, path, random),
         Harm::Stray => stray(root, path, random),
         Harm::Short => root.at(path).stated = Some(random.below(6) as u32),
@@ -244,6 +247,16 @@ fn miscount(chunk: Option<&mut Node>, random: &mut Random) {
     let count = (own.len().saturating_sub(2) / 8) as u16;
     if let Some(slot) = own.get_mut(..2) {
         slot.copy_from_slice(&count.to_le_bytes());
+    }
+}
+
+/// Hides the vertices of a mesh, and perhaps its faces.
+fn strip(root: &mut Node, path: &[usize], random: &mut Random) {
+    let parts = [0x4110, 0x4120];
+    for part in &parts[..random.from_to(1, 2)] {
+        if let Some(chunk) = in_mesh(root, path, &[*part]) {
+            chunk.identifier = unlisted(random);
+        }
     }
 }
 

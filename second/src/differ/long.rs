@@ -31,6 +31,9 @@ pub fn figure(kind: usize, random: &mut Random) -> Vec<u8> {
     if random.chance(40) {
         hurt(&mut file, random);
     }
+    if file.len() > LIMIT && random.chance(30) {
+        file[random.below(2)] ^= 1 << random.below(8);
+    }
     file
 }
 
@@ -78,8 +81,12 @@ fn fill(root: &mut Node, random: &mut Random) {
     root.children[0].children.insert(spot, private);
 }
 
-/// Turns a bit, mostly near the end.
+/// Turns a bit, in the first header or mostly near the end.
 fn hurt(file: &mut [u8], random: &mut Random) {
+    if random.chance(30) {
+        file[random.below(6)] ^= 1 << random.below(8);
+        return;
+    }
     let back = random.pick(&[6, 60, 600, 1_000_000]);
     let at = file.len() - 1 - random.below(back);
     file[at] ^= 1 << random.below(8);
@@ -87,12 +94,13 @@ fn hurt(file: &mut [u8], random: &mut Random) {
 
 /// A writing at the limit of its rows or of its size.
 pub fn writing(random: &mut Random) -> Writing {
-    let n = random.pick(&[0, 3, 65_534, 65_535, 65_536, 40_000]);
-    let f = random.pick(&[0, 3, 32_764, 32_765, 65_535, 65_536]);
+    let n = random.pick(&[0, 3, 3, 65_534, 65_535, 65_535, 65_536, 40_000]);
+    let f = random.pick(&[0, 3, 3, 32_764, 32_765, 65_535, 65_535, 65_536]);
+    let odd = random.pick(&[[0, 0], [0, 0], [0, 0], [0, 0], [1, 0], [0, 2], [2, 1]]);
     let mut writing = Writing {
         name: vec![b'n'; random.pick(&[0, 1, 40])],
-        vertices: vec![1.5; 3 * n + random.pick(&[0, 0, 0, 1])],
-        corners: vec![n.saturating_sub(1).min(65_535) as u16; 3 * f + random.pick(&[0, 0, 0, 2])],
+        vertices: vec![1.5; 3 * n + odd[0]],
+        corners: vec![n.saturating_sub(1).min(65_535) as u16; 3 * f + odd[1]],
         room: 0,
     };
     if let Some(missing) = LIMIT.checked_sub(writing.size()) {
@@ -100,6 +108,10 @@ pub fn writing(random: &mut Random) -> Writing {
             let more = (missing + 1).saturating_sub(random.below(3));
             writing.name.extend(vec![b'm'; more]);
         }
+    }
+    if !writing.corners.is_empty() && random.chance(30) {
+        let corner = random.below(writing.corners.len());
+        writing.corners[corner] = u16::MAX;
     }
     writing.room = room(writing.size(), random);
     writing

@@ -25,13 +25,15 @@ errors! {
     TwiceEachAlone TwiceAcrossParents UnlistedStepsTwo UnlistedUnjudged
     KeyframerListed FigureInsideSkipped MappingFloatsUnjudged MatrixFloatsJudged
     SmoothingFree CountBelieved PlusTooLong NameBeyondChunk LengthWraps
-    LimitOff LimitNotJudged TrailingAllowed TrailingPlace
+    LimitOff LimitNotJudged LimitAfterFigure TrailingAllowed TrailingPlace TrailingBeforeShort
+    NoVerticesNoJudging MappingAloneUnjudged TwiceBeforeOverrun IndexBeforeLength
     ParentOff DepthOff LengthWithoutHeader OwnOfGroupWithoutName SkippedInvented HeadersOfAll
     RoomOffByOne RoomOfPart RoomPlace RoomBeforeFault WritesBeforeRefusing RestCleared
     FlagWordInCorners MinusZeroLost RoomOfCornersFirst RoomInVertices VerticesBeforeCornersRoom
     MeshesAreObjects NoSuchMeshPlace RoomBeforeMesh NameWithZero NameOfFirst
     LastOfEquals MinusZeroLess BoxByBits CentreOfSum HighStartsAtZero EmptyBoxIsZero
     WriterFlags WriterCornersFirst WriterIndexBeforeNumber WriterIndexAtCount WriterZeroPlace
+    WriterCountBeforeName WriterNumberBeforeCount WriterLimitBeforeIndex
     WriterMost WriterRoomBeforeLimit WriterClearsRest WriterMinusZeroLost
 }
 

@@ -45,19 +45,27 @@ pub struct Reader<'a> {
     met_in_file: u8,
 }
 
-/// Reads a whole file.
-pub fn read(seeded: Seeded, file: &[u8]) -> Result<Read, Refusal> {
+/// Judges 1 and 2.
+fn begin(seeded: Seeded, file: &[u8]) -> Result<(), Refusal> {
     let long = match seeded.error {
         Some(Error::LimitOff) => file.len() >= LIMIT,
         Some(Error::LimitNotJudged) => false,
         _ => file.len() > LIMIT,
     };
-    if long {
-        return Err(Number::TooLong.at(0));
+    let other = !file.starts_with(&[0x4D, 0x4D]) || file.len() < 6;
+    let too_long = Err(Number::TooLong.at(0));
+    let not_a_figure = Err(Number::NotAFigure.at(0));
+    match (long, other) {
+        (true, true) if seeded.makes(Error::LimitAfterFigure) => not_a_figure,
+        (true, _) => too_long,
+        (false, true) => not_a_figure,
+        (false, false) => Ok(()),
     }
-    if file.len() < 6 || file[0] != 0x4D || file[1] != 0x4D {
-        return Err(Number::NotAFigure.at(0));
-    }
+}
+
+/// Reads a whole file.
+pub fn read(seeded: Seeded, file: &[u8]) -> Result<Read, Refusal> {
+    begin(seeded, file)?;
     let mut reader = Reader {
         seeded,
         file,
@@ -67,7 +75,7 @@ pub fn read(seeded: Seeded, file: &[u8]) -> Result<Read, Refusal> {
         met_in_file: 0,
     };
     let length = reader.length(0);
-    if length < 6 {
+    if length < 6 && !seeded.makes(Error::TrailingBeforeShort) {
         return Err(Number::Short.at(0));
     }
     if length > file.len() {
@@ -142,6 +150,10 @@ impl Reader<'_> {
         }
         if misplaced && self.makes(Error::MisplacedBeforeOverrun) {
             return Err(Number::Misplaced.at(at));
+        }
+        if self.makes(Error::TwiceBeforeOverrun) && !misplaced {
+            let again = row.is_some_and(|row| row.once & *met != 0);
+            Number::Twice.unless(!again, at)?;
         }
         let wraps = self.makes(Error::LengthWraps) && at + length > u32::MAX as usize;
         if length > left && !wraps {
@@ -260,6 +272,9 @@ impl Reader<'_> {
             Some(Error::CountBelieved) => longer |= row.own == Own::Vertices,
             _ => (),
         }
+        if row.own == Own::Group && own < body.len() && self.makes(Error::IndexBeforeLength) {
+            self.group(&body[..own], at)?;
+        }
         match own == body.len() || (own < body.len() && longer) {
             true if row.holds == 0 => Ok(body.len()),
             true => Ok(own),
@@ -343,6 +358,9 @@ impl Reader<'_> {
 
     /// The corners of a mesh.
     fn corners(&self) -> Result<(), Refusal> {
+        if self.parts.vertices.is_none() && self.makes(Error::NoVerticesNoJudging) {
+            return Ok(());
+        }
         let n = self.vertices() + usize::from(self.makes(Error::CornerAtCount));
         let good = |face: &[u8]| (0..3).all(|c| count(&face[2 * c..]).is_some_and(|c| c < n));
         let unjudged = self.makes(Error::CornersOfFirstMeshOnly) && !self.read.meshes.is_empty();
@@ -354,6 +372,9 @@ impl Reader<'_> {
 
     /// The count of a 4140.
     fn mapping(&self) -> Result<(), Refusal> {
+        if self.parts.vertices.is_none() && self.makes(Error::MappingAloneUnjudged) {
+            return Ok(());
+        }
         match self.parts.mapping {
             Some((at, m)) if m != self.vertices() => Err(Number::Count.at(at)),
             _ => Ok(()),

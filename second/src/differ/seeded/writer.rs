@@ -13,8 +13,13 @@ pub fn write(
     corners: &[u16],
     out: &mut [u8],
 ) -> Result<usize, Refusal> {
-    judge(seeded, name, vertices, corners)?;
     let size = 41 + name.len() + 4 * vertices.len() + corners.len() / 3 * 8;
+    let judged = judge(seeded, name, vertices, corners);
+    let index = judged.is_err_and(|refusal| refusal.number == Number::Index as u32);
+    if index && size > LIMIT && seeded.makes(Error::WriterLimitBeforeIndex) {
+        return Err(Number::TooLong.at(0));
+    }
+    judged?;
     let no_room = Err(Number::NoRoom.at(size));
     if size > out.len() && seeded.makes(Error::WriterRoomBeforeLimit) {
         return no_room;
@@ -34,23 +39,19 @@ pub fn write(
 
 /// The refusals of the writer, but for the size.
 fn judge(seeded: Seeded, name: &[u8], vertices: &[f32], corners: &[u16]) -> Result<(), Refusal> {
-    if let Some(zero) = name.iter().position(|byte| *byte == 0) {
-        let off = usize::from(seeded.makes(Error::WriterZeroPlace));
-        return Err(Number::Name.at(zero + off));
+    let zero = zero(seeded, name);
+    let count = count(seeded, [vertices.len(), corners.len()]);
+    if seeded.makes(Error::WriterCountBeforeName) {
+        count.and(zero)?;
     }
-    let mut lengths = [vertices.len(), corners.len()];
-    if seeded.makes(Error::WriterCornersFirst) {
-        lengths.reverse();
-    }
-    let most = 196_605 - usize::from(seeded.makes(Error::WriterMost));
-    if let Some(length) = lengths
-        .into_iter()
-        .find(|length| length % 3 != 0 || *length > most)
-    {
-        return Err(Number::Count.at(length));
-    }
-    let n = vertices.len() / 3 + usize::from(seeded.makes(Error::WriterIndexAtCount));
     let float = vertices.iter().position(|float| !float.is_finite());
+    if let (Some(float), Ok(())) = (float, zero) {
+        if seeded.makes(Error::WriterNumberBeforeCount) {
+            return Err(Number::Number.at(float));
+        }
+    }
+    zero.and(count)?;
+    let n = vertices.len() / 3 + usize::from(seeded.makes(Error::WriterIndexAtCount));
     let corner = corners.iter().position(|corner| usize::from(*corner) >= n);
     match (float, corner) {
         (Some(_), Some(corner)) if seeded.makes(Error::WriterIndexBeforeNumber) => {
@@ -59,6 +60,28 @@ fn judge(seeded: Seeded, name: &[u8], vertices: &[f32], corners: &[u16]) -> Resu
         (Some(float), _) => Err(Number::Number.at(float)),
         (None, Some(corner)) => Err(Number::Index.at(corner)),
         (None, None) => Ok(()),
+    }
+}
+
+/// 9 for a zero in the name.
+fn zero(seeded: Seeded, name: &[u8]) -> Result<(), Refusal> {
+    let off = usize::from(seeded.makes(Error::WriterZeroPlace));
+    match name.iter().position(|byte| *byte == 0) {
+        Some(zero) => Err(Number::Name.at(zero + off)),
+        None => Ok(()),
+    }
+}
+
+/// 13 for the length of a row.
+fn count(seeded: Seeded, mut lengths: [usize; 2]) -> Result<(), Refusal> {
+    if seeded.makes(Error::WriterCornersFirst) {
+        lengths.reverse();
+    }
+    let most = 196_605 - usize::from(seeded.makes(Error::WriterMost));
+    let bad = |length: &usize| !length.is_multiple_of(3) || *length > most;
+    match lengths.into_iter().find(bad) {
+        Some(length) => Err(Number::Count.at(length)),
+        None => Ok(()),
     }
 }
 
