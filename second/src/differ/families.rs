@@ -37,10 +37,10 @@ pub const FAMILIES: [(Family, u64, &str); 11] = [
     (Family::Gaps, 700, "private chunks in gaps"),
     (Family::Boxes, 300, "boxes of floats of note"),
     (Family::Soup, 1_200, "legal parents, all else free"),
-    (Family::Noise, 296, "bytes of no sense"),
+    (Family::Noise, 277, "bytes of no sense"),
     (Family::Writer, 500, "names and rows written"),
     (Family::Long, 3, "figures at the limit"),
-    (Family::LongWriter, 1, "writings at the limit"),
+    (Family::LongWriter, 20, "writings at the limit"),
 ];
 
 /// What a case is over: a file, or what the writer is handed.

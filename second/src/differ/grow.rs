@@ -153,7 +153,12 @@ impl Grower<'_> {
 
     /// A face group: name, count, face numbers.
     fn group(&mut self, faces: usize) -> Vec<u8> {
-        let count = if faces == 0 { 0 } else { self.random.below(5) };
+        let least = usize::from(self.fill == Fill::Full);
+        let count = if faces == 0 {
+            0
+        } else {
+            self.random.from_to(least, 4)
+        };
         let mut own = self.name();
         own.extend((count as u16).to_le_bytes());
         for _ in 0..count {

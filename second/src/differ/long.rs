@@ -104,12 +104,12 @@ pub fn writing(random: &mut Random) -> Writing {
         room: 0,
     };
     if let Some(missing) = LIMIT.checked_sub(writing.size()) {
-        if random.chance(60) {
+        if random.chance(75) {
             let more = (missing + 1).saturating_sub(random.below(3));
             writing.name.extend(vec![b'm'; more]);
         }
     }
-    if !writing.corners.is_empty() && random.chance(30) {
+    if !writing.corners.is_empty() && random.chance(45) {
         let corner = random.below(writing.corners.len());
         writing.corners[corner] = u16::MAX;
     }

@@ -39,7 +39,12 @@ pub fn run<L: Boundary, R: Boundary>(
     let mut total = [0; 18];
     for (family, share, what) in FAMILIES {
         let begin = Instant::now();
-        let cases = (plan.count * share).div_ceil(10_000).max(60);
+        let least = if family == Family::LongWriter {
+            200
+        } else {
+            60
+        };
+        let cases = (plan.count * share).div_ceil(10_000).max(least);
         let tally = plan.cases_of(family, cases, pair)?;
         plan.say(&format!("{family:?}"), what, &tally, begin);
         add(&mut total, &tally);

@@ -32,7 +32,7 @@ impl Writing {
             corners,
             room: 0,
         };
-        while random.chance(35) {
+        while random.chance(55) {
             writing.spoil(n, random);
         }
         writing.room = room(writing.size(), random);
