@@ -108,7 +108,7 @@ static size_t vertex_count_turned(struct figure *figure) {
 
 static size_t coordinate_infinite(struct figure *figure) {
     size_t blade = find_chunk(figure, TDS_ID_VERTICES, 0);
-    turn_bit(figure, blade + 8 + 12 * 4 + 4 + 3, 6); /* y of vertex 4: 1 becomes infinite */
+    turn_bit(figure, blade + 8 + 4 + 3, 6); /* y of the first vertex: 1 becomes infinite */
     return blade;
 }
 

@@ -50,12 +50,15 @@ static void put_plate(struct figure *figure, const char *name, const int outline
 }
 
 void make_adze(struct figure *figure) {
-    static const int blade[][2] = {{-20, 30},   {-60, 22},  {-110, 0}, {-150, -30},
-                                   {-148, -34}, {-108, -8}, {-60, 8},  {-20, 0}};
+    static const int blade[3][4][2] = {{{-20, 0}, {-20, 30}, {-60, 22}, {-60, 8}},
+                                       {{-60, 8}, {-60, 22}, {-110, 0}, {-108, -8}},
+                                       {{-108, -8}, {-110, 0}, {-150, -30}, {-148, -34}}};
     static const int handle[][2] = {{0, 16}, {20, 20}, {300, 15}, {600, 17}, {700, 15}};
     struct extras none = {0}, filled = {.private_length = ADZE_HANDLE_LENGTH};
     struct mesh head = {0};
-    add_plate(&head, blade, LENGTH(blade), -35, 35);
+    for (size_t i = 0; i < LENGTH(blade); i++) {
+        add_plate(&head, blade[i], LENGTH(blade[i]), -35, 35);
+    }
     add_box(&head, (struct point){-20, -22, 0}, (struct point){24, 22, 32});
     open_figure(figure);
     put_private(figure, 0);
@@ -111,7 +114,7 @@ void make_saw(struct figure *figure) {
     struct mesh blade = {0};
     add_plate(&blade, sheet, LENGTH(sheet), 0, 1);
     for (int x = 30; x < 550; x += 20) {
-        const int tooth[3][2] = {{x, 0}, {x + 20, 0}, {x + 20, -8}};
+        const int tooth[3][2] = {{x, 0}, {x + 20, -8}, {x + 20, 0}};
         add_plate(&blade, tooth, 3, 0, 1);
     }
     open_chunk(figure, 0x4D4D);

@@ -44,16 +44,16 @@ static void add_end(struct mesh *mesh, size_t ring, size_t points, int turned_ov
 }
 
 void add_plate(struct mesh *mesh, const int outline[][2], size_t points, int y0, int y1) {
-    size_t lower = mesh->vertex_count, upper = lower + points;
-    for (size_t i = 0; i < points; i++) {
-        add_vertex(mesh, outline[i][0], y0, outline[i][1]);
-    }
+    size_t back = mesh->vertex_count, front = back + points;
     for (size_t i = 0; i < points; i++) {
         add_vertex(mesh, outline[i][0], y1, outline[i][1]);
     }
-    add_band(mesh, lower, upper, points);
-    add_end(mesh, lower, points, 1);
-    add_end(mesh, upper, points, 0);
+    for (size_t i = 0; i < points; i++) {
+        add_vertex(mesh, outline[i][0], y0, outline[i][1]);
+    }
+    add_band(mesh, back, front, points);
+    add_end(mesh, back, points, 1);
+    add_end(mesh, front, points, 0);
 }
 
 void add_box(struct mesh *mesh, struct point low, struct point high) {

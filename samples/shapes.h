@@ -22,8 +22,8 @@ struct point {
 /* A box between two opposite corners. */
 void add_box(struct mesh *mesh, struct point low, struct point high);
 
-/* A flat outline in x and z (a fan from its first point must fill it), as thick as from y0 to y1.
- */
+/* A flat outline in x and z, counter-clockwise with x to the right and z up, which a fan from its
+ * first point must fill; as thick as from y0 to y1. Faces look outwards. */
 void add_plate(struct mesh *mesh, const int outline[][2], size_t points, int y0, int y1);
 
 /* Something turned on a lathe: rings of these radii at these distances along an axis (0 x, 1 y,
