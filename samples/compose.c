@@ -7,7 +7,7 @@
 
 #include "tds.h"
 
-void give_up(const char *what) {
+_Noreturn void give_up(const char *what) {
     fprintf(stderr, "make_samples: %s\n", what);
     exit(1);
 }
@@ -84,7 +84,6 @@ size_t find_chunk(const struct figure *figure, unsigned id, int which) {
         }
     }
     give_up("a chunk to be damaged is not there");
-    return 0;
 }
 
 void free_figure(struct figure *figure) {

@@ -14,7 +14,7 @@ struct figure {
 };
 
 /* Ends the program with a line that says what the generator could not do. */
-void give_up(const char *what);
+_Noreturn void give_up(const char *what);
 
 void put_bytes(struct figure *figure, const void *bytes, size_t length);
 void put_word(struct figure *figure, unsigned word);

@@ -35,7 +35,8 @@ int main(int argc, char **argv) {
     struct options options = options_read(argc, argv);
     switch (options.task) {
     case TASK_CHECK:
-        setvbuf(stdout, NULL, _IOLBF, BUFSIZ); /* each line is there as soon as it is known */
+        setvbuf(stdout, NULL, _IOLBF, BUFSIZ); /* each line is there as soon as it is known, */
+        setvbuf(stderr, NULL, _IOLBF, BUFSIZ); /* and is whole */
         return check(&options);
     case TASK_HELP:
         print_help();

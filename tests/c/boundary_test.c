@@ -260,5 +260,5 @@ int main(void) {
     each_case(try_case);
     each_case(try_huge_file);
     try_writer();
-    return counts("boundary_test");
+    return finish("boundary_test");
 }

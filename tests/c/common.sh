@@ -4,8 +4,6 @@
 set -u
 BUILD=${BUILD:-build}
 RUN=${RUN:-}
-# Leaks cannot be looked for in a traced program, and a test of memory is not about them.
-export ASAN_OPTIONS="${ASAN_OPTIONS:-}"
 passed=0
 failed=0
 what='(no test yet)'
@@ -35,11 +33,11 @@ skip() {
     echo "skipped: $what: $*"
 }
 
-# run PROGRAM ARGUMENTS...: keeps status, $T/out and $T/err.
+# run PROGRAM ARGUMENTS...: keeps status, $T/out and $T/err. A program that hangs has status 124.
 run() {
     # RUN is a command with its arguments, so it is split.
     # shellcheck disable=SC2086
-    $RUN "$@" >"$T/out" 2>"$T/err"
+    timeout 60 $RUN "$@" >"$T/out" 2>"$T/err"
     status=$?
 }
 

@@ -14,7 +14,7 @@
 #include <termios.h>
 #include <unistd.h>
 
-static void give_up(const char *what) {
+static _Noreturn void give_up(const char *what) {
     perror(what);
     exit(125);
 }

@@ -33,7 +33,7 @@ void expect(int well, const char *format, ...) {
     printf("\n");
 }
 
-int counts(const char *test) {
+int finish(const char *test) {
     printf("%s: %lu passed, %lu failed\n", test, passed, failed);
     return failed != 0;
 }

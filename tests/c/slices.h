@@ -36,6 +36,6 @@ void expect(int well, const char *format, ...);
 void trying(const char *format, ...);
 
 /* The line of counts; answers the exit status. */
-int counts(const char *test);
+int finish(const char *test);
 
 #endif

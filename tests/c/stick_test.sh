@@ -105,6 +105,7 @@ has out 'over.3ds: refused: TOO LONG (1): the file is longer than a figure may b
 try 'a huge file is read no further than needed'
 triangle >"$T/huge.3ds"
 truncate -s 20G "$T/huge.3ds"
+# (Leaks cannot be looked for in a program that is traced.)
 # shellcheck disable=SC2086
 ASAN_OPTIONS=detect_leaks=0 "$BUILD/c-test/traced" count "$T/bytes" "$T/huge.3ds" $RUN "$S" "$T/huge.3ds" \
     >"$T/out" 2>"$T/err"

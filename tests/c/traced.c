@@ -28,7 +28,7 @@ struct watch {
     unsigned long long bytes;
 };
 
-static void give_up(const char *what) {
+static _Noreturn void give_up(const char *what) {
     fprintf(stderr, "traced: %s: %s\n", what, strerror(errno));
     exit(125);
 }
