@@ -3,3 +3,4 @@ pub mod Runs
 pub mod Chunks
 pub mod Owns
 pub mod Loop
+pub mod Whole

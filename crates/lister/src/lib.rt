@@ -4,6 +4,8 @@
 use little_endian::long_at;
 use little_endian::word_at;
 use own_data::Own;
+use rules::Checked;
+use rules::Refusal;
 ghost use mathlib.Core.Path.{_≡_};
 ghost use mathlib.Core.List.{List, _++_};
 ghost use Prim.Native.Nat.{ℕ, _+_, _*_, _≤_, _<_};
@@ -11,6 +13,7 @@ ghost use lib.ListN.{length};
 ghost use lib.Seq.{slice, sets};
 ghost use Rattle.rules.specs.Layout.{Run};
 ghost use Rattle.rules.specs.Rules.{Parent};
+ghost use Rattle.rules.specs.Calls.{listCall};
 ghost use Rattle.own_data.specs.Own.{CountIs};
 ghost use Rattle.lister.specs.Laid.{first, Laid, Bounds, Room, Listed, Begins, Small, sixOf};
 
@@ -76,11 +79,12 @@ fn list_chunk(
     let own = own_length(file, row, count, at + 6, stop);
     put_record(records, 6 * next, id, at, stop - at, depth, parent, own);
     let from = at + 6 + own;
+    let after = next + 1;
     if from == stop {
-        return next + 1;
+        return after;
     }
     let word = own_data::count_of(file, at + 6, from);
-    list_run(file, records, word, from, stop, depth + 1, next, next + 1)
+    list_run(file, records, word, from, stop, depth + 1, next, after)
 }
 
 // The run of chunks from at to end.
@@ -105,4 +109,23 @@ fn list_run(
         from = stop;
     }
     number
+}
+
+// The list of a figure's known chunks, in file order, into a lent row whose room is counted in whole records. Answers
+// what the check answers, or that there is no room; a refusal leaves the row as it was.
+pub fn list(file: &[u8], row: &mut [u32]) -> Checked
+    ensures answer { λ r. ⌜ r ≡ listCall (now (file .entry)) (now (row .entry)) .answer ⌝ }
+    ensures filled { λ r. ⌜ now (row .exit) ≡ listCall (now (file .entry)) (now (row .entry)) .rows ⌝ }
+{
+    match reader::check(file) {
+        Checked::Refused(r) => Checked::Refused(r),
+        Checked::Accepted(counts) => {
+            let records = counts.records;
+            if row.len() / 6 < records {
+                return Checked::Refused(Refusal::NoRoom(records));
+            }
+            list_chunk(file, row, 0, 0, file.len(), 0, 0, 0);
+            Checked::Accepted(counts)
+        }
+    }
 }

@@ -120,8 +120,8 @@ list-chunk-add-from t c = omega arith
 list-chunk-add-from-2 : (t : ℕ) → list-chunk-lts.Need-add-from-2 (chunk-calls t) (list-chunk-at t) list-chunk.Post
 list-chunk-add-from-2 t c = omega arith
 
-list-chunk-add-result : (t : ℕ) → list-chunk-lts.Need-add-result (chunk-calls t) (list-chunk-at t) list-chunk.Post
-list-chunk-add-result t c = omega arith
+list-chunk-add-after : (t : ℕ) → list-chunk-lts.Need-add-after (chunk-calls t) (list-chunk-at t) list-chunk.Post
+list-chunk-add-after t c = omega arith
 
 list-chunk-same-length : (t : ℕ) → list-chunk-lts.Need-same-length (chunk-calls t) (list-chunk-at t) list-chunk.Post
 list-chunk-same-length t c = c .before .before .before .put-record .kept .0
@@ -139,9 +139,6 @@ list-chunk-count-of-requires t c κs = omega arith
 
 list-chunk-add-list-run : (t : ℕ) → list-chunk-lts.Need-add-list-run (chunk-calls t) (list-chunk-at t) list-chunk.Post
 list-chunk-add-list-run t c = omega arith
-
-list-chunk-add-list-run-2 : (t : ℕ) → list-chunk-lts.Need-add-list-run-2 (chunk-calls t) (list-chunk-at t) list-chunk.Post
-list-chunk-add-list-run-2 t c = omega arith
 
 list-chunk-list-run-requires : (t : ℕ) → list-chunk-lts.Need-list-run-requires (chunk-calls t) (list-chunk-at t) list-chunk.Post
 list-chunk-list-run-requires t c κs =
@@ -290,13 +287,12 @@ pub +list-chunk+list-run-spec : {M : Type 1} → statement M
     (list-chunk-put-record-requires t)
     (list-chunk-add-from t)
     (list-chunk-add-from-2 t)
-    (list-chunk-add-result t)
+    (list-chunk-add-after t)
     (list-chunk-same-length t)
     (list-chunk-returns-2 t)
     (list-chunk-add-count-of t)
     (list-chunk-count-of-requires t)
     (list-chunk-add-list-run t)
-    (list-chunk-add-list-run-2 t)
     (list-chunk-list-run-requires t)
     (list-chunk-same-length-2 t)
     (list-chunk-returns-3 t))
