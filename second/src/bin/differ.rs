@@ -97,9 +97,9 @@ fn all_turned<L: Boundary, R: Boundary>(
 ) -> Result<(), String> {
     for path in files {
         let file = read(Path::new(path))?;
-        let counts = turned::turned(&file, pair).map_err(|found| format!("{path}\n{found}"))?;
+        let turned = turned::turned(&file, pair).map_err(|found| format!("{path}\n{found}"))?;
         let verdict = pair.right.check(&file);
-        println!("{path}: {}", turned::words(&file, &counts, verdict));
+        println!("{path}: {}", turned::words(&turned, verdict));
     }
     Ok(())
 }

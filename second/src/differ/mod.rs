@@ -8,6 +8,7 @@ pub mod families;
 pub mod gaps;
 pub mod grow;
 pub mod harm;
+pub mod kinds;
 pub mod long;
 pub mod node;
 pub mod random;
