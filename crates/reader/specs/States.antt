@@ -6,11 +6,12 @@ use mathlib.Core.Bool.{Bool, true, cond}
 use mathlib.Core.List.{List, [], _∷_}
 use mathlib.Core.Option.{Option, none, some}
 use Prim.Native.Nat.{ℕ, suc, _+_, _*_, _-_, _≤_, _<_, _^_}
-use lib.ListN.{length, getD, set}
+use lib.ListN.{length, getD, set, drop}
 use Rattle.rules.specs.declared.Refusal.{Refusal}
 use Rattle.rules.specs.Table.{listed, plus, shape}
 use Rattle.rules.specs.OwnData.{count, ownSize}
-use Rattle.rules.specs.Rules.{Parent, inside, limit, few}
+use Rattle.rules.specs.declared.Counts.{Counts}
+use Rattle.rules.specs.Rules.{Parent, file, inside, limit, few}
 use Rattle.rules.specs.Gives.{recordCount, skipped}
 use Rattle.rules.specs.Walk.{Step, stop, pass, enter, broken, ownConditions, opened, Answer, refused, accepted, ended, walk}
 use Rattle.little_endian.specs.Numbers.{wordAt, longAt}
@@ -19,6 +20,7 @@ use Rattle.own_data.specs.Own.{CountIs}
 use Rattle.marks.specs.Marks.{tallySlot, Under, marksAfter}
 use Rattle.reader.specs.declared.Header.{Header}
 use Rattle.reader.specs.declared.Head.{Head}
+use Rattle.reader.specs.declared.Ran.{Ran}
 
 -- ---- the header of a chunk at `at`
 
@@ -56,6 +58,34 @@ HeadWithin at end (Head.Skip past) = (at + 6 ≤ past) × (past ≤ end)
 HeadWithin at end (Head.Leaf past) = (at + 6 ≤ past) × (past ≤ end)
 HeadWithin at end (Head.Enter id row word from past) = (at + 6 ≤ from) × (from ≤ past) × (past ≤ end) × (word < 2 ^ 16)
 
+-- ---- a chunk and a run
+
+-- the answer to a chunk's children, at its end
+abbrev pub ClosedIs : ℕ → Answer → Ran → Type 0
+ClosedIs past (refused x) r = r ≡ Ran.Refused x
+ClosedIs past (accepted t) r = r ≡ Ran.Done past (recordCount t + 1) (skipped t)
+
+-- a chunk at `at`, by the step that meets it, and the marks before and after it
+abbrev pub ChunkIs : Parent → ℕ → Step → Ran → List ℕ → List ℕ → Type 0
+ChunkIs p at (stop x) r marks marks′ = r ≡ Ran.Refused x
+ChunkIs p at (pass id body rest) r marks marks′ = (r ≡ Ran.Done (at + (6 + length body)) 0 (6 + length body)) × (marks′ ≡ marks)
+ChunkIs p at (enter id own kids rest) r marks marks′ =
+    ClosedIs (at + (6 + length own + length kids)) (ended p at id own (walk (inside p id own) [] (at + (6 + length own)) kids)) r × (marks′ ≡ set marks (slotOf id) at)
+
+-- a run from o to `end`, where so many records and skipped bytes came before it
+abbrev pub RunIs : ℕ → ℕ → ℕ → ℕ → List ℕ → Answer → Ran → List ℕ → Type 0
+RunIs end records bytes o marks (refused x) r marks′ = r ≡ Ran.Refused x
+RunIs end records bytes o marks (accepted t) r marks′ = (r ≡ Ran.Done end (records + recordCount t) (bytes + skipped t)) × (marks′ ≡ marksAfter o t marks)
+
+-- six bytes for each record, and the skipped ones, stand where the chunk or the run does
+abbrev pub ChunkWithin : ℕ → ℕ → Ran → Type 0
+ChunkWithin at end (Ran.Refused x) = Unit
+ChunkWithin at end (Ran.Done next records bytes) = (at < next) × (next ≤ end) × (6 * records + bytes ≤ next - at)
+
+abbrev pub RunWithin : ℕ → ℕ → Ran → Type 0
+RunWithin at end (Ran.Refused x) = Unit
+RunWithin at end (Ran.Done next records bytes) = 6 * records + bytes ≤ end - at
+
 -- ---- where the code stands
 
 -- a file within the limit, a count word, and marks of five slots
@@ -76,3 +106,15 @@ pub record Context (p : Parent) (seen : List ℕ) (row word : ℕ) (marks : List
 
 abbrev pub SomeContext : ℕ → ℕ → List ℕ → Type 0
 SomeContext row word marks = (p : Parent) × (seen : List ℕ) × Context p seen row word marks
+
+-- ---- the whole file
+
+-- the answer to the children of 4D4D, at its end
+unfoldable pub figureAnswer : List ℕ → Answer
+figureAnswer s = ended file 0 0x4D4D [] (walk (inside file 0x4D4D []) [] 6 (drop 6 s))
+
+pub record CountsAre (records bytes size : ℕ) (r : Counts) : Type 0 where
+  pub records-are : r .records ≡ records
+  pub headers-are : r .headers ≡ 6 * records
+  pub own-is : r .own + 6 * records + bytes ≡ size
+  pub skipped-are : r .skipped ≡ bytes

@@ -49,7 +49,7 @@ step-skip p seen o id body rest l u =
     step-header p seen o id (6 + length body) body rest refl (ltb-true id 0x1_0000 (f .0)) l ∙ rw (not-true (listed id) (f .1))
 
 -- no child, no bytes
-no-bytes : (t : Run) → noChild t ≡ true → bytes t ≡ []
+pub no-bytes : (t : Run) → noChild t ≡ true → bytes t ≡ []
 no-bytes end h = refl
 no-bytes (skip id body rest) h = absurd (false≢true h)
 no-bytes (known id own kids rest) h = absurd (false≢true h)

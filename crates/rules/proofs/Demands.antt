@@ -58,7 +58,7 @@ demand1 s = go (verdict s) refl
 -- ---- demand 2 (the theorem itself and one-layout stand in Verdict)
 
 -- each byte of a layout is counted once
-counted-once : (t : Run) → headers t + owned t + skipped t ≡ size t
+pub counted-once : (t : Run) → headers t + owned t + skipped t ≡ size t
 counted-once end = refl
 counted-once (skip id body rest) = omega (arith, counted-once rest)
 counted-once (known id own kids rest) = omega (arith, counted-once kids, counted-once rest)

@@ -81,16 +81,16 @@ no-child-taken (known id own kids rest) h = h
 -- ---- the rules
 
 module _ (p : Parent) (id : ℕ) (own : List ℕ) (m : Marked) where
-  corners-same : cornersBelow p id own (with m) ≡ cornersBelow p id own (without m)
+  pub corners-same : cornersBelow p id own (with m) ≡ cornersBelow p id own (without m)
   corners-same = rw (child-same 0x4110 m, child-same 0x4120 m)
 
-  mapping-same : mappingMatches p id own (with m) ≡ mappingMatches p id own (without m)
+  pub mapping-same : mappingMatches p id own (with m) ≡ mappingMatches p id own (without m)
   mapping-same = rw (identifiers-same m, child-same 0x4140 m, child-same 0x4110 m)
 
-  twice-same : notTwice p id own (with m) ≡ notTwice p id own (without m)
+  pub twice-same : notTwice p id own (with m) ≡ notTwice p id own (without m)
   twice-same = rw (identifiers-same m)
 
-  missing-same : noneMissing p id own (with m) ≡ noneMissing p id own (without m)
+  pub missing-same : noneMissing p id own (with m) ≡ noneMissing p id own (without m)
   missing-same = rw (identifiers-same m)
 
   lawful-put : InGaps id m → Lawful p id own (without m) → Lawful p id own (with m)

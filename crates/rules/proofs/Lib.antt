@@ -1,6 +1,7 @@
 pub mod Bools
 pub mod Bytes
 pub mod Rows
+pub mod Apart
 pub mod Conditions
 pub mod Once
 pub mod OwnSize

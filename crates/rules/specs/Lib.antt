@@ -1,6 +1,7 @@
 pub mod Refusals
 pub mod Bytes
 pub mod Table
+pub mod Apart
 pub mod OwnData
 pub mod Layout
 pub mod Rules

@@ -42,9 +42,9 @@ add-t11 c = search needs
 
 returns-4 : tie.Need-returns-4
 returns-4 c = (
-      header-fine (c .before .before .before .before .before .before .args .file .now) (c .before .before .before .before .before .before .args .at) (c .before .before .before .before .before .before .args .end) (c .before .before .before .before .before .before .pre .0) (c .before .before .before .before .before .before .pre .1) (omega arith) (c .before .before .before .long-at .result) (c .before .before .before .long-at .ensures .is) (omega arith) (omega arith) (c .word-at .result) (c .word-at .ensures .is),
-      omega (arith, c .word-at .ensures .small),
-    )
+  header-fine (c .before .before .before .before .before .before .args .file .now) (c .before .before .before .before .before .before .args .at) (c .before .before .before .before .before .before .args .end) (c .before .before .before .before .before .before .pre .0) (c .before .before .before .before .before .before .pre .1) (omega arith) (c .before .before .before .long-at .result) (c .before .before .before .long-at .ensures .is) (omega arith) (omega arith) (c .word-at .result) (c .word-at .ensures .is),
+  omega (arith, c .word-at .ensures .small),
+)
 
 pub read-header-spec : {M : Type 1} → statement M
 read-header-spec =

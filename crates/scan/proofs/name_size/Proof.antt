@@ -1,22 +1,23 @@
--- The loop's invariant: no zero stands before i, so the name is as long as what was passed and the name from i on.
+-- The loop's invariant: the name goes on at least to i; a zero ends it there.
 use mathlib.Core.Path.{_≡_, refl, sym, ap, _∙_}
-use Prim.Native.Nat.{_+_, _-_, _≤_}
+use Prim.Native.Nat.{ℕ, _+_, _-_, _≤_, _<_}
 use native.Mathlib.Omega.{arith}
-use lib.ListN.{length}
-use lib.Seq.{slice}
-use Rattle.rules.specs.OwnData.{nameSize}
+use Rattle.scan.specs.Names.{NameOn}
 use Rattle.scan.proofs.Names.{name-here, name-on, name-nowhere}
 use Rattle.scan.proofs.name_size.Statement.{statement}
 use Rattle.scan.proofs.name_size.Tie as tie
 
 abbrev Inv-loop : tie.InvT-loop
-Inv-loop s at end i₀ i = (at ≤ i) × (i ≤ end) × (nameSize (slice at end s) ≡ (i - at) + nameSize (slice i end s))
+Inv-loop s at end i₀ i = NameOn s at i end
 
 abbrev μ-loop : tie.MeasureT-loop
 μ-loop s at end i₀ i = end - i
 
+skip-blocks-requires : tie.Need-skip-blocks-requires Inv-loop μ-loop
+skip-blocks-requires c κs = omega arith
+
 loop-holds : tie.Need-loop-holds Inv-loop μ-loop
-loop-holds c = (omega arith, omega arith, omega arith)
+loop-holds c = c .skip-blocks .ensures
 
 shared-slice-read-if1 : tie.Need-shared-slice-read-if1 Inv-loop μ-loop
 shared-slice-read-if1 c = omega arith
@@ -30,8 +31,8 @@ sub-result c = omega arith
 returns : tie.Need-returns Inv-loop μ-loop
 returns c =
     let l = c .before .before .before .loop in
-    let a = c .before .before .before .before .args in
-    omega (arith, name-here (a .s .now) (l .i) (a .end) (omega arith) (omega arith) (c .if1 .taken))
+    let a = c .before .before .before .before .before .before .args in
+    omega (arith, l .inv .on, name-here (a .s .now) (l .i) (a .end) (omega arith) (omega arith) (c .if1 .taken))
 
 add-i : tie.Need-add-i Inv-loop μ-loop
 add-i c = omega arith
@@ -42,8 +43,9 @@ loop-less c = omega arith
 loop-again : tie.Need-loop-again Inv-loop μ-loop
 loop-again c =
     let l = c .before .before .before .loop in
-    let a = c .before .before .before .before .args in
-    (omega arith, omega arith, omega (arith, name-on (a .s .now) (l .i) (a .end) (omega arith) (omega arith) (c .if1 .left)))
+    let a = c .before .before .before .before .before .before .args in
+    let h = l .inv in
+    record { from = omega arith; to = omega arith; on = omega (arith, h .on, name-on (a .s .now) (l .i) (a .end) (omega arith) (omega arith) (c .if1 .left)) }
 
 add-result-2 : tie.Need-add-result-2 Inv-loop μ-loop
 add-result-2 c = omega arith
@@ -54,8 +56,8 @@ sub-result-2 c = omega arith
 returns-2 : tie.Need-returns-2 Inv-loop μ-loop
 returns-2 c =
     let l = c .before .loop in
-    let a = c .before .before .args in
-    omega (arith, name-nowhere (a .s .now) (l .i) (a .end) (omega arith))
+    let a = c .before .before .before .before .args in
+    omega (arith, l .inv .on, name-nowhere (a .s .now) (l .i) (a .end) (omega arith))
 
 pub name-size-spec : {M : Type 1} → statement M
 name-size-spec =
@@ -63,6 +65,7 @@ name-size-spec =
     (tie.spec
     Inv-loop
     μ-loop
+    skip-blocks-requires
     loop-holds
     shared-slice-read-if1
     add-result

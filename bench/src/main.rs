@@ -1,0 +1,107 @@
+//! The speed of the library under test against the second reader: the same
+//! machine, the same input, one run, turn by turn.
+
+mod calls;
+mod figures;
+mod measure;
+
+use calls::{write, Call, Lent, CALLS};
+use measure::{one, Times};
+use second::boundary::LINKED;
+use std::hint::black_box;
+
+const TURNS: usize = 201;
+
+fn main() {
+    if !LINKED {
+        println!("*** The library under test is not linked: the right-hand side is the second");
+        println!("*** reader behind the boundary (build with --features tds and TDS_LIB_DIR).");
+    }
+    println!("Median of {TURNS} turns, microseconds; lent rows are made once and not cleared.");
+    println!("Copying is the time to copy the file's bytes, the limit for any reading.");
+    let lent = &mut Lent::new();
+    limit(lent);
+    growth(lent);
+}
+
+/// All calls over all figures at the limit.
+fn limit(lent: &mut Lent) {
+    println!("\nfigure of 1,048,576 bytes call      copying    second   library     ratio    ns/B");
+    for figure in figures::all(second::LIMIT) {
+        assert_eq!(figure.bytes.len(), second::LIMIT);
+        let copying = copying(&figure.bytes);
+        for call in CALLS {
+            let times = lent.time(call, &figure, TURNS);
+            line(
+                figure.what,
+                &format!("{call:?}"),
+                copying,
+                times,
+                figure.bytes.len(),
+            );
+        }
+    }
+    let (size, times) = write(second::LIMIT, TURNS);
+    line(
+        "a figure written",
+        "Write",
+        copying(&vec![7; size]),
+        times,
+        size,
+    );
+}
+
+/// One line: both times, their ratio, and the library's time for each byte.
+fn line(what: &str, call: &str, copying: f64, times: Times, size: usize) {
+    let Times { left, right } = times;
+    let (ratio, each) = (right / left, 1e3 * right / size as f64);
+    println!("{what:<26}{call:<8}{copying:>9.1}{left:>10.1}{right:>10.1}{ratio:>10.2}{each:>8.3}");
+}
+
+/// The time to copy bytes.
+fn copying(bytes: &[u8]) -> f64 {
+    let mut to = vec![0; bytes.len()];
+    one(TURNS, || {
+        black_box(&mut to[..]).copy_from_slice(black_box(bytes));
+    })
+}
+
+/// The check and the list at growing sizes: nanoseconds for each byte, which
+/// stay the same if the cost grows in a straight line.
+fn growth(lent: &mut Lent) {
+    println!("\nnanoseconds for each byte, second / library, at 2^14 to 2^20 bytes");
+    for kind in 0..figures::all(1 << 14).len() {
+        for call in CALLS {
+            let mut cells = Vec::new();
+            let mut what = "";
+            for power in 14..=20 {
+                let figure = figures::all(1 << power).swap_remove(kind);
+                let times = lent.time(call, &figure, TURNS / 3);
+                cells.push(each(times, figure.bytes.len()));
+                what = figure.what;
+            }
+            println!("{what:<26}{:<8}{}", name(call), cells.join("  "));
+        }
+    }
+    let sizes = (14..=20).map(|power| {
+        let (size, times) = write(1 << power, TURNS / 3);
+        each(times, size)
+    });
+    let cells: Vec<String> = sizes.collect();
+    println!(
+        "{:<26}{:<8}{}",
+        "a figure written",
+        "Write",
+        cells.join("  ")
+    );
+}
+
+fn name(call: Call) -> String {
+    format!("{call:?}")
+}
+
+/// Both times for each byte.
+fn each(times: Times, size: usize) -> String {
+    let [left, right] = [times.left, times.right].map(|time| 1e3 * time / size as f64);
+    format!("{left:.3}/{right:.3}")
+}

@@ -1,0 +1,30 @@
+// The functions that C calls. Each answers one number and fills byte slices; include/tds.h describes them for C.
+use rules::Checked;
+use rules::Refusal;
+ghost use mathlib.Core.Path.{_≡_};
+ghost use Prim.Native.Nat.{_+_, _*_, _<_, min};
+ghost use Rattle.tds.specs.Codes.{code, checkCode};
+
+// A refusal as a number. Only the writer can have a place beyond 32 bits; it is answered as the largest.
+fn refusal_code(r: Refusal) -> u64
+    ensures { λ n. ⌜ n ≡ code r ⌝ }
+{
+    let number = rules::refusal_number(r) as u64;
+    let place = rules::refusal_place(r) as u64;
+    if place < 4294967295 {
+        number * 4294967296 + place
+    } else {
+        number * 4294967296 + 4294967295
+    }
+}
+
+// The count of records, or a refusal.
+#[no_mangle]
+pub extern "C" fn tds_check(file: &[u8]) -> u64
+    ensures { λ n. ⌜ n ≡ checkCode (now (file .entry)) ⌝ }
+{
+    match reader::check(file) {
+        Checked::Accepted(counts) => counts.records as u64,
+        Checked::Refused(r) => refusal_code(r),
+    }
+}

@@ -1,0 +1,66 @@
+-- Looking for the first fault of a row, by a loop: one law for every kind of row and test.
+-- What the loop has passed holds no fault, so that the first fault is the first of what is left.
+use mathlib.Core.Path.{_≡_, refl, ap}
+use Prim.Native.Nat.{ℕ, zero, suc, _+_, _<_, _≤_}
+use native.Mathlib.Numerals.{add-one}
+use native.Mathlib.Omega.{arith}
+use mathlib.Core.Bool.{Bool, true, false, _&&_, cond}
+use mathlib.Core.List.{List, [], _∷_}
+use lib.ListN.{length, drop, getD, drop-of-length-le}
+use lib.Seq.{drop-cons}
+use Rattle.rules.specs.Bytes.{every}
+use Rattle.rules.proofs.Bools.{and-parts}
+use Rattle.writer.specs.Write.{firstFault}
+
+-- the elements before i pass the test
+abbrev pub Passed : {A : Type 0} → (A → Bool) → List A → ℕ → Type 0
+Passed good xs i = (i ≤ length xs) × (firstFault good xs ≡ i + firstFault good (drop i xs))
+
+module _ {A : Type 0} (good : A → Bool) (xs : List A) where
+  pub passed-none : Passed good xs 0
+  passed-none = (omega arith, omega arith)
+
+  module _ (i : ℕ) (d : A) (h : i < length xs) (p : Passed good xs i) where
+    -- what is left begins with the element at i
+    left : firstFault good (drop i xs) ≡ cond (good (getD xs i d)) (suc (firstFault good (drop (suc i) xs))) 0
+    left = ap (firstFault good) (drop-cons xs i d h)
+
+    pub passed-more : good (getD xs i d) ≡ true → Passed good xs (i + 1)
+    passed-more g =
+        let e : firstFault good (drop i xs) ≡ suc (firstFault good (drop (suc i) xs)) = rw g at left in
+        (omega arith, rw add-one (omega arith))
+
+    pub found : good (getD xs i d) ≡ false → i ≡ firstFault good xs
+    found g = let e : firstFault good (drop i xs) ≡ 0 = rw g at left in omega arith
+
+  pub all-passed : (i : ℕ) → length xs ≤ i → Passed good xs i → i ≡ firstFault good xs
+  all-passed i h p =
+      let e : firstFault good (drop i xs) ≡ 0 = ap (firstFault good) (drop-of-length-le xs h) in
+      omega arith
+
+-- ---- each passes exactly where there is no first fault
+
+module _ {A : Type 0} (good : A → Bool) where
+  pub every-good : (xs : List A) → length xs ≤ firstFault good xs → every good xs ≡ true
+  unfolding every
+  every-good [] h = refl
+  every-good (x ∷ xs) h = go (good x) (every-good xs) h
+    where
+      go : (b : Bool) → (length xs ≤ firstFault good xs → every good xs ≡ true) → suc (length xs) ≤ cond b (suc (firstFault good xs)) 0 → (b && every good xs) ≡ true
+      go true ih h = ih (omega arith)
+      go false ih h = absurd (omega arith)
+
+  pub some-bad : (xs : List A) → firstFault good xs < length xs → every good xs ≡ false
+  unfolding every
+  some-bad [] h = absurd (omega arith)
+  some-bad (x ∷ xs) h = go (good x) (some-bad xs) h
+    where
+      go : (b : Bool) → (firstFault good xs < length xs → every good xs ≡ false) → cond b (suc (firstFault good xs)) 0 < suc (length xs) → (b && every good xs) ≡ false
+      go true ih h = ih (omega arith)
+      go false ih h = refl
+
+  pub every-at : (xs : List A) (i : ℕ) (d : A) → i < length xs → every good xs ≡ true → good (getD xs i d) ≡ true
+  unfolding every
+  every-at [] i d h e = absurd (omega arith)
+  every-at (x ∷ xs) zero d h e = and-parts (good x) (every good xs) e .0
+  every-at (x ∷ xs) (suc i) d h e = every-at xs i d (omega arith) (and-parts (good x) (every good xs) e .1)

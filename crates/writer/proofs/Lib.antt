@@ -1,0 +1,13 @@
+pub mod FirstFault
+pub mod Judged
+pub mod Put
+pub mod Packed
+pub mod Floats
+pub mod Bare
+pub mod Six
+pub mod Unpacked
+pub mod ReadsBack
+pub mod Repacked
+pub mod WritesAgain
+pub mod JustSix
+pub mod Samples

@@ -1,0 +1,260 @@
+// The writer of a bare figure. All is judged before the first byte is written.
+use rules::Refusal;
+ghost use mathlib.Core.Path.{_≡_};
+ghost use mathlib.Core.Bool.{true};
+ghost use mathlib.Core.List.{[], _∷_, map};
+ghost use Prim.Native.Nat.{_+_, _*_, _%_, _<_, _≤_};
+ghost use lib.Dec.{ltb};
+ghost use lib.Ieee.{binary32, toBits};
+ghost use lib.ListN.{length};
+ghost use Rattle.rules.specs.Bytes.{le, every};
+ghost use Rattle.rules.specs.Layout.{end, known, figure, header, bytes};
+ghost use Rattle.writer.specs.Bare.{triples, packed, faceWords, nameData, vertexData, faceData, bare};
+ghost use Rattle.writer.specs.Put.{Put};
+ghost use Rattle.writer.specs.Write.{firstFault, notZero, wholeRow, finiteFloat, judged, writeCall};
+
+// The size of what was written, or a refusal.
+pub enum Written {
+    Size(usize),
+    Refused(Refusal),
+}
+
+// The longest file, and the longest row: three numbers for each of 65,535 vertices or faces.
+const LIMIT: usize = 1048576;
+
+const LONGEST_ROW: usize = 196605;
+
+// ---- the judgement
+
+// The position of the first zero byte; where there is none, the length.
+fn first_zero(name: &[u8]) -> usize
+    ensures { λ r. ⌜ r ≡ firstFault notZero (now (name .entry)) ⌝ }
+{
+    let mut i = 0usize;
+    while i < name.len() {
+        if name[i] == 0 {
+            return i;
+        }
+        i += 1;
+    }
+    i
+}
+
+// Whether a row of this length is made of whole vertices or faces, and not of too many.
+fn whole_row(n: usize) -> bool
+    ensures { λ r. ⌜ r ≡ wholeRow n ⌝ }
+{
+    n % 3 == 0 && n <= LONGEST_ROW
+}
+
+// Whether a float is neither infinite nor not a number.
+fn is_finite(x: f32) -> bool
+    ensures { λ r. ⌜ r ≡ finiteFloat x ⌝ }
+{
+    let infinity = f32::from_bits(0x7F80_0000);
+    -infinity < x && x < infinity
+}
+
+// The position of the first float that is not finite; where there is none, the length.
+fn first_not_finite(vertices: &[f32]) -> usize
+    ensures { λ r. ⌜ r ≡ firstFault finiteFloat (now (vertices .entry)) ⌝ }
+{
+    let mut i = 0usize;
+    while i < vertices.len() {
+        if !is_finite(vertices[i]) {
+            return i;
+        }
+        i += 1;
+    }
+    i
+}
+
+// The position of the first corner that is not below n; where there is none, the length.
+fn first_not_below(n: usize, corners: &[u16]) -> usize
+    ensures { λ r. ⌜ r ≡ firstFault (λ c. ltb c n) (now (corners .entry)) ⌝ }
+{
+    let mut i = 0usize;
+    while i < corners.len() {
+        if n <= corners[i] as usize {
+            return i;
+        }
+        i += 1;
+    }
+    i
+}
+
+// The answer for a buffer of `room` bytes: the first fault in document 01's order, or the size.
+fn judge(name: &[u8], vertices: &[f32], corners: &[u16], room: usize) -> Written
+    ensures { λ r. ⌜ r ≡ judged (now (name .entry)) (now (vertices .entry)) (now (corners .entry)) room ⌝ }
+{
+    let zero = first_zero(name);
+    if zero < name.len() {
+        return Written::Refused(Refusal::Name(zero));
+    }
+    if !whole_row(vertices.len()) {
+        return Written::Refused(Refusal::Count(vertices.len()));
+    }
+    if !whole_row(corners.len()) {
+        return Written::Refused(Refusal::Count(corners.len()));
+    }
+    let not_finite = first_not_finite(vertices);
+    if not_finite < vertices.len() {
+        return Written::Refused(Refusal::Number(not_finite));
+    }
+    let n = vertices.len() / 3;
+    let not_below = first_not_below(n, corners);
+    if not_below < corners.len() {
+        return Written::Refused(Refusal::Index(not_below));
+    }
+    let size = 41 + name.len() + 12 * n + 8 * (corners.len() / 3);
+    if LIMIT < size {
+        return Written::Refused(Refusal::TooLong);
+    }
+    if room < size {
+        return Written::Refused(Refusal::NoRoom(size));
+    }
+    Written::Size(size)
+}
+
+// ---- the writing
+
+// Each function puts bytes at a position of out, and answers the position behind them.
+
+// A 2-byte number.
+fn put_word(v: u16, at: usize, out: &mut [u8]) -> usize
+    requires { ⌜ at + 2 ≤ length (now out) ⌝ }
+    ensures { λ r. ⌜ Put (now (out .entry)) at (le 2 v) (now (out .exit)) r ⌝ }
+{
+    out[at] = (v % 256) as u8;
+    out[at + 1] = (v / 256) as u8;
+    at + 2
+}
+
+// A 4-byte number.
+fn put_long(v: u32, at: usize, out: &mut [u8]) -> usize
+    requires { ⌜ at + 4 ≤ length (now out) ⌝ }
+    ensures { λ r. ⌜ Put (now (out .entry)) at (le 4 v) (now (out .exit)) r ⌝ }
+{
+    let high = put_word((v % 65536) as u16, at, out);
+    put_word((v / 65536) as u16, high, out)
+}
+
+// The header of a chunk.
+fn put_header(id: u16, len: usize, at: usize, out: &mut [u8]) -> usize
+    requires { ⌜ (len < 4294967296) × (at + 6 ≤ length (now out)) ⌝ }
+    ensures { λ r. ⌜ Put (now (out .entry)) at (header id len) (now (out .exit)) r ⌝ }
+{
+    put_long(len as u32, put_word(id, at, out), out)
+}
+
+// A name and its zero.
+fn put_name(name: &[u8], at: usize, out: &mut [u8]) -> usize
+    requires { ⌜ at + length (now name) + 1 ≤ length (now out) ⌝ }
+    ensures { λ r. ⌜ Put (now (out .entry)) at (nameData (now (name .entry))) (now (out .exit)) r ⌝ }
+{
+    let mut next = at;
+    let mut i = 0usize;
+    while i < name.len() {
+        out[next] = name[i];
+        next += 1;
+        i += 1;
+    }
+    out[next] = 0;
+    next + 1
+}
+
+// Floats, each as its 32 bits. Of a float that is not a number no bits are known.
+fn put_floats(vertices: &[f32], at: usize, out: &mut [u8]) -> usize
+    requires { ⌜ every finiteFloat (now vertices) ≡ true ⌝ }
+    requires { ⌜ at + 4 * length (now vertices) ≤ length (now out) ⌝ }
+    ensures { λ r. ⌜ Put (now (out .entry)) at (packed 4 (map (toBits binary32) (now (vertices .entry)))) (now (out .exit)) r ⌝ }
+{
+    let mut next = at;
+    let mut i = 0usize;
+    while i < vertices.len() {
+        next = put_long(f32::to_bits(vertices[i]), next, out);
+        i += 1;
+    }
+    next
+}
+
+// A face: three corner words and a flag word.
+fn put_face(a: u16, b: u16, c: u16, at: usize, out: &mut [u8]) -> usize
+    requires { ⌜ at + 8 ≤ length (now out) ⌝ }
+    ensures { λ r. ⌜ Put (now (out .entry)) at (packed 2 (a ∷ b ∷ c ∷ 0 ∷ [])) (now (out .exit)) r ⌝ }
+{
+    let second = put_word(a, at, out);
+    let third = put_word(b, second, out);
+    let flag = put_word(c, third, out);
+    put_word(0, flag, out)
+}
+
+// The faces of a row of corners.
+fn put_faces(corners: &[u16], at: usize, out: &mut [u8]) -> usize
+    requires { ⌜ at + 8 * triples (now corners) ≤ length (now out) ⌝ }
+    ensures { λ r. ⌜ Put (now (out .entry)) at (packed 2 (faceWords (triples (now (corners .entry))) (now (corners .entry)))) (now (out .exit)) r ⌝ }
+{
+    let f = corners.len() / 3;
+    let mut next = at;
+    let mut i = 0usize;
+    while i < f {
+        let j = 3 * i;
+        next = put_face(corners[j], corners[j + 1], corners[j + 2], next, out);
+        i += 1;
+    }
+    next
+}
+
+// The chunk 4110.
+fn put_vertex_list(vertices: &[f32], at: usize, out: &mut [u8]) -> usize
+    requires { ⌜ (length (now vertices) % 3 ≡ 0) × (length (now vertices) ≤ 196605) × (every finiteFloat (now vertices) ≡ true) ⌝ }
+    requires { ⌜ at + 8 + 12 * triples (now vertices) ≤ length (now out) ⌝ }
+    ensures { λ r. ⌜ Put (now (out .entry)) at (bytes (known 0x4110 (vertexData (now (vertices .entry))) end end)) (now (out .exit)) r ⌝ }
+{
+    let n = vertices.len() / 3;
+    let count = put_header(0x4110, 8 + 12 * n, at, out);
+    let floats = put_word(n as u16, count, out);
+    put_floats(vertices, floats, out)
+}
+
+// The chunk 4120.
+fn put_face_list(corners: &[u16], at: usize, out: &mut [u8]) -> usize
+    requires { ⌜ length (now corners) ≤ 196605 ⌝ }
+    requires { ⌜ at + 8 + 8 * triples (now corners) ≤ length (now out) ⌝ }
+    ensures { λ r. ⌜ Put (now (out .entry)) at (bytes (known 0x4120 (faceData (now (corners .entry))) end end)) (now (out .exit)) r ⌝ }
+{
+    let f = corners.len() / 3;
+    let count = put_header(0x4120, 8 + 8 * f, at, out);
+    let faces = put_word(f as u16, count, out);
+    put_faces(corners, faces, out)
+}
+
+// The whole figure, of `size` bytes, at the front of out. The chunks around the two lists end where the file ends.
+fn put_figure(name: &[u8], vertices: &[f32], corners: &[u16], size: usize, out: &mut [u8]) -> usize
+    requires { ⌜ judged (now name) (now vertices) (now corners) (length (now out)) ≡ Written.Size size ⌝ }
+    ensures { λ r. ⌜ Put (now (out .entry)) 0 (bytes (figure (bare (now (name .entry)) (now (vertices .entry)) (now (corners .entry))))) (now (out .exit)) r ⌝ }
+{
+    let scene = put_header(0x4D4D, size, 0, out);
+    let object = put_header(0x3D3D, size - scene, scene, out);
+    let label = put_header(0x4000, size - object, object, out);
+    let mesh = put_name(name, label, out);
+    let lists = put_header(0x4100, size - mesh, mesh, out);
+    put_face_list(corners, put_vertex_list(vertices, lists, out), out)
+}
+
+// ---- the call
+
+// Writes a bare figure into the front of out: a name without its zero, a row of floats, three to a vertex, and a row of
+// corners, three to a face. A refusal leaves out untouched, and bytes after the size stay.
+pub fn write(name: &[u8], vertices: &[f32], corners: &[u16], out: &mut [u8]) -> Written
+    ensures answer { λ r. ⌜ r ≡ writeCall (now (name .entry)) (now (vertices .entry)) (now (corners .entry)) (now (out .entry)) .answer ⌝ }
+    ensures out { λ _. ⌜ now (out .exit) ≡ writeCall (now (name .entry)) (now (vertices .entry)) (now (corners .entry)) (now (out .entry)) .rows ⌝ }
+{
+    match judge(name, vertices, corners, out.len()) {
+        Written::Refused(r) => Written::Refused(r),
+        Written::Size(size) => {
+            let end = put_figure(name, vertices, corners, size, out);
+            Written::Size(end)
+        }
+    }
+}

@@ -1,0 +1,180 @@
+/*
+ * viewer.c - what a viewer does before it shows a figure.
+ *
+ *     viewer FILE
+ *
+ * It reads the file, has it checked, and only then sizes its tables, from the list of chunks, and
+ * fills them. Instead of drawing it prints a summary of each mesh. A refused figure is not shown at
+ * all: half an adze shown calmly is worse than none.
+ *
+ * Exit status: 0 shown, 1 the figure is refused, 2 the file could not be read.
+ */
+#include <errno.h>
+#include <stdint.h>
+#include <stdio.h>
+#include <stdlib.h>
+#include <string.h>
+
+#include "tds.h"
+
+/* One byte more than the longest figure, so that tds_check sees when a file is longer. */
+static uint8_t file[TDS_LONGEST_FILE + 1];
+static size_t file_len;
+
+static int read_file(const char *path) {
+    int status = 0;
+    FILE *stream = fopen(path, "rb");
+    if (stream == NULL) {
+        fprintf(stderr, "viewer: cannot open %s: %s\n", path, strerror(errno));
+        return 2;
+    }
+    file_len = fread(file, 1, sizeof file, stream);
+    if (ferror(stream)) {
+        fprintf(stderr, "viewer: cannot read %s: %s\n", path, strerror(errno));
+        status = 2;
+    }
+    fclose(stream);
+    return status;
+}
+
+static int refused(uint64_t answer) {
+    fprintf(stderr, "viewer: not shown: refusal %d, place %lu\n", TDS_REFUSAL(answer),
+            (unsigned long)TDS_PLACE(answer));
+    return 1;
+}
+
+static int no_memory(void) {
+    fprintf(stderr, "viewer: not shown: no memory\n");
+    return 2;
+}
+
+/* Names come from strangers: nothing in them may reach the terminal as a command. */
+static void print_name(const uint8_t *span) {
+    const uint8_t *name = file + tds_get4(span);
+    const uint8_t *end = name + tds_get4(span + 4);
+    for (; name < end; name++) {
+        putchar(*name >= 0x20 && *name < 0x7F ? *name : '?');
+    }
+}
+
+static void print_corner(const uint8_t *box) {
+    printf(" (%g, %g, %g)", tds_get_float(box), tds_get_float(box + 4), tds_get_float(box + 8));
+}
+
+/* A viewer would hand the two tables to the screen here, instead of counting them. */
+static int show_tables(uint32_t mesh, const uint8_t *vertices, size_t vertices_len,
+                       const uint8_t *corners, size_t corners_len) {
+    uint8_t span[2 * 4], box[9 * 4];
+    uint64_t name = tds_name(file, file_len, mesh, span, sizeof span);
+    uint64_t boxed = tds_box(file, file_len, mesh, box, sizeof box);
+    (void)vertices; /* x, y, z as floats, 12 bytes a vertex */
+    (void)corners;  /* three numbers of vertices, 6 bytes a face */
+    if (TDS_REFUSED(name)) {
+        return refused(name);
+    }
+    if (TDS_REFUSED(boxed) && TDS_REFUSAL(boxed) != TDS_EMPTY) {
+        return refused(boxed);
+    }
+    printf("mesh %lu \"", (unsigned long)mesh);
+    print_name(span);
+    printf("\": vertices %lu, faces %lu", (unsigned long)vertices_len / 12,
+           (unsigned long)corners_len / 6);
+    if (!TDS_REFUSED(boxed)) { /* a mesh without vertices has no box, but is a good mesh */
+        printf(", box");
+        print_corner(box);
+        print_corner(box + 12);
+    }
+    putchar('\n');
+    return 0;
+}
+
+/* Fills the tables of a mesh, lent exactly the room they need. */
+static int show_mesh(uint32_t mesh, size_t vertices, size_t faces) {
+    size_t vertices_len = 12 * vertices, corners_len = 6 * faces;
+    uint8_t *tables = malloc(vertices_len + corners_len + 1); /* + 1: never none at all */
+    uint8_t *corners;
+    uint64_t answer;
+    int status;
+    if (tables == NULL) {
+        return no_memory();
+    }
+    corners = tables + vertices_len;
+    answer = tds_tables(file, file_len, mesh, tables, vertices_len, corners, corners_len);
+    if (TDS_REFUSED(answer)) {
+        status = refused(answer);
+    } else {
+        status = show_tables(mesh, tables, vertices_len, corners, corners_len);
+    }
+    free(tables);
+    return status;
+}
+
+/*
+ * Goes through the list. A mesh is a record 4100; its vertices and faces are the records 4110 and
+ * 4120 in it, which follow it at a greater depth, and the own data of each is a word and the table.
+ */
+static int show_list(const uint8_t *records, size_t count) {
+    uint32_t mesh = 0;
+    size_t i = 0;
+    while (i < count) {
+        uint32_t id = tds_get_record(records, i, TDS_RECORD_ID);
+        uint32_t depth = tds_get_record(records, i, TDS_RECORD_DEPTH);
+        size_t vertices = 0, faces = 0;
+        int status;
+        i++;
+        if (id != TDS_ID_MESH) {
+            continue;
+        }
+        for (; i < count && tds_get_record(records, i, TDS_RECORD_DEPTH) > depth; i++) {
+            id = tds_get_record(records, i, TDS_RECORD_ID);
+            if (id == TDS_ID_VERTICES) {
+                vertices = (tds_get_record(records, i, TDS_RECORD_OWN) - 2) / 12;
+            } else if (id == TDS_ID_FACES) {
+                faces = (tds_get_record(records, i, TDS_RECORD_OWN) - 2) / 8;
+            }
+        }
+        status = show_mesh(mesh++, vertices, faces);
+        if (status != 0) {
+            return status;
+        }
+    }
+    printf("meshes %lu\n", (unsigned long)mesh);
+    return 0;
+}
+
+/* Checks the file first; the answer is the room the list needs. */
+static int show_figure(void) {
+    uint64_t answer = tds_check(file, file_len);
+    uint8_t *records;
+    size_t records_len;
+    int status;
+    if (TDS_REFUSED(answer)) {
+        return refused(answer);
+    }
+    records_len = (size_t)answer * TDS_RECORD_BYTES;
+    records = malloc(records_len);
+    if (records == NULL) {
+        return no_memory();
+    }
+    answer = tds_list(file, file_len, records, records_len);
+    status = TDS_REFUSED(answer) ? refused(answer) : show_list(records, (size_t)answer);
+    free(records);
+    return status;
+}
+
+int main(int argc, char **argv) {
+    int status;
+    if (argc != 2) {
+        fprintf(stderr, "usage: viewer FILE\n");
+        return 2;
+    }
+    status = read_file(argv[1]);
+    if (status == 0) {
+        status = show_figure();
+    }
+    if (fflush(stdout) != 0 || ferror(stdout)) {
+        fprintf(stderr, "viewer: cannot write: %s\n", strerror(errno));
+        return 2;
+    }
+    return status;
+}

@@ -1,0 +1,241 @@
+/*
+ * tds.h - a strict reader of 3D Studio figures (.3ds), and a writer of bare ones.
+ *
+ * A figure is read whole, from memory, by rules without exceptions: every length fills the chunk
+ * around it exactly, every known chunk stands in its place, every corner of a face is a vertex that
+ * exists. A file that breaks one rule is refused, with one number that says which rule and one
+ * place that says where. Chunks of unknown identifiers are stepped over and never looked into.
+ *
+ * HOW TO USE IT. Read the file into memory; call tds_check; if it refuses, say so and stop. Else it
+ * has answered how many records the list has: lend that much room to tds_list, find the meshes in
+ * it, and lend tables of the right size to tds_tables. examples/viewer.c does just this.
+ *
+ * You need check nothing beforehand: any bytes of any length have an answer.
+ *
+ * SLICES. Each pointer is followed by the length of what it points to. It may have any alignment
+ * where it points to bytes, and (NULL, 0) is an empty slice. The slices of a call must not overlap:
+ * neither two slices lent to be filled, nor one of them and the file (or, for tds_write, its name
+ * and rows). The slices that are only read may overlap one another.
+ *
+ * ANSWERS. Each call answers one 64-bit number. Below 2^32 it is the answer proper, as each call
+ * says; from 2^32 on it is a refusal: its number (enum tds_refusal) times 2^32, plus its place. The
+ * macros TDS_REFUSED, TDS_REFUSAL and TDS_PLACE take it apart.
+ *
+ * WHAT IS FILLED. Numbers go out little-endian, on every machine: four bytes each, corners two
+ * bytes. Floats are the 4 bytes of an IEEE 754 single, bit for bit as in the file. tds_get2,
+ * tds_get4 and tds_get_float read them back. Where the machine itself is little-endian and the
+ * memory suitably aligned, you may lend a table of float (uint16_t for corners) cast to uint8_t *.
+ *   A part of a record or of a number at the end of a slice is no room, and is left alone; so is
+ * all room beyond what the answer says was filled. A call that refuses changes no lent memory.
+ *
+ * WHAT IS NEVER DONE. No call allocates memory, keeps or uses any state between calls, reads
+ * anything but the slices it was given, writes anything but the slices it was lent, touches files,
+ * prints, or ends the program. So all calls may be made from any number of threads at once.
+ *
+ * ORDER OF REFUSALS. First what is wrong with the file (1 to 14; the first fault met, walking the
+ * file from its start, a chunk's own faults before those inside it); then 16; then 17; then 15. So
+ * a damaged file is refused as damaged whatever mesh was asked for and whatever room was lent.
+ *
+ * LANGUAGE. C89 and later, and C++. <stdint.h> came only with C99, but is there with every compiler
+ * this library is built for, in C89 mode too, and is the one thing beyond C89 that is used here.
+ */
+#ifndef TDS_H
+#define TDS_H
+
+#include <stddef.h>
+#include <stdint.h>
+#include <string.h>
+
+#ifdef __cplusplus
+extern "C" {
+#endif
+
+/* No file longer than this is a figure. One byte more is enough to hand to tds_check to be told. */
+#define TDS_LONGEST_FILE 1048576
+
+/*
+ * The refusals. "Place" is the offset in the file of the chunk at fault, unless it says otherwise.
+ * In tds_write 9, 13, 11, 12, 1 and 15 have other places: see there.
+ */
+enum tds_refusal {
+    TDS_ACCEPTED = 0,      /* no refusal */
+    TDS_TOO_LONG = 1,      /* the file is over 1,048,576 bytes (place 0) */
+    TDS_NOT_A_FIGURE = 2,  /* under 6 bytes, or does not start with 4D 4D (place 0) */
+    TDS_TRAILING = 3,      /* bytes behind the end of 4D4D (place: where they start) */
+    TDS_SHORT = 4,         /* a length below 6 */
+    TDS_OVERRUN = 5,       /* a length beyond the end of the chunk around it, or of the file */
+    TDS_STRAY = 6,         /* 1 to 5 bytes where a chunk would start (place: the first of them) */
+    TDS_MISPLACED = 7,     /* a known chunk where it may not stand */
+    TDS_TWICE = 8,         /* a chunk that may be there only once (place: the later one) */
+    TDS_NAME = 9,          /* a name without the zero byte that ends it */
+    TDS_LENGTH = 10,       /* a chunk too long or too short for what it holds */
+    TDS_NUMBER = 11,       /* an infinite coordinate, or one that is not a number */
+    TDS_INDEX = 12,        /* a corner or face number that does not exist */
+    TDS_COUNT = 13,        /* mapping coordinates whose count is not that of the vertices */
+    TDS_MISSING = 14,      /* a chunk that must be there is not (place: the chunk around it) */
+    TDS_NO_ROOM = 15,      /* a lent slice is too small (place: records or numbers needed) */
+    TDS_NO_SUCH_MESH = 16, /* the file is good but has no such mesh (place: how many it has) */
+    TDS_EMPTY = 17         /* the file is good but the mesh has no vertices, so no box (place 0) */
+};
+
+/* Taking an answer apart. Each macro looks at its argument once. */
+
+/* Not 0 exactly when the answer is a refusal. */
+#define TDS_REFUSED(answer) (((uint64_t)(answer) >> 32) != 0)
+
+/* The number of the refusal, an enum tds_refusal; TDS_ACCEPTED when there is none. */
+#define TDS_REFUSAL(answer) ((int)((uint64_t)(answer) >> 32))
+
+/* The place of a refusal. */
+#define TDS_PLACE(answer) ((uint32_t)(answer))
+
+/* Of an answer of tds_tables that is no refusal: how many vertices and how many faces. */
+#define TDS_VERTICES(answer) ((uint32_t)(answer) % 65536)
+#define TDS_FACES(answer) ((uint32_t)(answer) / 65536)
+
+/*
+ * Is this file a figure?
+ *
+ * Answers the count of its records (its known chunks, 2 at least and at most 174,762), or a refusal
+ * from 1 to 14.
+ */
+uint64_t tds_check(const uint8_t *file, size_t file_len);
+
+/*
+ * The list of the known chunks, in file order, one record each.
+ *
+ * Answers the count of records and fills as many, from the start of the slice; or refuses with 1 to
+ * 14, or 15 with the records needed (place). Room is records_len / TDS_RECORD_BYTES records.
+ *
+ * A record is six numbers, in the order of enum tds_record; tds_get_record reads one of them.
+ */
+uint64_t tds_list(const uint8_t *file, size_t file_len, uint8_t *records, size_t records_len);
+
+#define TDS_RECORD_NUMBERS 6
+#define TDS_RECORD_BYTES (4 * TDS_RECORD_NUMBERS)
+
+enum tds_record {
+    TDS_RECORD_ID = 0,     /* the identifier, as 0x4D4D */
+    TDS_RECORD_OFFSET = 1, /* where the chunk starts in the file */
+    TDS_RECORD_LENGTH = 2, /* its length, with its header and all that is inside it */
+    TDS_RECORD_DEPTH = 3,  /* 0 for 4D4D, 1 for the chunks in it, and so on */
+    TDS_RECORD_PARENT = 4, /* the record number, from 0, of the chunk around it; 0 for 4D4D */
+    TDS_RECORD_OWN = 5     /* bytes of its own data: no header, no chunks inside it */
+};
+
+/*
+ * The identifiers that lead to a mesh, for reading the list. A mesh is a 4100; meshes are numbered
+ * from 0 in file order. Its parent is its object, a 4000, which has the name. A mesh with vertices
+ * has one 4110 (own data 2 + 12 * vertices), one with faces one 4120 (own data 2 + 8 * faces).
+ */
+#define TDS_ID_FIGURE 0x4D4Du
+#define TDS_ID_EDITOR 0x3D3Du
+#define TDS_ID_OBJECT 0x4000u
+#define TDS_ID_MESH 0x4100u
+#define TDS_ID_VERTICES 0x4110u
+#define TDS_ID_FACES 0x4120u
+
+/*
+ * The tables of one mesh (number `mesh` in file order, from 0).
+ *
+ * Fills three floats x, y, z for each vertex (12 bytes a vertex) and three corners for each face (6
+ * bytes a face; a corner is the number of a vertex, from 0). Answers vertices + 65536 * faces; or
+ * refuses with 1 to 14; 16 with the count of meshes; or 15 with the numbers needed (place): 3 *
+ * vertices if the slice for vertices is too small, else 3 * faces. Room is vertices_len / 4 and
+ * corners_len / 2 numbers. Either both are filled or none.
+ */
+uint64_t tds_tables(const uint8_t *file, size_t file_len, uint32_t mesh, uint8_t *vertices,
+                    size_t vertices_len, uint8_t *corners, size_t corners_len);
+
+/*
+ * Where the bytes of a file went.
+ *
+ * Fills three numbers: headers (6 for each record), own data of all records, and bytes of unknown
+ * chunks that were stepped over. Their sum is file_len. Answers 3 (numbers filled), or refuses with
+ * 1 to 14, or 15 with 3 (place). Room is counts_len / 4 numbers.
+ */
+uint64_t tds_counts(const uint8_t *file, size_t file_len, uint8_t *counts, size_t counts_len);
+
+/*
+ * The name of a mesh: that of the object it is in.
+ *
+ * Fills two numbers: the offset of the name in the file and its length without the zero byte that
+ * ends it. The length may be 0. The name is any bytes but zero: mind what you print. Answers 2
+ * (numbers filled), or refuses with 1 to 14; 16 with the count of meshes; or 15 with 2 (place).
+ * Room is span_len / 4 numbers.
+ */
+uint64_t tds_name(const uint8_t *file, size_t file_len, uint32_t mesh, uint8_t *span,
+                  size_t span_len);
+
+/*
+ * The box around the vertices of a mesh, and its centre.
+ *
+ * Fills nine floats: the lowest x, y, z; the highest x, y, z; the centre x, y, z. Lowest and
+ * highest are bit for bit those of the file, the first in file order where several are equal (0 and
+ * -0 are equal). The centre is low / 2 + high / 2, each operation rounded once to a single. Answers
+ * 9 (numbers filled), or refuses with 1 to 14; 16 with the count of meshes; 17 if the mesh has no
+ * vertices; or 15 with 9 (place). Room is box_len / 4 numbers.
+ */
+uint64_t tds_box(const uint8_t *file, size_t file_len, uint32_t mesh, uint8_t *box, size_t box_len);
+
+/*
+ * Writes a bare figure: one object with one mesh.
+ *
+ * Takes a name without its zero, x, y, z of each vertex, and three corners of each face. Here the
+ * lengths of the rows are in numbers, and the rows are the machine's own floats and 16-bit numbers,
+ * aligned as the language wants them; name_len and out_len are bytes. Fills the file from the start
+ * of the slice `out` and answers its size in bytes, 41 + name_len + 4 * vertices_len +
+ * 8 * (corners_len / 3); the bytes behind keep their contents. Or it refuses, changing nothing,
+ * with the first of these that holds, the place being the first fault of its kind:
+ *
+ *    9  the name holds a zero byte (place: its position in the name)
+ *   13  vertices_len is no multiple of 3, or over 196,605 (place: vertices_len);
+ *       then the same of corners_len (place: corners_len)
+ *   11  a float is infinite or not a number (place: its position in the row)
+ *   12  a corner is not below the count of vertices (place: its position in the row)
+ *    1  the size would be over 1,048,576 (place 0)
+ *   15  out_len is below the size (place: the size)
+ *
+ * A place that would not fit in 32 bits is given as 2^32 - 1. What it writes is accepted by every
+ * call above, and reads back to the same name, floats (bit for bit) and corners.
+ */
+uint64_t tds_write(const uint8_t *name, size_t name_len, const float *vertices, size_t vertices_len,
+                   const uint16_t *corners, size_t corners_len, uint8_t *out, size_t out_len);
+
+/* The words below are what C89, C99 and C++ call a function that lives in a header. */
+#if defined(__cplusplus) || (defined(__STDC_VERSION__) && __STDC_VERSION__ >= 199901L)
+#define TDS_INLINE static inline
+#elif defined(__GNUC__)
+#define TDS_INLINE static __inline__
+#else
+#define TDS_INLINE static
+#endif
+
+/* Two bytes of a filled slice as a number. */
+TDS_INLINE uint16_t tds_get2(const uint8_t *at) {
+    return (uint16_t)(at[0] | (uint16_t)(at[1] << 8));
+}
+
+/* Four bytes of a filled slice as a number. */
+TDS_INLINE uint32_t tds_get4(const uint8_t *at) {
+    return (uint32_t)at[0] | (uint32_t)at[1] << 8 | (uint32_t)at[2] << 16 | (uint32_t)at[3] << 24;
+}
+
+/* Four bytes of a filled slice as a float. */
+TDS_INLINE float tds_get_float(const uint8_t *at) {
+    uint32_t bits = tds_get4(at);
+    float number;
+    memcpy(&number, &bits, sizeof number);
+    return number;
+}
+
+/* One number of one record of a filled list. */
+TDS_INLINE uint32_t tds_get_record(const uint8_t *records, size_t record, enum tds_record number) {
+    return tds_get4(records + record * TDS_RECORD_BYTES + 4 * (size_t)number);
+}
+
+#ifdef __cplusplus
+}
+#endif
+
+#endif

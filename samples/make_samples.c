@@ -1,0 +1,102 @@
+/*
+ * Makes the sample edition and the damaged samples, the same bytes on every machine.
+ *
+ *     make_samples FOLDER              FOLDER/edition/ and FOLDER/damaged/
+ *     make_samples --too-long FILE     the one damaged figure that is too long to be kept
+ *
+ * FOLDER/damaged/expected.txt says of each damaged figure its refusal: file, number and place.
+ */
+#include <errno.h>
+#include <stdio.h>
+#include <stdlib.h>
+#include <string.h>
+#include <sys/stat.h>
+
+#include "damage.h"
+#include "edition.h"
+
+/* The path of a file in a folder; the caller frees it. */
+static char *path_of(const char *folder, const char *file) {
+    size_t size = strlen(folder) + strlen(file) + 2;
+    char *path = malloc(size);
+    if (path == NULL) {
+        give_up("no memory");
+    }
+    snprintf(path, size, "%s/%s", folder, file);
+    return path;
+}
+
+static void write_file(const char *path, const struct figure *figure) {
+    FILE *stream = fopen(path, "wb");
+    size_t written = stream == NULL ? 0 : fwrite(figure->bytes, 1, figure->length, stream);
+    if (stream == NULL || fclose(stream) != 0 || written != figure->length) {
+        fprintf(stderr, "%s: %s\n", path, strerror(errno));
+        give_up("a sample could not be written");
+    }
+}
+
+static char *make_folder(const char *folder, const char *name) {
+    char *path = path_of(folder, name);
+    if (mkdir(path, 0777) != 0 && errno != EEXIST) {
+        fprintf(stderr, "%s: %s\n", path, strerror(errno));
+        give_up("a folder could not be made");
+    }
+    return path;
+}
+
+static void write_in(const char *folder, const char *file, const struct figure *figure) {
+    char *path = path_of(folder, file);
+    write_file(path, figure);
+    free(path);
+}
+
+static void make_edition(const char *parent) {
+    char *folder = make_folder(parent, "edition");
+    for (const struct tool *tool = edition; tool->file != NULL; tool++) {
+        struct figure figure = {0};
+        tool->make(&figure);
+        write_in(folder, tool->file, &figure);
+        free_figure(&figure);
+    }
+    free(folder);
+}
+
+/* One line of expected.txt. */
+static void expect(struct figure *expected, const struct damage *damage, size_t place) {
+    char line[200];
+    int length = snprintf(line, sizeof line, "%s %d %zu\n", damage->file, damage->refusal, place);
+    put_bytes(expected, line, (size_t)length);
+}
+
+static void make_damaged(const char *parent) {
+    char *folder = make_folder(parent, "damaged");
+    struct figure expected = {0};
+    for (const struct damage *damage = damages; damage->file != NULL; damage++) {
+        struct figure figure = {0};
+        damage->make(&figure);
+        expect(&expected, damage, damage->damage(&figure));
+        write_in(folder, damage->file, &figure);
+        free_figure(&figure);
+    }
+    write_in(folder, "expected.txt", &expected);
+    free_figure(&expected);
+    free(folder);
+}
+
+int main(int argc, char **argv) {
+    if (argc == 3 && strcmp(argv[1], "--too-long") == 0) {
+        struct figure figure = {0};
+        too_long.make(&figure);
+        too_long.damage(&figure);
+        write_file(argv[2], &figure);
+        free_figure(&figure);
+        return 0;
+    }
+    if (argc != 2) {
+        fprintf(stderr, "usage: make_samples FOLDER | make_samples --too-long FILE\n");
+        return 2;
+    }
+    make_edition(argv[1]);
+    make_damaged(argv[1]);
+    return 0;
+}

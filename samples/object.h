@@ -1,0 +1,28 @@
+/* Objects of a figure: what our writer makes of a mesh, with more chunks put around it. */
+#ifndef SAMPLES_OBJECT_H
+#define SAMPLES_OBJECT_H
+
+#include "compose.h"
+#include "shapes.h"
+
+/* What an object has beside its name, vertices and faces. */
+struct extras {
+    const char *material;  /* of all its faces, or NULL */
+    int smoothing;         /* whether its faces have smoothing groups */
+    int mapping;           /* whether its vertices have mapping coordinates */
+    int axes;              /* whether it has a local system of axes */
+    int private_chunks;    /* whether a private chunk stands in each of its gaps */
+    size_t private_length; /* if not 0: a private chunk makes the whole object this long */
+};
+
+/* The whole figure of one object, as our writer makes it. */
+void put_bare_figure(struct figure *figure, const char *name, const struct mesh *mesh);
+
+/* One object inside an open 3D3D. */
+void put_object(struct figure *figure, const char *name, const struct mesh *mesh,
+                const struct extras *extras);
+
+/* A chunk of another house, of an identifier that is in no table; there are several kinds. */
+void put_private(struct figure *figure, int kind);
+
+#endif

@@ -1,0 +1,150 @@
+//! The comparison on the command line: many cases from a seed, every bit of
+//! some files turned, or all figures in some folders.
+
+use second::boundary::{Boundary, Right, Second, LINKED};
+use second::differ::compare::Pair;
+use second::differ::run::{run, words, Plan};
+use second::differ::seeded::{Seeded, ERRORS};
+use second::differ::{real, turned};
+use std::path::Path;
+use std::process::ExitCode;
+use std::time::Instant;
+
+const USAGE: &str = "differ --count N --seed S      both sides over N files grown from a seed
+                               (--trace names each case before it is run)
+differ --turned FILE...        every bit of some files turned
+differ --real FOLDER...        both sides over the figures in some folders
+differ --seeded                the second reader against errors seeded on purpose";
+
+fn main() -> ExitCode {
+    let arguments: Vec<String> = std::env::args().skip(1).collect();
+    let arguments: Vec<&str> = arguments.iter().map(String::as_str).collect();
+    if LINKED {
+        println!("left: the second reader; right: the library under test");
+    } else {
+        println!("*** NOTHING IS TESTED: the library under test is not linked, and the second");
+        println!("*** reader is compared with itself (build with --features tds and TDS_LIB_DIR)");
+    }
+    let pair = &mut Pair::new(Second, Right::default());
+    let outcome = match arguments[..] {
+        ["--turned", ref files @ ..] => all_turned(files, pair),
+        ["--real", ref folders @ ..] => all_real(folders, pair),
+        ["--seeded"] => all_seeded(),
+        _ => match plan(&arguments) {
+            Some(plan) => grown(plan, pair),
+            None => Err(USAGE.to_string()),
+        },
+    };
+    match outcome {
+        Ok(()) => ExitCode::SUCCESS,
+        Err(text) => {
+            println!("{text}");
+            ExitCode::FAILURE
+        }
+    }
+}
+
+/// The count and the seed, if the arguments are just these.
+fn plan(arguments: &[&str]) -> Option<Plan> {
+    let mut plan = Plan {
+        count: 200_000,
+        seed: 1,
+        loud: true,
+        trace: false,
+    };
+    let mut rest = arguments;
+    loop {
+        rest = match rest {
+            [] => return Some(plan),
+            ["--trace", rest @ ..] => {
+                plan.trace = true;
+                rest
+            }
+            ["--count", count, rest @ ..] => {
+                plan.count = count.parse().ok()?;
+                rest
+            }
+            ["--seed", seed, rest @ ..] => {
+                plan.seed = seed.parse().ok()?;
+                rest
+            }
+            _ => return None,
+        };
+    }
+}
+
+/// Many cases from a seed.
+fn grown<L: Boundary, R: Boundary>(plan: Plan, pair: &mut Pair<L, R>) -> Result<(), String> {
+    let begin = Instant::now();
+    match run(plan, pair) {
+        Ok(total) => {
+            let seconds = begin.elapsed().as_secs_f64();
+            println!("{:<46}{seconds:>7.1} s {}", "Total", words(&total));
+            Ok(())
+        }
+        Err(failure) => Err(failure.shrunk(plan.seed, pair).words(plan.seed)),
+    }
+}
+
+fn read(path: &Path) -> Result<Vec<u8>, String> {
+    std::fs::read(path).map_err(|error| format!("{}: {error}", path.display()))
+}
+
+/// Every bit of some files turned.
+fn all_turned<L: Boundary, R: Boundary>(
+    files: &[&str],
+    pair: &mut Pair<L, R>,
+) -> Result<(), String> {
+    for path in files {
+        let file = read(Path::new(path))?;
+        let turned = turned::turned(&file, pair).map_err(|found| format!("{path}\n{found}"))?;
+        let verdict = pair.right.check(&file);
+        println!("{path}: {}", turned::words(&turned, verdict));
+    }
+    Ok(())
+}
+
+/// All figures in some folders.
+fn all_real<L: Boundary, R: Boundary>(
+    folders: &[&str],
+    pair: &mut Pair<L, R>,
+) -> Result<(), String> {
+    println!("{}", real::HEAD);
+    for folder in folders {
+        let files = real::files(Path::new(folder)).map_err(|error| format!("{folder}: {error}"))?;
+        for path in files {
+            let shown = path.display();
+            let line = real::line(&read(&path)?, pair);
+            println!(
+                "{}  {shown}",
+                line.map_err(|found| format!("{shown}\n{found}"))?
+            );
+        }
+    }
+    Ok(())
+}
+
+/// The smallest file that shows each of the errors seeded on purpose.
+fn all_seeded() -> Result<(), String> {
+    for error in std::iter::once(None).chain(ERRORS.iter().copied().map(Some)) {
+        let plan = Plan {
+            count: if error.is_some() { 6_000 } else { 1_000_000 },
+            seed: 7,
+            loud: error.is_none(),
+            trace: false,
+        };
+        let pair = &mut Pair::new(Second, Seeded { error });
+        match (error, run(plan, pair)) {
+            (None, Ok(_)) => println!("no error: no difference"),
+            (Some(error), Err(failure)) => {
+                println!(
+                    "{error:?}: {}",
+                    failure.shrunk(plan.seed, pair).words(plan.seed)
+                );
+            }
+            (None, Err(failure)) => return Err(failure.shrunk(plan.seed, pair).words(plan.seed)),
+            (Some(error), Ok(_)) => return Err(format!("{error:?}: not seen")),
+        }
+    }
+    Ok(())
+}

@@ -1,0 +1,257 @@
+//! The boundary to C: seven calls on numbers and byte slices, each of which
+//! answers one 64-bit number; this library behind it, and the one under test.
+
+use crate::{bounding_box, check, list, name, tables, write, Refusal};
+
+/// The bytes of one record on the boundary.
+pub const RECORD_BYTES: usize = 24;
+
+/// The calls of the boundary, over slices.
+pub trait Boundary {
+    /// The count of records.
+    fn check(&self, file: &[u8]) -> u64;
+    /// The count of records, now in the slice.
+    fn list(&self, file: &[u8], records: &mut [u8]) -> u64;
+    /// Vertices plus 65,536 times faces, now in the slices.
+    fn tables(&self, file: &[u8], mesh: u32, vertices: &mut [u8], corners: &mut [u8]) -> u64;
+    /// 3: headers, own data, skipped.
+    fn counts(&self, file: &[u8], counts: &mut [u8]) -> u64;
+    /// 2: offset and length.
+    fn name(&self, file: &[u8], mesh: u32, span: &mut [u8]) -> u64;
+    /// 9: low, high, centre.
+    fn bounding_box(&self, file: &[u8], mesh: u32, floats: &mut [u8]) -> u64;
+    /// The size of the figure, now in the slice.
+    fn write(&self, name: &[u8], vertices: &[f32], corners: &[u16], out: &mut [u8]) -> u64;
+}
+
+/// A refusal as the boundary answers it; a place too wide is capped.
+pub fn refused(number: u32, place: usize) -> u64 {
+    (u64::from(number) << 32) + u64::from(u32::try_from(place).unwrap_or(u32::MAX))
+}
+
+/// The number and place of an answer that is a refusal.
+pub fn refusal(answer: u64) -> Option<(u32, u32)> {
+    let number = (answer >> 32) as u32;
+    (number != 0).then_some((number, answer as u32))
+}
+
+/// This library, in the boundary's manner.
+#[derive(Clone, Copy, Debug, Default)]
+pub struct Second;
+
+impl Boundary for Second {
+    fn check(&self, file: &[u8]) -> u64 {
+        answer(check(file).map(|counts| counts.records))
+    }
+
+    fn list(&self, file: &[u8], records: &mut [u8]) -> u64 {
+        let whole = records.len() / RECORD_BYTES * RECORD_BYTES;
+        let mut row: Vec<u32> = numbers(&records[..whole]);
+        let listed = list(file, &mut row);
+        if listed.is_ok() {
+            put(records, row.iter().map(|number| number.to_le_bytes()));
+        }
+        answer(listed.map(|counts| counts.records))
+    }
+
+    fn tables(&self, file: &[u8], mesh: u32, vertices: &mut [u8], corners: &mut [u8]) -> u64 {
+        let floats = numbers(vertices).into_iter().map(f32::from_bits);
+        let mut floats: Vec<f32> = floats.collect();
+        let words = corners.as_chunks().0.iter();
+        let mut words: Vec<u16> = words.map(|word| u16::from_le_bytes(*word)).collect();
+        let filled = tables(file, mesh, &mut floats, &mut words);
+        if filled.is_ok() {
+            put(vertices, floats.iter().map(|float| float.to_le_bytes()));
+            put(corners, words.iter().map(|word| word.to_le_bytes()));
+        }
+        answer(filled.map(|(n, f)| n + 65_536 * f))
+    }
+
+    fn counts(&self, file: &[u8], counts: &mut [u8]) -> u64 {
+        let counted = check(file);
+        let three = counted.map(|count| [count.headers, count.own, count.skipped]);
+        few(three.map(|three| three.map(|count| count as u32)), counts)
+    }
+
+    fn name(&self, file: &[u8], mesh: u32, span: &mut [u8]) -> u64 {
+        let two = name(file, mesh).map(|(offset, length)| [offset as u32, length as u32]);
+        few(two, span)
+    }
+
+    fn bounding_box(&self, file: &[u8], mesh: u32, floats: &mut [u8]) -> u64 {
+        let nine = bounding_box(file, mesh).map(|found| {
+            let corners = [found.low, found.high, found.centre];
+            let mut nine = [0; 9];
+            for (slot, float) in nine.iter_mut().zip(corners.as_flattened()) {
+                *slot = float.to_bits();
+            }
+            nine
+        });
+        few(nine, floats)
+    }
+
+    fn write(&self, name: &[u8], vertices: &[f32], corners: &[u16], out: &mut [u8]) -> u64 {
+        answer(write(name, vertices, corners, out))
+    }
+}
+
+/// The answer of a call: what it counts to, or its refusal.
+fn answer(result: Result<usize, Refusal>) -> u64 {
+    match result {
+        Ok(count) => count as u64,
+        Err(Refusal { number, place }) => refused(number, place),
+    }
+}
+
+/// The whole numbers in a slice.
+fn numbers(bytes: &[u8]) -> Vec<u32> {
+    let whole = bytes.as_chunks().0.iter();
+    whole.map(|number| u32::from_le_bytes(*number)).collect()
+}
+
+/// Puts numbers into a slice, as many as there are.
+fn put<const N: usize>(bytes: &mut [u8], numbers: impl Iterator<Item = [u8; N]>) {
+    for (slot, number) in bytes.as_chunks_mut().0.iter_mut().zip(numbers) {
+        *slot = number;
+    }
+}
+
+/// The answer of a call that fills a few numbers, whose room is judged last.
+fn few<const N: usize>(result: Result<[u32; N], Refusal>, bytes: &mut [u8]) -> u64 {
+    let filled = result.and_then(|numbers| {
+        crate::Number::NoRoom.unless(bytes.len() / 4 >= N, N)?;
+        put(bytes, numbers.iter().map(|number| number.to_le_bytes()));
+        Ok(N)
+    });
+    answer(filled)
+}
+
+#[cfg(feature = "tds")]
+pub use linked::Tds;
+
+#[cfg(feature = "tds")]
+mod linked {
+    //! The library under test, called as C calls it; slices without bytes
+    //! are handed over with the address of something that is there.
+
+    use super::Boundary;
+
+    extern "C" {
+        fn tds_check(file: *const u8, file_len: usize) -> u64;
+        fn tds_list(file: *const u8, file_len: usize, records: *mut u8, records_len: usize) -> u64;
+        fn tds_tables(
+            file: *const u8,
+            file_len: usize,
+            mesh: u32,
+            vertices: *mut u8,
+            vertices_len: usize,
+            corners: *mut u8,
+            corners_len: usize,
+        ) -> u64;
+        fn tds_counts(file: *const u8, file_len: usize, counts: *mut u8, counts_len: usize) -> u64;
+        fn tds_name(
+            file: *const u8,
+            file_len: usize,
+            mesh: u32,
+            span: *mut u8,
+            span_len: usize,
+        ) -> u64;
+        fn tds_box(
+            file: *const u8,
+            file_len: usize,
+            mesh: u32,
+            floats: *mut u8,
+            floats_len: usize,
+        ) -> u64;
+        fn tds_write(
+            name: *const u8,
+            name_len: usize,
+            vertices: *const f32,
+            vertices_len: usize,
+            corners: *const u16,
+            corners_len: usize,
+            out: *mut u8,
+            out_len: usize,
+        ) -> u64;
+    }
+
+    /// The address of a slice that is only read; of a stand-in if it is empty.
+    fn read<T: Copy>(slice: &[T], stand_in: &'static [T; 1]) -> *const T {
+        match slice {
+            [] => stand_in.as_ptr(),
+            _ => slice.as_ptr(),
+        }
+    }
+
+    /// The address of a slice that is lent; of a stand-in if it is empty.
+    fn lend(slice: &mut [u8], stand_in: &mut [u8; 8]) -> *mut u8 {
+        match slice {
+            [] => stand_in.as_mut_ptr(),
+            _ => slice.as_mut_ptr(),
+        }
+    }
+
+    /// The library under test.
+    #[derive(Clone, Copy, Debug, Default)]
+    pub struct Tds;
+
+    // Every call hands over addresses with the count of elements behind them;
+    // the slices live through the call, and the lent ones are held alone.
+    impl Boundary for Tds {
+        fn check(&self, file: &[u8]) -> u64 {
+            unsafe { tds_check(read(file, &[0]), file.len()) }
+        }
+
+        fn list(&self, file: &[u8], records: &mut [u8]) -> u64 {
+            let (len, mut some) = (records.len(), [0; 8]);
+            let records = lend(records, &mut some);
+            unsafe { tds_list(read(file, &[0]), file.len(), records, len) }
+        }
+
+        fn tables(&self, file: &[u8], mesh: u32, vertices: &mut [u8], corners: &mut [u8]) -> u64 {
+            let (n, f) = (vertices.len(), corners.len());
+            let (mut some, mut more) = ([0; 8], [0; 8]);
+            let vertices = lend(vertices, &mut some);
+            let corners = lend(corners, &mut more);
+            let (file, len) = (read(file, &[0]), file.len());
+            unsafe { tds_tables(file, len, mesh, vertices, n, corners, f) }
+        }
+
+        fn counts(&self, file: &[u8], counts: &mut [u8]) -> u64 {
+            let (len, mut some) = (counts.len(), [0; 8]);
+            let counts = lend(counts, &mut some);
+            unsafe { tds_counts(read(file, &[0]), file.len(), counts, len) }
+        }
+
+        fn name(&self, file: &[u8], mesh: u32, span: &mut [u8]) -> u64 {
+            let (len, mut some) = (span.len(), [0; 8]);
+            let span = lend(span, &mut some);
+            unsafe { tds_name(read(file, &[0]), file.len(), mesh, span, len) }
+        }
+
+        fn bounding_box(&self, file: &[u8], mesh: u32, floats: &mut [u8]) -> u64 {
+            let (len, mut some) = (floats.len(), [0; 8]);
+            let floats = lend(floats, &mut some);
+            unsafe { tds_box(read(file, &[0]), file.len(), mesh, floats, len) }
+        }
+
+        fn write(&self, name: &[u8], vertices: &[f32], corners: &[u16], out: &mut [u8]) -> u64 {
+            let (len, mut some) = (out.len(), [0; 8]);
+            let out = lend(out, &mut some);
+            let (a, a_len) = (read(name, &[0]), name.len());
+            let (b, b_len) = (read(vertices, &[0.0]), vertices.len());
+            let (c, c_len) = (read(corners, &[0]), corners.len());
+            unsafe { tds_write(a, a_len, b, b_len, c, c_len, out, len) }
+        }
+    }
+}
+
+/// The right-hand side of every comparison: the library under test where it
+/// is linked, else this library again, to try the comparison itself.
+#[cfg(feature = "tds")]
+pub type Right = Tds;
+#[cfg(not(feature = "tds"))]
+pub type Right = Second;
+
+/// Whether the right-hand side is the library under test.
+pub const LINKED: bool = cfg!(feature = "tds");

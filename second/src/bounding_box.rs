@@ -1,0 +1,41 @@
+//! The box of one mesh: the low and high corner, the first in file order
+//! among equals, and the centre between them.
+
+use crate::bytes::bits;
+use crate::judge::find;
+use crate::{Number, Refusal};
+
+/// Two corners and the centre, each x, y, z.
+#[derive(Clone, Copy, Debug, PartialEq)]
+pub struct BoundingBox {
+    pub low: [f32; 3],
+    pub high: [f32; 3],
+    pub centre: [f32; 3],
+}
+
+/// The box of a mesh; one with no vertices has none.
+pub fn bounding_box(file: &[u8], mesh: u32) -> Result<BoundingBox, Refusal> {
+    let vertices = find(file, mesh)?.mesh.vertices;
+    Number::Empty.unless(vertices.count > 0, 0)?;
+    let start = vertices.start();
+    let points = file[start..start + 12 * vertices.count].as_chunks::<12>().0;
+    let first = point(&points[0]);
+    let (mut low, mut high) = (first, first);
+    for bytes in &points[1..] {
+        let point = point(bytes);
+        for axis in 0..3 {
+            let (number, so_low, so_high) = (point[axis], low[axis], high[axis]);
+            low[axis] = if number < so_low { number } else { so_low };
+            high[axis] = if number > so_high { number } else { so_high };
+        }
+    }
+    let centre = std::array::from_fn(|axis| low[axis] * 0.5 + high[axis] * 0.5);
+    Ok(BoundingBox { low, high, centre })
+}
+
+/// The three floats of a vertex.
+#[inline(always)]
+fn point(bytes: &[u8; 12]) -> [f32; 3] {
+    let mut numbers = bits(bytes).map(f32::from_bits);
+    std::array::from_fn(|_| numbers.next().unwrap_or_default())
+}

@@ -1,0 +1,257 @@
+//! One file, both sides: the same calls with the same rooms, and the answers
+//! and all lent bytes compared, those around the lent ones too.
+
+use super::random::Random;
+use crate::boundary::{refusal, Boundary, RECORD_BYTES};
+use std::fmt;
+
+/// The bytes kept on each side of a lent slice, to see writing outside it.
+const GUARD: usize = 16;
+
+/// One call, with the bytes it lends.
+#[derive(Clone, Copy, Debug, PartialEq, Eq)]
+pub enum Call {
+    Check,
+    List(usize),
+    Counts(usize),
+    Tables(u32, usize, usize),
+    Name(u32, usize),
+    Box(u32, usize),
+}
+
+/// What is wrong between two sides.
+#[derive(Clone, Debug)]
+pub struct Difference {
+    pub call: String,
+    pub left: String,
+    pub right: String,
+}
+
+impl fmt::Display for Difference {
+    fn fmt(&self, to: &mut fmt::Formatter<'_>) -> fmt::Result {
+        let Difference { call, left, right } = self;
+        write!(to, "  call   {call}\n  left   {left}\n  right  {right}")
+    }
+}
+
+/// An answer in words.
+pub fn spoken(answer: u64) -> String {
+    match refusal(answer) {
+        Some((number, place)) => format!("refused {number} {place}"),
+        None => format!("answered {answer}"),
+    }
+}
+
+/// Two sides, and the bytes they are lent.
+pub struct Pair<L, R> {
+    pub left: L,
+    pub right: R,
+    /// How often each answer was met: 0 for accepted, else the number.
+    pub met: [u64; 18],
+    canary: Vec<u8>,
+    ours: [Vec<u8>; 2],
+    theirs: [Vec<u8>; 2],
+}
+
+impl<L: Boundary, R: Boundary> Pair<L, R> {
+    pub fn new(left: L, right: R) -> Pair<L, R> {
+        let mut random = Random::of_case(0, 0, 0);
+        Pair {
+            left,
+            right,
+            met: [0; 18],
+            canary: random.bytes(6 * 1_048_576),
+            ours: Default::default(),
+            theirs: Default::default(),
+        }
+    }
+
+    /// Makes one call on both sides; the answer, if they agree in everything.
+    pub fn ask(&mut self, file: &[u8], call: Call) -> Result<u64, Difference> {
+        let lent = call.lent();
+        for (which, bytes) in lent.into_iter().enumerate() {
+            let fresh = &self.canary[which..which + bytes + 2 * GUARD];
+            for buffers in [&mut self.ours, &mut self.theirs] {
+                buffers[which].clear();
+                buffers[which].extend_from_slice(fresh);
+            }
+        }
+        let left = make(&self.left, file, call, &mut self.ours);
+        let right = make(&self.right, file, call, &mut self.theirs);
+        if left != right || self.ours != self.theirs || !self.kept(call, left) {
+            return Err(self.difference(call, left, right));
+        }
+        self.met[(left >> 32).min(17) as usize] += 1;
+        Ok(left)
+    }
+
+    /// Whether all bytes but those filled are as they were.
+    fn kept(&self, call: Call, answer: u64) -> bool {
+        let filled = call.filled(answer);
+        (0..2).all(|which| {
+            let buffer = &self.ours[which];
+            let fresh = &self.canary[which..which + buffer.len()];
+            let end = GUARD + filled[which];
+            buffer[..GUARD] == fresh[..GUARD] && buffer.get(end..) == fresh.get(end..)
+        })
+    }
+
+    fn difference(&self, call: Call, left: u64, right: u64) -> Difference {
+        let [left, right] = [(left, &self.ours), (right, &self.theirs)].map(|(answer, buffers)| {
+            let parts = [0, 1].map(|which| {
+                let fresh = &self.canary[which..which + buffers[which].len()];
+                changed(&buffers[which], fresh)
+            });
+            format!("{}{}{}", spoken(answer), parts[0], parts[1])
+        });
+        let call = format!("{call:?}");
+        Difference { call, left, right }
+    }
+}
+
+/// The bytes of a lent slice that are not as they were, in words.
+fn changed(buffer: &[u8], fresh: &[u8]) -> String {
+    let differ = |at: &usize| buffer[*at] != fresh[*at];
+    let Some(first) = (0..buffer.len()).find(differ) else {
+        return String::new();
+    };
+    let last = (0..buffer.len()).rfind(differ).unwrap_or(first);
+    let shown = &buffer[first..=last.min(first + 255)];
+    let start = first as i64 - GUARD as i64;
+    format!(", from byte {start} wrote {}", hex(shown))
+}
+
+/// Bytes as hex digits.
+pub fn hex(bytes: &[u8]) -> String {
+    bytes.iter().map(|byte| format!("{byte:02X}")).collect()
+}
+
+/// Makes one call with slices inside the buffers.
+fn make(side: &impl Boundary, file: &[u8], call: Call, buffers: &mut [Vec<u8>; 2]) -> u64 {
+    let [first, second] = buffers.each_mut().map(|buffer| {
+        let end = buffer.len() - GUARD;
+        &mut buffer[GUARD..end]
+    });
+    match call {
+        Call::Check => side.check(file),
+        Call::List(_) => side.list(file, first),
+        Call::Counts(_) => side.counts(file, first),
+        Call::Tables(mesh, ..) => side.tables(file, mesh, first, second),
+        Call::Name(mesh, _) => side.name(file, mesh, first),
+        Call::Box(mesh, _) => side.bounding_box(file, mesh, first),
+    }
+}
+
+impl Call {
+    /// The bytes lent in the two slices.
+    fn lent(self) -> [usize; 2] {
+        match self {
+            Call::Check => [0, 0],
+            Call::List(bytes) | Call::Counts(bytes) => [bytes, 0],
+            Call::Name(_, bytes) | Call::Box(_, bytes) => [bytes, 0],
+            Call::Tables(_, vertices, corners) => [vertices, corners],
+        }
+    }
+
+    /// The bytes that an answer says are filled.
+    fn filled(self, answer: u64) -> [usize; 2] {
+        let count = answer as usize;
+        match self {
+            _ if refusal(answer).is_some() => [0, 0],
+            Call::Check => [0, 0],
+            Call::List(_) => [RECORD_BYTES * count, 0],
+            Call::Tables(..) => [12 * (count & 0xFFFF), 6 * (count >> 16)],
+            Call::Counts(_) | Call::Name(..) | Call::Box(..) => [4 * count, 0],
+        }
+    }
+}
+
+impl<L: Boundary, R: Boundary> Pair<L, R> {
+    /// All calls over one file, with rooms around those needed; the answer of
+    /// the check, if both sides agree in all.
+    pub fn whole(&mut self, file: &[u8], random: &mut Random) -> Result<u64, Difference> {
+        let answer = self.ask(file, Call::Check)?;
+        if refusal(answer).is_some() {
+            self.refused(file, answer, random)?;
+            return Ok(answer);
+        }
+        let needed = RECORD_BYTES * answer as usize;
+        self.ask(file, Call::List(needed + random.below(30)))?;
+        self.ask(file, Call::List(needed - 1 - random.below(24)))?;
+        self.ask(file, Call::List(random.below(needed + 40)))?;
+        self.ask(file, Call::Counts(12 + random.below(6)))?;
+        self.ask(file, Call::Counts(random.below(12)))?;
+        let count = self.ask(file, Call::Name(u32::MAX, 8))? as u32;
+        self.meshes(file, count, random)?;
+        Ok(answer)
+    }
+
+    /// All other calls over a file that is refused answer the same.
+    fn refused(&mut self, file: &[u8], answer: u64, random: &mut Random) -> Result<(), Difference> {
+        let mesh = random.pick(&[0, 1, 2, u32::MAX]);
+        let calls = [
+            Call::List(random.below(200)),
+            Call::Counts(random.below(16)),
+            Call::Tables(mesh, random.below(50), random.below(30)),
+            Call::Name(mesh, random.below(12)),
+            Call::Box(mesh, random.below(44)),
+        ];
+        for call in calls {
+            let other = self.ask(file, call)?;
+            if other != answer {
+                let call = format!("{call:?} of a file that the check refuses");
+                let left = format!("check: {}", spoken(answer));
+                let right = format!("call: {}", spoken(other));
+                return Err(Difference { call, left, right });
+            }
+        }
+        Ok(())
+    }
+
+    /// Some meshes of an accepted file, and some that are not there.
+    fn meshes(&mut self, file: &[u8], count: u32, random: &mut Random) -> Result<(), Difference> {
+        let absent = count + random.below(3) as u32;
+        for mesh in [absent, random.next() as u32 | 0x8000_0000] {
+            self.ask(file, Call::Tables(mesh, random.below(20), random.below(20)))?;
+            self.ask(file, Call::Name(mesh, random.below(12)))?;
+            self.ask(file, Call::Box(mesh, random.below(44)))?;
+        }
+        let first = random.below(count.max(1) as usize) as u32;
+        for mesh in (first..count).take(2) {
+            self.mesh(file, mesh, random)?;
+        }
+        Ok(())
+    }
+
+    /// One mesh, with all kinds of room.
+    pub fn mesh(&mut self, file: &[u8], mesh: u32, random: &mut Random) -> Result<(), Difference> {
+        let (n, f) = self.sizes(file, mesh)?;
+        let (v, c) = (4 * n, 2 * f);
+        let rooms = [
+            (v + random.below(9), c + random.below(5)),
+            (v, c),
+            (v.saturating_sub(1), c),
+            (v, c.saturating_sub(1)),
+            (v.saturating_sub(1 + random.below(8)), random.below(c + 1)),
+        ];
+        for (vertices, corners) in rooms {
+            self.ask(file, Call::Tables(mesh, vertices, corners))?;
+        }
+        for bytes in [8 + random.below(6), random.below(8)] {
+            self.ask(file, Call::Name(mesh, bytes))?;
+        }
+        for bytes in [36 + random.below(6), 32 + random.below(4), random.below(36)] {
+            self.ask(file, Call::Box(mesh, bytes))?;
+        }
+        Ok(())
+    }
+
+    /// The numbers that a mesh's tables need, learned from what no room
+    /// answers; a mesh of an accepted file has no faces without vertices.
+    fn sizes(&mut self, file: &[u8], mesh: u32) -> Result<(usize, usize), Difference> {
+        let needed = |answer| refusal(answer).map_or(0, |(_, place)| place as usize);
+        let n = needed(self.ask(file, Call::Tables(mesh, 0, 0))?);
+        let f = needed(self.ask(file, Call::Tables(mesh, 4 * n, 0))?);
+        Ok((n, f))
+    }
+}

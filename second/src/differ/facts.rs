@@ -1,0 +1,181 @@
+//! Everything a side says of an accepted file, to be compared with what it
+//! should say: the list, the counts, and every mesh.
+
+use super::compare::spoken;
+use super::node::Node;
+use crate::boundary::{refusal, Boundary, RECORD_BYTES};
+use crate::row;
+
+/// One mesh: its tables and the span of its name.
+#[derive(Clone, Debug, Default, PartialEq, Eq)]
+pub struct Mesh {
+    pub vertices: Vec<u8>,
+    pub corners: Vec<u8>,
+    pub name: [u32; 2],
+}
+
+/// All that is said of a file.
+#[derive(Clone, Debug, Default, PartialEq, Eq)]
+pub struct Facts {
+    pub records: Vec<[u32; 6]>,
+    pub counts: [u32; 3],
+    pub meshes: Vec<Mesh>,
+}
+
+/// The room that is lent when facts are asked for.
+#[derive(Clone, Debug, Default, PartialEq, Eq)]
+pub struct Rooms {
+    records: usize,
+    /// Bytes for the vertices and the corners of each mesh.
+    tables: Vec<(usize, usize)>,
+}
+
+impl Rooms {
+    /// Just enough for facts that are known.
+    pub fn of(facts: &Facts) -> Rooms {
+        let meshes = facts.meshes.iter();
+        Rooms {
+            records: facts.records.len(),
+            tables: meshes
+                .map(|mesh| (mesh.vertices.len(), mesh.corners.len()))
+                .collect(),
+        }
+    }
+
+    /// How many meshes there is room for.
+    pub fn meshes(&self) -> usize {
+        self.tables.len()
+    }
+}
+
+/// What a side says of a file when just so much room is lent.
+pub fn ask(side: &impl Boundary, file: &[u8], rooms: &Rooms) -> Result<Facts, String> {
+    let mut bytes = vec![0; RECORD_BYTES * rooms.records];
+    let records = accepted("list", side.list(file, &mut bytes))?;
+    let mut counts = [0; 12];
+    accepted("counts", side.counts(file, &mut counts))?;
+    let mut facts = Facts {
+        records: numbers(&bytes),
+        counts: numbers(&counts)[0],
+        meshes: Vec::with_capacity(rooms.tables.len()),
+    };
+    facts.records.truncate(records as usize);
+    for (number, (vertices, corners)) in rooms.tables.iter().enumerate() {
+        let mut mesh = Mesh {
+            vertices: vec![0; *vertices],
+            corners: vec![0; *corners],
+            name: [0; 2],
+        };
+        let filled = side.tables(file, number as u32, &mut mesh.vertices, &mut mesh.corners);
+        let filled = accepted("tables", filled)? as usize;
+        mesh.vertices.truncate(12 * (filled & 0xFFFF));
+        mesh.corners.truncate(6 * (filled >> 16));
+        let mut span = [0; 8];
+        accepted("name", side.name(file, number as u32, &mut span))?;
+        mesh.name = numbers(&span)[0];
+        facts.meshes.push(mesh);
+    }
+    Ok(facts)
+}
+
+/// How many meshes a side says a file has.
+pub fn meshes(side: &impl Boundary, file: &[u8]) -> usize {
+    match refusal(side.name(file, u32::MAX, &mut [0; 8])) {
+        Some((16, count)) => count as usize,
+        _ => 0,
+    }
+}
+
+/// The room that a side says the meshes and records of a file need.
+pub fn rooms(side: &impl Boundary, file: &[u8]) -> Rooms {
+    let count = meshes(side, file) as u32;
+    let needed = |answer| refusal(answer).map_or(0, |(_, place)| place as usize);
+    let tables = (0..count).map(|mesh| {
+        let vertices = 4 * needed(side.tables(file, mesh, &mut [], &mut []));
+        let lent = &mut vec![0; vertices];
+        let corners = 2 * needed(side.tables(file, mesh, lent, &mut []));
+        (vertices, corners)
+    });
+    Rooms {
+        tables: tables.collect(),
+        records: side.check(file) as u32 as usize,
+    }
+}
+
+/// An answer that is no refusal.
+fn accepted(call: &str, answer: u64) -> Result<u64, String> {
+    match refusal(answer) {
+        None => Ok(answer),
+        Some(_) => Err(format!("{call} {}", spoken(answer))),
+    }
+}
+
+/// The numbers in bytes, so many at a time.
+fn numbers<const N: usize>(bytes: &[u8]) -> Vec<[u32; N]> {
+    let whole = bytes.as_chunks::<4>().0.iter();
+    let numbers: Vec<u32> = whole.map(|bytes| u32::from_le_bytes(*bytes)).collect();
+    numbers.as_chunks::<N>().0.to_vec()
+}
+
+impl Facts {
+    /// What should be said of a valid figure, from the tree it was grown as.
+    pub fn of_tree(root: &Node) -> Facts {
+        let mut facts = Facts::default();
+        facts.add(root, 0, 0, 0);
+        facts.counts[0] = 6 * facts.records.len() as u32;
+        facts
+    }
+
+    /// Adds a chunk that stands at an offset, and answers its end.
+    fn add(&mut self, node: &Node, at: usize, depth: u32, parent: usize) -> usize {
+        let size = node.size();
+        if row(node.identifier).is_none() {
+            self.counts[2] += size as u32;
+            return at + size;
+        }
+        let (number, own) = (self.records.len(), node.own.len());
+        let numbers = [at, size, depth as usize, parent, own].map(|number| number as u32);
+        let [at_number, size_number, depth_number, parent_number, own_number] = numbers;
+        self.records.push([
+            u32::from(node.identifier),
+            at_number,
+            size_number,
+            depth_number,
+            parent_number,
+            own_number,
+        ]);
+        self.counts[1] += own_number;
+        self.note(node, at);
+        let mut next = at + 6 + own;
+        for child in &node.children {
+            next = self.add(child, next, depth + 1, number);
+        }
+        if node.identifier == 0x4000 && !node.children.iter().any(|c| c.identifier == 0x4100) {
+            self.meshes.pop();
+        }
+        next
+    }
+
+    /// Notes what a chunk says of a mesh; an object is one until its end.
+    fn note(&mut self, node: &Node, at: usize) {
+        let own = &node.own;
+        if node.identifier == 0x4000 {
+            let name = [at as u32 + 6, own.len() as u32 - 1];
+            self.meshes.push(Mesh {
+                name,
+                ..Mesh::default()
+            });
+        }
+        let Some(mesh) = self.meshes.last_mut() else {
+            return;
+        };
+        match node.identifier {
+            0x4110 => mesh.vertices = own[2..].to_vec(),
+            0x4120 => {
+                let faces = own[2..].as_chunks::<8>().0.iter();
+                mesh.corners = faces.flat_map(|face| face[..6].to_vec()).collect();
+            }
+            _ => (),
+        }
+    }
+}

@@ -1,0 +1,21 @@
+//! The comparison of two readers over many files, long and short, valid and
+//! damaged, all grown from one seed.
+
+pub mod compare;
+pub mod damage;
+pub mod facts;
+pub mod families;
+pub mod gaps;
+pub mod grow;
+pub mod harm;
+pub mod kinds;
+pub mod long;
+pub mod node;
+pub mod random;
+pub mod real;
+pub mod rows;
+pub mod run;
+pub mod seeded;
+pub mod shrink;
+pub mod turned;
+pub mod writing;

@@ -1,0 +1,204 @@
+//! A whole run: so many cases from a seed, a line for each family, and the
+//! smallest file of the first difference.
+
+use super::compare::{hex, Difference, Pair};
+use super::families::{judge, judge_tree, make, sweep, Family, Subject, FAMILIES};
+use super::random::Random;
+use super::shrink::shrink;
+use super::writing::Writing;
+use crate::boundary::{refusal, Boundary};
+use std::time::Instant;
+
+/// How often each answer was met: 0 for accepted, else the refusal's number.
+pub type Tally = [u64; 18];
+
+/// The first difference found, and where.
+#[derive(Debug)]
+pub struct Failure {
+    pub family: String,
+    pub index: u64,
+    pub subject: Subject,
+    pub difference: Difference,
+}
+
+/// What to run, and whether to speak of it.
+#[derive(Clone, Copy, Debug)]
+pub struct Plan {
+    pub count: u64,
+    pub seed: u64,
+    pub loud: bool,
+    /// Names each case before it is run, to find one that never comes back.
+    pub trace: bool,
+}
+
+/// Runs all families; how often each answer was met, if no difference is found.
+pub fn run<L: Boundary, R: Boundary>(
+    plan: Plan,
+    pair: &mut Pair<L, R>,
+) -> Result<Tally, Box<Failure>> {
+    let mut total = [0; 18];
+    for (family, share, what) in FAMILIES {
+        let begin = Instant::now();
+        let least = if family == Family::LongWriter {
+            200
+        } else {
+            60
+        };
+        let cases = (plan.count * share).div_ceil(10_000).max(least);
+        let tally = plan.cases_of(family, cases, pair)?;
+        plan.say(&format!("{family:?}"), what, &tally, begin);
+        add(&mut total, &tally);
+    }
+    let begin = Instant::now();
+    let mut tally = [0; 18];
+    let step = if plan.count >= 20_000 { 1 } else { 31 };
+    let swept = sweep(step, pair, |answer| count(&mut tally, answer));
+    swept.map_err(|(file, difference)| {
+        let subject = Subject::File(file);
+        Box::new(Failure {
+            family: "Sweep".into(),
+            index: 0,
+            subject,
+            difference,
+        })
+    })?;
+    plan.say("Sweep", "every identifier under each parent", &tally, begin);
+    add(&mut total, &tally);
+    Ok(total)
+}
+
+/// Counts an answer by its number.
+pub fn count(tally: &mut Tally, answer: u64) {
+    let number = refusal(answer).map_or(0, |(number, _)| number as usize);
+    tally[number.min(17)] += 1;
+}
+
+fn add(total: &mut Tally, tally: &Tally) {
+    total
+        .iter_mut()
+        .zip(tally)
+        .for_each(|(sum, more)| *sum += more);
+}
+
+/// A tally in words: all, accepted, and how often each refusal.
+pub fn words(tally: &Tally) -> String {
+    let all: u64 = tally.iter().sum();
+    let met = tally.iter().enumerate().skip(1);
+    let numbers: Vec<String> = met
+        .filter(|(_, times)| **times > 0)
+        .map(|(number, times)| format!("{number}:{times}"))
+        .collect();
+    let accepted = tally[0];
+    format!(
+        "{all:>9} files {accepted:>9} accepted  {}",
+        numbers.join(" ")
+    )
+}
+
+impl Plan {
+    /// The cases of one family.
+    fn cases_of<L: Boundary, R: Boundary>(
+        &self,
+        family: Family,
+        cases: u64,
+        pair: &mut Pair<L, R>,
+    ) -> Result<Tally, Box<Failure>> {
+        let mut tally = [0; 18];
+        for index in 0..cases {
+            let source = Random::of_case(self.seed, family as u64, index);
+            let mut random = source.clone();
+            if self.trace {
+                eprintln!("{family:?} {index}");
+            }
+            let subject = make(family, index, &mut random);
+            let mut judged = judge(family, &subject, &mut random, pair);
+            if family == Family::Grown {
+                let tree = judge_tree(&mut source.clone(), pair);
+                judged = judged.and_then(|answer| tree.map(|()| answer));
+            }
+            match judged {
+                Ok(answer) => count(&mut tally, answer),
+                Err(difference) => {
+                    return Err(Box::new(Failure {
+                        family: format!("{family:?}"),
+                        index,
+                        subject,
+                        difference,
+                    }))
+                }
+            }
+        }
+        Ok(tally)
+    }
+
+    /// The line of a family.
+    fn say(&self, family: &str, what: &str, tally: &Tally, begin: Instant) {
+        if self.loud {
+            let seconds = begin.elapsed().as_secs_f64();
+            println!("{family:<11}{what:<35}{seconds:>7.1} s {}", words(tally));
+        }
+    }
+}
+
+impl Failure {
+    /// The failure with the smallest file or writing that can be found.
+    pub fn shrunk<L: Boundary, R: Boundary>(mut self, seed: u64, pair: &mut Pair<L, R>) -> Failure {
+        let family = FAMILIES
+            .iter()
+            .find(|family| format!("{:?}", family.0) == self.family);
+        let family = family.map_or(Family::Noise, |family| family.0);
+        let source = Random::of_case(seed, family as u64, self.index);
+        let mut fails = |subject: &Subject| {
+            let tries = (0..4).map(|turn| match turn {
+                0 => source.clone(),
+                turn => Random::of_case(seed, 99, turn),
+            });
+            let mut tries =
+                tries.filter_map(|mut random| judge(family, subject, &mut random, pair).err());
+            tries.next()
+        };
+        if fails(&self.subject).is_none() {
+            return self;
+        }
+        self.subject = match self.subject {
+            Subject::File(file) => {
+                let mut bytes = |file: &[u8]| fails(&Subject::File(file.to_vec())).is_some();
+                Subject::File(shrink(file, &mut bytes))
+            }
+            Subject::Writing(writing) => {
+                let mut test = |less: &Writing| fails(&Subject::Writing(less.clone())).is_some();
+                Subject::Writing(smallest(writing, &mut test))
+            }
+        };
+        self.difference = fails(&self.subject).unwrap_or(self.difference);
+        self
+    }
+
+    /// What is printed of it.
+    pub fn words(&self, seed: u64) -> String {
+        let subject = match &self.subject {
+            Subject::File(file) => format!("  file   {} bytes {}", file.len(), shown(file)),
+            Subject::Writing(_) => "  (a writing)".to_string(),
+        };
+        let Failure { family, index, .. } = self;
+        let difference = &self.difference;
+        format!("DIFFERENCE in {family}, case {index} of seed {seed}\n{subject}\n{difference}")
+    }
+}
+
+/// A file as hex digits; of a long one the beginning and the end, as the case
+/// and the seed bring it back whole.
+fn shown(file: &[u8]) -> String {
+    match file.len() {
+        0..10_000 => hex(file),
+        long => format!("{} ... {}", hex(&file[..512]), hex(&file[long - 128..])),
+    }
+}
+
+/// The smallest writing that still fails.
+fn smallest(mut writing: Writing, fails: &mut dyn FnMut(&Writing) -> bool) -> Writing {
+    while let Some(less) = writing.smaller().into_iter().find(|less| fails(less)) {
+        writing = less;
+    }
+    writing
+}

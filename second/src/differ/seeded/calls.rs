@@ -1,0 +1,219 @@
+//! The plain reader's answers on the boundary, with the errors that can be
+//! made in rooms, tables, names and boxes.
+
+use super::reader::{read, Read};
+use super::{writer, Error, Seeded};
+use crate::boundary::{refused, Boundary};
+use crate::differ::facts::Mesh;
+use crate::{Number, Refusal};
+
+impl Boundary for Seeded {
+    fn check(&self, file: &[u8]) -> u64 {
+        answer(read(*self, file).map(|read| read.records.len()))
+    }
+
+    fn list(&self, file: &[u8], records: &mut [u8]) -> u64 {
+        answer(self.listed(file, records))
+    }
+
+    fn tables(&self, file: &[u8], mesh: u32, vertices: &mut [u8], corners: &mut [u8]) -> u64 {
+        answer(self.tabled(file, mesh, vertices, corners))
+    }
+
+    fn counts(&self, file: &[u8], counts: &mut [u8]) -> u64 {
+        let three = read(*self, file).map(|read| {
+            let chunks = match self.makes(Error::HeadersOfAll) {
+                true => read.records.len() + read.passed,
+                false => read.records.len(),
+            };
+            let skipped = match self.makes(Error::SkippedInvented) {
+                true => read.skipped.min(64),
+                false => read.skipped,
+            };
+            [6 * chunks, read.own, skipped].map(|count| count as u32)
+        });
+        answer(self.few(three, counts))
+    }
+
+    fn name(&self, file: &[u8], mesh: u32, span: &mut [u8]) -> u64 {
+        let two = self.find(file, mesh).map(|(read, mesh)| {
+            let mut name = read.meshes[mesh].name;
+            match self.error {
+                Some(Error::NameOfFirst) => name = read.meshes[0].name,
+                Some(Error::NameWithZero) => name[1] += 1,
+                _ => (),
+            }
+            name
+        });
+        answer(self.few(two, span))
+    }
+
+    fn bounding_box(&self, file: &[u8], mesh: u32, floats: &mut [u8]) -> u64 {
+        let found = self.find(file, mesh);
+        let nine = found.and_then(|(read, mesh)| self.boxed(&read.meshes[mesh]));
+        answer(self.few(nine, floats))
+    }
+
+    fn write(&self, name: &[u8], vertices: &[f32], corners: &[u16], out: &mut [u8]) -> u64 {
+        answer(writer::write(*self, name, vertices, corners, out))
+    }
+}
+
+fn answer(result: Result<usize, Refusal>) -> u64 {
+    match result {
+        Ok(count) => count as u64,
+        Err(refusal) => refused(refusal.number, refusal.place),
+    }
+}
+
+/// Puts bytes at the beginning of a slice, as many as there is room for.
+fn put(slice: &mut [u8], bytes: &[u8]) {
+    let count = bytes.len().min(slice.len());
+    slice[..count].copy_from_slice(&bytes[..count]);
+}
+
+impl Seeded {
+    fn listed(self, file: &[u8], records: &mut [u8]) -> Result<usize, Refusal> {
+        if records.len() < 24 && self.makes(Error::RoomBeforeFault) {
+            return Err(Number::NoRoom.at(1));
+        }
+        let read = read(self, file)?;
+        let needed = read.records.len();
+        let numbers = read.records.iter().flatten();
+        let bytes: Vec<u8> = numbers.flat_map(|number| number.to_le_bytes()).collect();
+        let room = match self.error {
+            Some(Error::RoomOfPart) => records.len().div_ceil(24),
+            Some(Error::RoomOffByOne) => (records.len() / 24).saturating_sub(1),
+            _ => records.len() / 24,
+        };
+        if room < needed {
+            if self.makes(Error::WritesBeforeRefusing) {
+                put(records, &bytes);
+            }
+            let place = self.makes(Error::RoomPlace);
+            return Err(Number::NoRoom.at(if place { room } else { needed }));
+        }
+        if self.makes(Error::RestCleared) {
+            records.fill(0);
+        }
+        put(records, &bytes);
+        Ok(needed)
+    }
+
+    /// What is read of a file, with the number of a mesh that is there.
+    fn find(self, file: &[u8], mesh: u32) -> Result<(Read, usize), Refusal> {
+        let read = read(self, file)?;
+        let (mesh, count) = (mesh as usize, read.meshes.len());
+        match mesh < count {
+            true => Ok((read, mesh)),
+            false if self.makes(Error::NoSuchMeshPlace) => Err(Number::NoSuchMesh.at(mesh)),
+            false => Err(Number::NoSuchMesh.at(count)),
+        }
+    }
+
+    fn tabled(
+        self,
+        file: &[u8],
+        mesh: u32,
+        vertices: &mut [u8],
+        corners: &mut [u8],
+    ) -> Result<usize, Refusal> {
+        let (mut read, mesh) = self.find(file, mesh)?;
+        let mesh = &mut read.meshes[mesh];
+        if self.makes(Error::MinusZeroLost) {
+            let floats = mesh.vertices.chunks_exact_mut(4);
+            floats
+                .filter(|float| float[..3] == [0; 3] && float[3] == 0x80)
+                .for_each(|f| f[3] = 0);
+        }
+        let (n, f) = (mesh.vertices.len() / 12, mesh.corners.len() / 6);
+        let each = if self.makes(Error::RoomInVertices) {
+            1
+        } else {
+            3
+        };
+        let few_vertices = vertices.len() / 4 < 3 * n;
+        let few_corners = corners.len() / 2 < 3 * f;
+        if few_corners && few_vertices && self.makes(Error::RoomOfCornersFirst) {
+            return Err(Number::NoRoom.at(each * f));
+        }
+        if few_vertices {
+            return Err(Number::NoRoom.at(each * n));
+        }
+        if few_corners {
+            if self.makes(Error::VerticesBeforeCornersRoom) {
+                put(vertices, &mesh.vertices);
+            }
+            return Err(Number::NoRoom.at(each * f));
+        }
+        put(vertices, &mesh.vertices);
+        put(corners, &mesh.corners);
+        Ok(n + 65_536 * f)
+    }
+
+    /// Fills a few numbers, whose room is judged last.
+    fn few<const N: usize>(
+        self,
+        numbers: Result<[u32; N], Refusal>,
+        slice: &mut [u8],
+    ) -> Result<usize, Refusal> {
+        let small = slice.len() / 4 < N;
+        let early = self.makes(Error::RoomBeforeMesh);
+        if small && early && numbers.is_err_and(|refusal| refusal.number >= 16) {
+            return Err(Number::NoRoom.at(N));
+        }
+        let numbers = numbers?;
+        if small {
+            return Err(Number::NoRoom.at(N));
+        }
+        put(slice, &numbers.map(u32::to_le_bytes).concat());
+        Ok(N)
+    }
+
+    /// The nine numbers of a box.
+    fn boxed(self, mesh: &Mesh) -> Result<[u32; 9], Refusal> {
+        if mesh.vertices.is_empty() && !self.makes(Error::EmptyBoxIsZero) {
+            return Err(Number::Empty.at(0));
+        }
+        let floats = mesh.vertices.as_chunks::<4>().0.iter();
+        let floats: Vec<f32> = floats.map(|float| f32::from_le_bytes(*float)).collect();
+        let mut nine = [0; 9];
+        for axis in 0..3 {
+            let row: Vec<f32> = floats.iter().skip(axis).step_by(3).copied().collect();
+            let low = self.least(&row, false);
+            let high = self.least(&row, true);
+            let centre = match self.makes(Error::CentreOfSum) {
+                true => (low + high) * 0.5,
+                false => low * 0.5 + high * 0.5,
+            };
+            nine[axis] = low.to_bits();
+            nine[axis + 3] = high.to_bits();
+            nine[axis + 6] = centre.to_bits();
+        }
+        Ok(nine)
+    }
+
+    /// The first of the least in a row, or of the greatest.
+    fn least(self, row: &[f32], greatest: bool) -> f32 {
+        let before = |a: &f32, b: &f32| match self.error {
+            Some(Error::LastOfEquals) => a <= b,
+            Some(Error::MinusZeroLess) => a.total_cmp(b).is_lt(),
+            Some(Error::BoxByBits) => a.to_bits() < b.to_bits(),
+            _ => a < b,
+        };
+        let mut so_far = row.first().copied().unwrap_or_default();
+        if greatest && self.makes(Error::HighStartsAtZero) {
+            so_far = 0.0;
+        }
+        for float in row.iter().skip(1) {
+            let better = match greatest {
+                true => before(&-float, &-so_far),
+                false => before(float, &so_far),
+            };
+            if better {
+                so_far = *float;
+            }
+        }
+        so_far
+    }
+}

@@ -1,0 +1,107 @@
+//! The plain writer, and the errors that can be made in it: in the order of
+//! its refusals, in their places, and in the bytes.
+
+use super::{Error, Seeded};
+use crate::differ::node::Node;
+use crate::{Number, Refusal, LIMIT};
+
+/// Writes a figure into lent bytes.
+pub fn write(
+    seeded: Seeded,
+    name: &[u8],
+    vertices: &[f32],
+    corners: &[u16],
+    out: &mut [u8],
+) -> Result<usize, Refusal> {
+    let size = 41 + name.len() + 4 * vertices.len() + corners.len() / 3 * 8;
+    let judged = judge(seeded, name, vertices, corners);
+    let index = judged.is_err_and(|refusal| refusal.number == Number::Index as u32);
+    if index && size > LIMIT && seeded.makes(Error::WriterLimitBeforeIndex) {
+        return Err(Number::TooLong.at(0));
+    }
+    judged?;
+    let no_room = Err(Number::NoRoom.at(size));
+    if size > out.len() && seeded.makes(Error::WriterRoomBeforeLimit) {
+        return no_room;
+    }
+    if size > LIMIT {
+        return Err(Number::TooLong.at(0));
+    }
+    if size > out.len() {
+        return no_room;
+    }
+    if seeded.makes(Error::WriterClearsRest) {
+        out.fill(0);
+    }
+    out[..size].copy_from_slice(&tree(seeded, name, vertices, corners).bytes());
+    Ok(size)
+}
+
+/// The refusals of the writer, but for the size.
+fn judge(seeded: Seeded, name: &[u8], vertices: &[f32], corners: &[u16]) -> Result<(), Refusal> {
+    let zero = zero(seeded, name);
+    let count = count(seeded, [vertices.len(), corners.len()]);
+    if seeded.makes(Error::WriterCountBeforeName) {
+        count.and(zero)?;
+    }
+    let float = vertices.iter().position(|float| !float.is_finite());
+    if let (Some(float), Ok(())) = (float, zero) {
+        if seeded.makes(Error::WriterNumberBeforeCount) {
+            return Err(Number::Number.at(float));
+        }
+    }
+    zero.and(count)?;
+    let n = vertices.len() / 3 + usize::from(seeded.makes(Error::WriterIndexAtCount));
+    let corner = corners.iter().position(|corner| usize::from(*corner) >= n);
+    match (float, corner) {
+        (Some(_), Some(corner)) if seeded.makes(Error::WriterIndexBeforeNumber) => {
+            Err(Number::Index.at(corner))
+        }
+        (Some(float), _) => Err(Number::Number.at(float)),
+        (None, Some(corner)) => Err(Number::Index.at(corner)),
+        (None, None) => Ok(()),
+    }
+}
+
+/// 9 for a zero in the name.
+fn zero(seeded: Seeded, name: &[u8]) -> Result<(), Refusal> {
+    let off = usize::from(seeded.makes(Error::WriterZeroPlace));
+    match name.iter().position(|byte| *byte == 0) {
+        Some(zero) => Err(Number::Name.at(zero + off)),
+        None => Ok(()),
+    }
+}
+
+/// 13 for the length of a row.
+fn count(seeded: Seeded, mut lengths: [usize; 2]) -> Result<(), Refusal> {
+    if seeded.makes(Error::WriterCornersFirst) {
+        lengths.reverse();
+    }
+    let most = 196_605 - usize::from(seeded.makes(Error::WriterMost));
+    let bad = |length: &usize| !length.is_multiple_of(3) || *length > most;
+    match lengths.into_iter().find(bad) {
+        Some(length) => Err(Number::Count.at(length)),
+        None => Ok(()),
+    }
+}
+
+/// The figure as a tree.
+fn tree(seeded: Seeded, name: &[u8], vertices: &[f32], corners: &[u16]) -> Node {
+    let lost = seeded.makes(Error::WriterMinusZeroLost);
+    let flags = u8::from(seeded.makes(Error::WriterFlags));
+    let mut points = ((vertices.len() / 3) as u16).to_le_bytes().to_vec();
+    for float in vertices {
+        let float = if lost { float + 0.0 } else { *float };
+        points.extend(float.to_le_bytes());
+    }
+    let mut faces = ((corners.len() / 3) as u16).to_le_bytes().to_vec();
+    for face in corners.chunks_exact(3) {
+        faces.extend(face.iter().flat_map(|corner| corner.to_le_bytes()));
+        faces.extend([flags, 0]);
+    }
+    let parts = vec![Node::leaf(0x4110, points), Node::leaf(0x4120, faces)];
+    let mesh = Node::holding(0x4100, vec![], parts);
+    let object = Node::holding(0x4000, [name, &[0]].concat(), vec![mesh]);
+    let edit = Node::holding(0x3D3D, vec![], vec![object]);
+    Node::holding(0x4D4D, vec![], vec![edit])
+}

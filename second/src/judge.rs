@@ -1,0 +1,176 @@
+//! The strict walk over a whole file: the first fault in the paper's order,
+//! or the byte counts and the place of the mesh that is asked for.
+
+use crate::bytes::header;
+use crate::own::Mesh;
+use crate::table::{place, row, Own, Row};
+use crate::{Number, Refusal, HEADER, LIMIT};
+
+/// The identifier that a figure begins with, and its row.
+const FIGURE: u16 = 0x4D4D;
+const FIGURE_ROW: &Row = row(FIGURE).expect("the table begins with it");
+
+/// The count of known chunks, and the three byte counts.
+#[derive(Clone, Copy, Debug, Default, PartialEq, Eq)]
+pub struct Counts {
+    pub records: usize,
+    pub headers: usize,
+    pub own: usize,
+    pub skipped: usize,
+}
+
+/// A mesh of an accepted file: its lists, and the span of its name.
+#[derive(Clone, Copy, Debug)]
+pub struct Found {
+    pub mesh: Mesh,
+    pub name: (usize, usize),
+}
+
+/// The chunk whose children are being walked.
+struct Parent {
+    chunk: usize,
+    end: usize,
+    place: u16,
+    /// The "at most one" bits met so far.
+    seen: u8,
+    needs: u8,
+}
+
+/// The walk, and what it has gathered so far.
+struct Walk<'a> {
+    file: &'a [u8],
+    counts: Counts,
+    /// The span of the last object's name.
+    name: (usize, usize),
+    mesh: Mesh,
+    meshes: usize,
+    wanted: Option<u32>,
+    found: Option<Found>,
+}
+
+/// Whether a file is a figure, and what it counts to.
+pub fn check(file: &[u8]) -> Result<Counts, Refusal> {
+    Ok(walked(file, None)?.counts)
+}
+
+/// A mesh of a file; the file's own fault comes before "no such mesh".
+pub(crate) fn find(file: &[u8], mesh: u32) -> Result<Found, Refusal> {
+    let walk = walked(file, Some(mesh))?;
+    walk.found.ok_or(Number::NoSuchMesh.at(walk.meshes))
+}
+
+/// The walk over a whole file, after 1 and 2, and 4, 5 and 3 for the 4D4D.
+fn walked(file: &[u8], wanted: Option<u32>) -> Result<Walk<'_>, Refusal> {
+    Number::TooLong.unless(file.len() <= LIMIT, 0)?;
+    let (FIGURE, length) = header(file).ok_or(Number::NotAFigure.at(0))? else {
+        return Err(Number::NotAFigure.at(0));
+    };
+    Number::Short.unless(length >= HEADER, 0)?;
+    Number::Overrun.unless(length <= file.len(), 0)?;
+    Number::Trailing.unless(length == file.len(), length)?;
+    let mut walk = Walk {
+        file,
+        counts: Counts::default(),
+        name: (0, 0),
+        mesh: Mesh::default(),
+        meshes: 0,
+        wanted,
+        found: None,
+    };
+    walk.known(FIGURE_ROW, 0, length)?;
+    walk.counts.headers = HEADER * walk.counts.records;
+    Ok(walk)
+}
+
+impl Parent {
+    /// Takes a known chunk for a child, or 7 or 8.
+    #[inline(always)]
+    fn take(&mut self, row: &Row, at: usize) -> Result<(), Refusal> {
+        Number::Misplaced.unless(row.under & self.place != 0, at)?;
+        Number::Twice.unless(row.once & self.seen == 0, at)?;
+        self.seen |= row.once;
+        Ok(())
+    }
+}
+
+impl Walk<'_> {
+    /// Walks the children from an offset to the parent's end, and judges what
+    /// must be there; depth is bounded by the table, siblings take no stack.
+    fn children(&mut self, parent: &mut Parent, mut at: usize) -> Result<(), Refusal> {
+        let mut skipped = 0;
+        while at < parent.end {
+            let (identifier, length) = self.header(at, parent.end)?;
+            match row(identifier) {
+                None => skipped += length,
+                Some(row) => {
+                    parent.take(row, at)?;
+                    self.known(row, at, at + length)?;
+                }
+            }
+            at += length;
+        }
+        self.counts.skipped += skipped;
+        Number::Missing.unless(parent.needs & !parent.seen == 0, parent.chunk)
+    }
+
+    /// The header of the child at an offset, or 6, 4 or 5.
+    #[inline(always)]
+    fn header(&self, at: usize, end: usize) -> Result<(u16, usize), Refusal> {
+        let rest = &self.file[at..end];
+        let (identifier, length) = header(rest).ok_or(Number::Stray.at(at))?;
+        Number::Short.unless(length >= HEADER, at)?;
+        Number::Overrun.unless(length <= rest.len(), at)?;
+        Ok((identifier, length))
+    }
+
+    /// Judges and counts a known chunk that stands in its place.
+    #[inline(always)]
+    fn known(&mut self, row: &Row, at: usize, end: usize) -> Result<(), Refusal> {
+        let own = self.mesh.own(row, &self.file[at + HEADER..end], at)?;
+        self.counts.records += 1;
+        self.counts.own += own;
+        match row.holds {
+            0 => Ok(()),
+            _ => self.inside(row, at, own, end),
+        }
+    }
+
+    /// Walks what stands behind the own data of a chunk whose row has a "+";
+    /// the only call that nests, so that bare chunks are walked without one.
+    #[inline(never)]
+    fn inside(&mut self, row: &Row, at: usize, own: usize, end: usize) -> Result<(), Refusal> {
+        let mut parent = Parent {
+            chunk: at,
+            end,
+            place: row.holds,
+            seen: 0,
+            needs: row.needs,
+        };
+        let start = at + HEADER;
+        match row.own {
+            Own::Name => self.name = (start, own - 1),
+            _ if row.holds == place::H4100 => self.mesh = Mesh::default(),
+            _ => (),
+        }
+        self.children(&mut parent, start + own)?;
+        if row.holds == place::H4100 {
+            self.mesh.close(self.file)?;
+            self.count_mesh();
+        }
+        Ok(())
+    }
+
+    /// Counts a mesh that met the rules, and keeps it if it is asked for.
+    fn count_mesh(&mut self) {
+        if self
+            .wanted
+            .is_some_and(|wanted| wanted as usize == self.meshes)
+        {
+            self.found = Some(Found {
+                mesh: self.mesh,
+                name: self.name,
+            });
+        }
+        self.meshes += 1;
+    }
+}

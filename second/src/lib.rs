@@ -1,0 +1,31 @@
+//! The independent second reader of strict 3D Studio figures: written from
+//! the paper alone, to be compared with the reader under test.
+
+pub mod boundary;
+mod bounding_box;
+mod bytes;
+pub mod differ;
+mod judge;
+mod list;
+mod own;
+mod refusal;
+mod table;
+mod tables;
+mod writer;
+
+pub use bounding_box::{bounding_box, BoundingBox};
+pub use judge::{check, Counts};
+pub use list::list;
+pub use refusal::{Number, Refusal};
+pub use table::{place, row, Own, Row};
+pub use tables::{name, tables};
+pub use writer::write;
+
+/// The bytes of a chunk's header: identifier and length.
+pub const HEADER: usize = 6;
+
+/// The most bytes a figure may have.
+pub const LIMIT: usize = 1_048_576;
+
+/// The 32-bit numbers of one record in the list.
+pub const RECORD: usize = 6;

@@ -1,0 +1,62 @@
+/* Printing names that come from a stick: one line each, and nothing that a terminal would obey. */
+#include "escape.h"
+
+#include <stdbool.h>
+#include <stddef.h>
+#include <stdint.h>
+
+/* How many bytes the character takes that begins with this byte; 0 if none begins so. */
+static size_t bytes_of(unsigned char first) {
+    if (first < 0x80) {
+        return 1;
+    }
+    if (first < 0xC2 || first > 0xF4) {
+        return 0;
+    }
+    return first < 0xE0 ? 2 : first < 0xF0 ? 3 : 4;
+}
+
+static bool readable(uint32_t character) {
+    static const uint32_t hidden[][2] = {
+        {0x0000, 0x001F}, /* control characters */
+        {0x007F, 0x009F}, /* more of them */
+        {0x2028, 0x202E}, /* ends of lines, directions of writing */
+        {0x2066, 0x2069}, /* directions of writing */
+        {0xD800, 0xDFFF}, /* no characters */
+    };
+    for (size_t i = 0; i < sizeof hidden / sizeof hidden[0]; i++) {
+        if (character >= hidden[i][0] && character <= hidden[i][1]) {
+            return false;
+        }
+    }
+    return character <= 0x10FFFF;
+}
+
+/* How many bytes from `at` on are one readable character; 0 if they are not one. */
+static size_t character_at(const unsigned char *at) {
+    static const uint32_t least[] = {0, 0, 0x80, 0x800, 0x10000};
+    size_t bytes = bytes_of(at[0]);
+    uint32_t character = bytes <= 1 ? at[0] : at[0] & (0x7Fu >> bytes);
+    for (size_t i = 1; i < bytes; i++) {
+        if ((at[i] & 0xC0) != 0x80) {
+            return 0; /* the zero at the end of the name is caught here too */
+        }
+        character = character << 6 | (at[i] & 0x3F);
+    }
+    return bytes != 0 && character >= least[bytes] && readable(character) ? bytes : 0;
+}
+
+void print_escaped(FILE *out, const char *name) {
+    const unsigned char *at = (const unsigned char *)name;
+    while (*at != '\0') {
+        size_t bytes = character_at(at);
+        if (*at == '\\') {
+            fputs("\\\\", out);
+        } else if (bytes == 0) {
+            fprintf(out, "\\x%02X", *at);
+        } else {
+            fwrite(at, 1, bytes, out);
+        }
+        at += bytes == 0 ? 1 : bytes;
+    }
+}

@@ -1,0 +1,20 @@
+/* A text that grows as needed: paths have no longest length. */
+#ifndef STICK_TEXT_H
+#define STICK_TEXT_H
+
+#include <stddef.h>
+
+struct text {
+    char *bytes; /* ends with a zero once something was added */
+    size_t length;
+    size_t room;
+};
+
+/* Memory of this size, the old contents kept; without memory the program ends with a clear line. */
+void *need_memory(void *old, size_t size);
+
+void text_add(struct text *text, const char *more);
+void text_cut(struct text *text, size_t length);
+void text_free(struct text *text);
+
+#endif

@@ -1,0 +1,60 @@
+#!/bin/sh
+# The header stands alone in every language it promises, and the viewer is what it promises to be.
+# shellcheck source=tests/c/common.sh
+. tests/c/common.sh
+CC=${CC:-cc}
+CXX=${CXX:-c++}
+strict='-pedantic -Wall -Wextra -Wconversion -Werror -Iinclude'
+
+cat >"$T/use.c" <<'END'
+#include "tds.h"
+#include "tds.h"
+int main(void) {
+    static unsigned char slice[TDS_RECORD_BYTES];
+    uint64_t answer = tds_list(NULL, 0, slice, sizeof slice);
+    float number = tds_get_float(slice);
+    if (TDS_REFUSED(answer) && TDS_REFUSAL(answer) == TDS_NOT_A_FIGURE && TDS_PLACE(answer) == 0) {
+        return 0;
+    }
+    return number > 0 || TDS_VERTICES(answer) + TDS_FACES(answer) > 0 || tds_get2(slice) > 0 ||
+           tds_get_record(slice, 0, TDS_RECORD_OWN) > 0;
+}
+END
+cp "$T/use.c" "$T/use.cpp"
+
+# compile COMPILER LANGUAGE FILE [MORE...]
+compile() {
+    compiler=$1 language=$2 file=$3
+    shift 3
+    try "$(basename "$file") as $language"
+    if ! command -v "$compiler" >/dev/null; then
+        skip "there is no $compiler"
+        return
+    fi
+    # strict is a list of words
+    # shellcheck disable=SC2086
+    if "$compiler" -std="$language" $strict "$@" -c "$file" -o "$T/use.o" >"$T/out" 2>"$T/err"
+    then pass; else fail 'does not compile'; fi
+}
+for language in c89 c99 c11; do compile "$CC" "$language" "$T/use.c"; done
+for language in c++98 c++11 c++17; do compile "$CXX" "$language" "$T/use.cpp"; done
+compile clang c89 "$T/use.c"
+compile "$CC" c89 examples/viewer.c -Wno-conversion
+
+try 'the numbers and names of the refusals'
+cat >"$T/names.c" <<'END'
+#include "tds.h"
+#define IS(number, name) typedef char is_##number[(int)(name) == number ? 1 : -1];
+IS(1, TDS_TOO_LONG) IS(2, TDS_NOT_A_FIGURE) IS(3, TDS_TRAILING) IS(4, TDS_SHORT)
+IS(5, TDS_OVERRUN) IS(6, TDS_STRAY) IS(7, TDS_MISPLACED) IS(8, TDS_TWICE) IS(9, TDS_NAME)
+IS(10, TDS_LENGTH) IS(11, TDS_NUMBER) IS(12, TDS_INDEX) IS(13, TDS_COUNT) IS(14, TDS_MISSING)
+IS(15, TDS_NO_ROOM) IS(16, TDS_NO_SUCH_MESH) IS(17, TDS_EMPTY)
+#define R(number, place) ((uint64_t)(number) * 65536 * 65536 + (place))
+IS(18, TDS_REFUSAL(R(18, 5))) IS(19, TDS_PLACE(R(5, 19))) IS(20, TDS_PLACE(R(5, 0xFFFFFFFFu)) / 214748364)
+IS(21, 21 * TDS_REFUSED(R(1, 0))) IS(0, TDS_REFUSED(0xFFFFFFFFu))
+IS(22, TDS_VERTICES(22 + 65536u * 65535u)) IS(65535, TDS_FACES(22 + 65536u * 65535u))
+int main(void) { return 0; }
+END
+if "$CC" -Iinclude -c "$T/names.c" -o "$T/names.o" >"$T/out" 2>"$T/err"
+then pass; else fail 'they are not those of document 01'; fi
+finish header_test

@@ -1,0 +1,56 @@
+#!/bin/sh
+# The generator makes the samples that are kept, byte for byte; the edition is accepted whole, and
+# each damaged figure is refused with the number and place that the rules give.
+# shellcheck source=tests/c/common.sh
+. tests/c/common.sh
+
+try 'the generator makes what is kept'
+mkdir "$T/again"
+run "$BUILD/make_samples" "$T/again"
+status_is 0
+for folder in edition damaged; do
+    (cd samples/$folder && ls) >"$T/kept"
+    (cd "$T/again/$folder" && ls) >"$T/made"
+    same "the names in $folder" "$T/kept" "$T/made"
+    while read -r file; do
+        same "$folder" "samples/$folder/$file" "$T/again/$folder/$file"
+    done <"$T/kept"
+done
+
+try 'the edition is accepted'
+run "$BUILD/stick" samples/edition
+status_is 0
+
+try 'there is a damaged sample for each refusal from 2 to 14'
+for number in 2 3 4 5 6 7 8 9 10 11 12 13 14; do
+    if grep -q " $number " samples/damaged/expected.txt; then pass; else fail "none for $number"; fi
+done
+
+try 'every damaged sample has its refusal'
+run "$BUILD/stick" samples/damaged
+status_is 1
+while read -r file number place; do
+    name=$(echo "$file" | sed 's/-.*//' | tr '[:lower:]' '[:upper:]')
+    matches out "samples/damaged/$file: refused: $name.* \($number\): .*, at byte $place: .*"
+done <samples/damaged/expected.txt
+lines out $(($(wc -l <samples/damaged/expected.txt) + 1))
+
+try 'the one that is too long'
+run "$BUILD/make_samples" --too-long "$T/too-long.3ds"
+status_is 0
+run "$BUILD/stick" "$T"
+has out 'too-long.3ds: refused: TOO LONG (1): the file is longer than a figure may be'
+status_is 1
+
+try 'the swallowed handle is one turned bit'
+different=$(cmp -l samples/edition/adze.3ds \
+    samples/damaged/misplaced-handle-swallowed-length-bit-turned.3ds | wc -l)
+if [ "$different" -eq 1 ]; then pass; else fail "$different bytes differ"; fi
+
+try 'the generator on a wrong command line'
+run "$BUILD/make_samples"
+status_is 2
+try 'the generator where it cannot write'
+run "$BUILD/make_samples" "$T/nowhere"
+status_is 1
+finish samples_test
