@@ -1,16 +1,34 @@
--- The box of one vertex, and of one vertex more.
+-- The box of one vertex, and of one vertex more: the lesser and the greater of two floats, by their comparison.
 use mathlib.Core.Path.{_≡_, ap, _∙_}
-use mathlib.Core.Bool.{true}
+use mathlib.Core.Bool.{true, false}
 use mathlib.Core.List.{List}
 use Prim.Native.Nat.{ℕ, zero, suc, _+_, _-_, _*_, _<_}
 use native.Mathlib.Omega.{arith}
+use lib.Ieee.{Float, lt}
 use lib.ListN.{drop}
 use Rattle.rules.specs.Bytes.{numbers, every}
 use Rattle.rules.specs.OwnData.{finite}
-use Rattle.rules.specs.Box.{float, coordinate, lowest, highest, boxOf}
+use Rattle.rules.specs.Box.{lesser, greater, float, coordinate, lowest, highest, boxOf}
 use Rattle.little_endian.specs.Numbers.{longAt}
 use Rattle.lists.specs.Vertices.{vertexAt, widened}
 use Rattle.lists.proofs.Numbers.{long-number, long-passes}
+
+module _ (a b : Float) where
+  pub lesser-taken : lt b a ≡ true → b ≡ lesser a b
+  unfolding lesser
+  lesser-taken e = rw e
+
+  pub lesser-left : lt b a ≡ false → a ≡ lesser a b
+  unfolding lesser
+  lesser-left e = rw e
+
+  pub greater-taken : lt a b ≡ true → b ≡ greater a b
+  unfolding greater
+  greater-taken e = rw e
+
+  pub greater-left : lt a b ≡ false → a ≡ greater a b
+  unfolding greater
+  greater-left e = rw e
 
 module _ (s : List ℕ) (at n : ℕ) where
   abbrev vertices : List ℕ

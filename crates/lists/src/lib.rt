@@ -101,11 +101,11 @@ pub fn box_of(s: &[u8], at: usize, n: usize) -> BoundingBox
         low: first,
         high: first,
     };
-    let mut i = 1usize;
-    while i < n {
-        let v = vertex_at(s, at + 12 * i);
+    let mut k = 1usize;
+    while k < n {
+        let v = vertex_at(s, at + 12 * k);
         b = with_vertex(b, v);
-        i += 1;
+        k += 1;
     }
     b
 }
