@@ -1,0 +1,5 @@
+pub mod Runs
+pub mod Ways
+pub mod Parts
+pub mod Meshes
+pub mod Objects

@@ -1,0 +1,42 @@
+-- The numbers of a list in the file: how many, and which stands where.
+use mathlib.Core.Path.{_≡_, refl, sym, ap, _∙_}
+use mathlib.Core.Bool.{Bool, true}
+use mathlib.Core.List.{List, [], _∷_}
+use Prim.Native.Nat.{ℕ, zero, suc, _+_, _*_, _<_}
+use native.Mathlib.Nat.{mul-suc, mul-zero, add-comm}
+use native.Mathlib.Omega.{arith}
+use lib.ListN.{length, take, drop, getD}
+use lib.Seq.{drop-drop}
+use Rattle.rules.specs.Bytes.{value, numbers, every}
+use Rattle.rules.specs.OwnData.{corners}
+use Rattle.rules.proofs.Bools.{and-parts}
+use Rattle.little_endian.specs.Numbers.{longAt}
+
+pub numbers-length : (w n : ℕ) (s : List ℕ) → length (numbers w n s) ≡ n
+numbers-length w zero s = refl
+numbers-length w (suc n) s = ap suc (numbers-length w n (drop w s))
+
+pub corners-length : (n : ℕ) (s : List ℕ) → length (corners n s) ≡ 3 * n
+corners-length zero s = refl
+corners-length (suc n) s = omega (arith, corners-length n (drop 8 s))
+
+numbers-at : (w n j : ℕ) (s : List ℕ) → j < n → getD (numbers w n s) j 0 ≡ value (take w (drop (w * j) s))
+numbers-at w zero j s h = absurd (omega arith)
+numbers-at w (suc n) zero s h = rw (mul-zero w)
+numbers-at w (suc n) (suc j) s h =
+    numbers-at w n j (drop w s) (omega arith) ∙
+    ap (λ (l : List ℕ). value (take w l)) (drop-drop (w * j) w s ∙ ap (λ (k : ℕ). drop k s) (add-comm w (w * j) ∙ sym (mul-suc w j)))
+
+pub long-number : (s : List ℕ) (at n j : ℕ) → j < n → getD (numbers 4 n (drop at s)) j 0 ≡ longAt s (at + 4 * j)
+unfolding longAt
+long-number s at n j h = numbers-at 4 n j (drop at s) h ∙ ap (λ (l : List ℕ). value (take 4 l)) (drop-drop (4 * j) at s)
+
+-- what passes for each passes for one
+pub every-at : (p : ℕ → Bool) (xs : List ℕ) (j : ℕ) → every p xs ≡ true → j < length xs → p (getD xs j 0) ≡ true
+unfolding every
+every-at p [] j h l = absurd (omega arith)
+every-at p (x ∷ xs) zero h l = and-parts (p x) (every p xs) h .0
+every-at p (x ∷ xs) (suc j) h l = every-at p xs j (and-parts (p x) (every p xs) h .1) (omega arith)
+
+pub long-passes : (p : ℕ → Bool) (s : List ℕ) (at n : ℕ) → every p (numbers 4 n (drop at s)) ≡ true → (j : ℕ) → j < n → p (longAt s (at + 4 * j)) ≡ true
+long-passes p s at n h j l = rw (← (long-number s at n j l)) (every-at p (numbers 4 n (drop at s)) j h (omega (arith, numbers-length 4 n (drop at s))))

@@ -1,0 +1,70 @@
+-- The check's answer, and then the mesh that is found.
+use mathlib.Core.Path.{sym, _∙_, subst}
+use native.Mathlib.Omega.{arith}
+use Rattle.rules.specs.Gives.{meshes}
+use Rattle.find.specs.Places.{FoundIs}
+use Rattle.reader.proofs.Parts.{bytes-all}
+use Rattle.mesh.proofs.Asks.{file-refused, file-accepted, mesh-there, mesh-nowhere}
+use borrow.Author.Needs.{needs}
+use Rattle.mesh.proofs.ask.Statement.{statement}
+use Rattle.mesh.proofs.ask.Tie as tie
+
+check-requires : tie.Need-check-requires
+check-requires c κs = search needs
+
+enum-known-r : tie.Need-enum-known-r
+enum-known-r c = search needs
+
+enum-told : tie.Need-enum-told
+enum-told c = search needs
+
+find-mesh-requires : tie.Need-find-mesh-requires
+find-mesh-requires c κs =
+    let x = c .before .before .before .before .args in
+    let b = bytes-all (x .file .now) (λ i. omega (arith, c .before .before .before .shared-slice-known .given i)) in
+    let g = c .enum-told .given in
+    let l = file-accepted (x .file .now) b (g .0 .0) (sym (c .before .before .check .ensures) ∙ g .1) in
+    (l .kids, l .meets)
+
+enum-known-place : tie.Need-enum-known-place
+enum-known-place c = search needs
+
+enum-known-n : tie.Need-enum-known-n
+enum-known-n c = search needs
+
+returns : tie.Need-returns
+returns c =
+    let g = c .before .r .given in
+    file-refused (c .before .before .before .before .before .args .file .now) (c .before .before .before .before .before .args .mesh) (g .0 .0) (sym (c .before .before .before .check .ensures) ∙ g .1)
+
+returns-2 : tie.Need-returns-2
+returns-2 c =
+    let x = c .before .before .before .before .before .before .before .before .args in
+    let b = bytes-all (x .file .now) (λ i. omega (arith, c .before .before .before .before .before .before .before .shared-slice-known .given i)) in
+    let g = c .before .before .before .before .enum-told .given in
+    let l = file-accepted (x .file .now) b (g .0 .0) (sym (c .before .before .before .before .before .before .check .ensures) ∙ g .1) in
+    let h = c .before .place .given in
+    mesh-there (x .file .now) (x .mesh) l (h .0 .0) (subst (FoundIs (x .file .now) (meshes (l .kids)) (x .mesh)) (h .1) (c .before .before .before .find-mesh .ensures (l .kids) (l .meets)))
+
+returns-3 : tie.Need-returns-3
+returns-3 c =
+    let x = c .before .before .before .before .before .before .before .before .args in
+    let b = bytes-all (x .file .now) (λ i. omega (arith, c .before .before .before .before .before .before .before .shared-slice-known .given i)) in
+    let g = c .before .before .before .before .enum-told .given in
+    let l = file-accepted (x .file .now) b (g .0 .0) (sym (c .before .before .before .before .before .before .check .ensures) ∙ g .1) in
+    let h = c .before .n .given in
+    mesh-nowhere (x .file .now) (x .mesh) l (h .0 .0) (subst (FoundIs (x .file .now) (meshes (l .kids)) (x .mesh)) (h .1) (c .before .before .before .find-mesh .ensures (l .kids) (l .meets)))
+
+pub ask-spec : {M : Type 1} → statement M
+ask-spec =
+    tie.close
+    (tie.spec
+    check-requires
+    enum-known-r
+    enum-told
+    find-mesh-requires
+    enum-known-place
+    enum-known-n
+    returns
+    returns-2
+    returns-3)

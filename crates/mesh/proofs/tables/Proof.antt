@@ -1,0 +1,63 @@
+-- A refusal, or the mesh's tables.
+use mathlib.Core.Path.{sym, ap, _∙_, subst}
+use Rattle.rules.specs.Walk.{verdict}
+use Rattle.rules.specs.Calls.{Effect, Rows}
+use Rattle.rules.specs.declared.Tabled.{Tabled}
+use Rattle.mesh.specs.Choices.{choose, AskedIs, rows}
+use Rattle.mesh.proofs.Asks.{asked-no, asked-yes, tables-refused, tables-go-on}
+use Rattle.mesh.proofs.Filled.{gives}
+use borrow.Author.Needs.{needs}
+use Rattle.mesh.proofs.tables.Statement.{statement}
+use Rattle.mesh.proofs.tables.Tie as tie
+
+ask-requires : tie.Need-ask-requires
+ask-requires c κs = search needs
+
+enum-known-r : tie.Need-enum-known-r
+enum-known-r c = search needs
+
+enum-known-place : tie.Need-enum-known-place
+enum-known-place c = search needs
+
+fill-requires : tie.Need-fill-requires
+fill-requires c κs =
+    let x = c .before .before .before .before .before .before .before .before .before .args in
+    let g = c .before .before .before .place .given in
+    let q = asked-yes (x .file .now) (choose (x .mesh) (verdict (x .file .now))) (g .0 .0) (subst (AskedIs (x .file .now) (choose (x .mesh) (verdict (x .file .now)))) (g .1) (c .before .before .before .before .before .ask .ensures)) in
+    (q .0, q .2)
+
+returns : tie.Need-returns
+returns c =
+    let x = c .before .before .before .before .before .before .before .args in
+    let g = c .before .r .given in
+    let q = asked-no (x .file .now) (choose (x .mesh) (verdict (x .file .now))) (g .0 .0) (subst (AskedIs (x .file .now) (choose (x .mesh) (verdict (x .file .now)))) (g .1) (c .before .before .before .ask .ensures)) in
+    gives (tables-refused (x .file .now) (x .mesh) (g .0 .0) q (rows (x .vertices .now) (x .corners .now)))
+
+same-length : tie.Need-same-length
+same-length c = search needs
+
+same-length-2 : tie.Need-same-length-2
+same-length-2 c = search needs
+
+returns-2 : tie.Need-returns-2
+returns-2 c =
+    let x = c .before .before .before .before .before .before .before .before .before .before .before .before .before .before .args in
+    let g = c .before .before .before .before .before .before .before .before .place .given in
+    let q = asked-yes (x .file .now) (choose (x .mesh) (verdict (x .file .now))) (g .0 .0) (subst (AskedIs (x .file .now) (choose (x .mesh) (verdict (x .file .now)))) (g .1) (c .before .before .before .before .before .before .before .before .before .before .ask .ensures)) in
+    let e = tables-go-on (x .file .now) (x .mesh) (q .0) (q .1) (rows (x .vertices .now) (x .corners .now)) in (
+      c .before .before .before .before .fill .ensures .0 (q .0) (q .2) ∙ ap (λ (y : Effect Tabled Rows). y .answer) (sym e),
+      c .before .before .before .before .fill .ensures .1 (q .0) (q .2) ∙ ap (λ (y : Effect Tabled Rows). y .rows) (sym e),
+    )
+
+pub tables-spec : {M : Type 1} → statement M
+tables-spec =
+    tie.close
+    (tie.spec
+    ask-requires
+    enum-known-r
+    enum-known-place
+    fill-requires
+    returns
+    same-length
+    same-length-2
+    returns-2)
