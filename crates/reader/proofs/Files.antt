@@ -118,6 +118,12 @@ top-listed = refl
 pub top-context : (row : ℕ) → row ≡ rowOf 0x4D4D → Context (inside file 0x4D4D []) [] row 0 noMarks
 top-context row e = context-inside file 0x4D4D [] row 0 top-listed e record { is = refl; small = omega arith }
 
+-- what the code found of the children of 4D4D, said of the walk
+pub top-run : (s : List ℕ) (row : ℕ) → row ≡ rowOf 0x4D4D → (r : Ran) (ms : List ℕ) →
+    ((p : Parent) (seen : List ℕ) → Context p seen row 0 noMarks → RunIs (length s) 0 0 6 noMarks (walk p seen 6 (slice 6 (length s) s)) r ms) →
+    {r′ : Ran} → r ≡ r′ → RunIs (length s) 0 0 6 noMarks (walk (inside file 0x4D4D []) [] 6 (slice 6 (length s) s)) r′ ms
+top-run s row e r ms h is = subst (λ z. RunIs (length s) 0 0 6 noMarks (walk (inside file 0x4D4D []) [] 6 (slice 6 (length s) s)) z ms) is (h (inside file 0x4D4D []) [] (top-context row e))
+
 abbrev four : ℕ → ℕ → ℕ → ℕ → Counts
 four records headers own skips = record { records = records; headers = headers; own = own; skipped = skips }
 

@@ -11,7 +11,7 @@ use lib.Seq.{slice, length-slice}
 use borrow.Author.Tests.{le-leb, lt-leb, leb-true, eqb-false}
 use Rattle.rules.specs.declared.Refusal.{Refusal}
 use Rattle.rules.specs.declared.Refusal.the-variants.{Stray, Short, Overrun, Misplaced, Twice}
-use Rattle.rules.specs.Bytes.{value}
+use Rattle.rules.specs.Bytes.{le, value}
 use Rattle.rules.specs.Table.{listed, under, shape, plus}
 use Rattle.rules.specs.OwnData.{count, ownSize}
 use Rattle.rules.specs.Rules.{Parent, few}
@@ -23,6 +23,7 @@ use Rattle.table.specs.Packed.{rowOf, slotOf}
 use Rattle.table.proofs.Facts.{row-of-listed, row-of-unlisted, plus-is}
 use Rattle.own_data.specs.declared.Judged.{Judged}
 use Rattle.own_data.specs.Own.{CountIs, JudgedIs, Judges}
+use Rattle.own_data.proofs.Conditions.{some-around}
 use Rattle.reader.specs.declared.Header.{Header}
 use Rattle.reader.specs.declared.Head.{Head}
 use Rattle.reader.specs.States.{HeaderIs, HeadIs, MarksAre, HeadWithin, openedBy}
@@ -170,6 +171,14 @@ module _ (p : Parent) (at id : ℕ) (body : List ℕ) where
       let q = judged-size k j in
       let m = met _ (q .1) in
       omega (arith, q .0, leb-true (ownSize (shape id) (p .own) body) (length body) (m .1 .0))
+
+-- own data that was judged fine ends within its chunk
+pub judged-ends : (s : List ℕ) (at id past n : ℕ) → at + 6 ≤ past → past ≤ length s → n < 65536 → (r : Judged) →
+    ((p : Parent) → CountIs (p .own) n → Judges p at id (slice (at + 6) past s) r) → (k : ℕ) → r ≡ Judged.Size k → at + 6 + k ≤ past
+judged-ends s at id past n h l small r j k e =
+    let p : Parent = record { id = 0; own = le 2 n } in
+    let w = judged-within p at id (slice (at + 6) past s) k (subst (Judges p at id (slice (at + 6) past s)) e (j p (some-around n small))) in
+    omega (arith, w, length-slice (at + 6) past s l, h)
 
 module _ (p : Parent) (at id : ℕ) (body rest : List ℕ) where
   pub opened-fault : (y : Refusal) → Judges p at id body (Judged.Fault y) → HeadIs at (openedBy p at id body rest) (Head.Fault y)

@@ -133,7 +133,6 @@ chunk-add-t33 : (t : ℕ) → chunk-lts.Need-add-t33 (chunk-calls t) (chunk-at t
 chunk-add-t33 t c =
     let x = c .before .before .before .before .before .before .before .before .before .before .before .before .before .before .before .before .before .before .before in
     let w = c .before .before .before .before .before .before .before .before .before .before .before .before .before .before .before .look in
-    let b = bytes-all (x .args .file .now) (λ i. omega (arith, c .before .before .before .before .before .before .before .before .before .before .before .before .before .before .before .before .before .before .shared-slice-known .given i)) in
     let g = c .before .before .before .before .before .before .before .before .before .before .before .id .given in
     let v : HeadWithin (x .args .at) (x .args .end) (Head.Enter (g .0 .0) (g .0 .1 .0) (g .0 .1 .1 .0) (g .0 .1 .1 .1 .0) (g .0 .1 .1 .1 .1 .0)) = subst (HeadWithin (x .args .at) (x .args .end)) (g .1) (w .ensures .1 .1 .1) in
     let h = c .before .before .before .before .before .records .given in

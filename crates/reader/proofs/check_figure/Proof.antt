@@ -11,7 +11,7 @@ use Rattle.marks.specs.Marks.{noMarks}
 use Rattle.reader.specs.declared.Ran.{Ran}
 use Rattle.reader.specs.States.{RunIs, RunWithin}
 use Rattle.reader.proofs.Parts.{bytes-all}
-use Rattle.reader.proofs.Files.{top-context, figure-refused, figure-shut, figure-accepted}
+use Rattle.reader.proofs.Files.{top-context, top-run, figure-refused, figure-shut, figure-accepted}
 use borrow.Author.Needs.{needs}
 use Rattle.reader.proofs.check_figure.Statement.{statement}
 use Rattle.reader.proofs.check_figure.Tie as tie
@@ -51,10 +51,7 @@ add-counts : tie.Need-add-counts
 add-counts c =
     let x = c .before .before .before .before .before .before .before .before .before .before .before .before in
     let y = c .before .before .before .before .before .before .before .before .run in
-    let b = bytes-all (x .args .file .now) (λ i. omega (arith, c .before .before .before .before .before .before .before .before .before .before .before .shared-slice-known .given i)) in
-    let k = top-context (c .before .before .before .before .before .before .before .before .before .before .row .result) (c .before .before .before .before .before .before .before .before .before .before .row .ensures) in
     let h = c .before .before .before .before .before .records .given in
-    let f = subst (λ z. RunIs (length (x .args .file .now)) 0 0 6 noMarks (walk (inside file 0x4D4D []) [] 6 (slice 6 (length (x .args .file .now)) (x .args .file .now))) z (y .last .1 .1 .1 .1 .1 .0)) (h .1) (y .ensures .0 (inside file 0x4D4D []) [] k) in
     let v : RunWithin 6 (length (x .args .file .now)) (Ran.Done (h .0 .0) (h .0 .1 .0) (h .0 .1 .1 .0)) = subst (RunWithin 6 (length (x .args .file .now))) (h .1) (y .ensures .1 .1) in
     omega (arith, v, x .pre .1)
 
@@ -62,10 +59,7 @@ counts-requires : tie.Need-counts-requires
 counts-requires c κs =
     let x = c .before .before .before .before .before .before .before .before .before .before .before .before in
     let y = c .before .before .before .before .before .before .before .before .run in
-    let b = bytes-all (x .args .file .now) (λ i. omega (arith, c .before .before .before .before .before .before .before .before .before .before .before .shared-slice-known .given i)) in
-    let k = top-context (c .before .before .before .before .before .before .before .before .before .before .row .result) (c .before .before .before .before .before .before .before .before .before .before .row .ensures) in
     let h = c .before .before .before .before .before .records .given in
-    let f = subst (λ z. RunIs (length (x .args .file .now)) 0 0 6 noMarks (walk (inside file 0x4D4D []) [] 6 (slice 6 (length (x .args .file .now)) (x .args .file .now))) z (y .last .1 .1 .1 .1 .1 .0)) (h .1) (y .ensures .0 (inside file 0x4D4D []) [] k) in
     let v : RunWithin 6 (length (x .args .file .now)) (Ran.Done (h .0 .0) (h .0 .1 .0) (h .0 .1 .1 .0)) = subst (RunWithin 6 (length (x .args .file .now))) (h .1) (y .ensures .1 .1) in
     omega (arith, v, x .pre .0, x .pre .1)
 
@@ -74,34 +68,25 @@ returns c =
     let x = c .before .before .before .before .before .before .before .before in
     let y = c .before .before .before .before .run in
     let b = bytes-all (x .args .file .now) (λ i. omega (arith, c .before .before .before .before .before .before .before .shared-slice-known .given i)) in
-    let k = top-context (c .before .before .before .before .before .before .row .result) (c .before .before .before .before .before .before .row .ensures) in
     let g = c .before .r .given in
-    figure-refused (x .args .file .now) b (x .pre .0) (x .pre .1) (y .last .1 .1 .1 .1 .1 .0) (g .0 .0) (subst (λ z. RunIs (length (x .args .file .now)) 0 0 6 noMarks (walk (inside file 0x4D4D []) [] 6 (slice 6 (length (x .args .file .now)) (x .args .file .now))) z (y .last .1 .1 .1 .1 .1 .0)) (g .1) (y .ensures .0 (inside file 0x4D4D []) [] k))
+    figure-refused (x .args .file .now) b (x .pre .0) (x .pre .1) (y .last .1 .1 .1 .1 .1 .0) (g .0 .0) (top-run (x .args .file .now) (c .before .before .before .before .before .before .row .result) (c .before .before .before .before .before .before .row .ensures) (y .result) (y .last .1 .1 .1 .1 .1 .0) (y .ensures .0) (g .1))
 
 returns-2 : tie.Need-returns-2
 returns-2 c =
     let x = c .before .before .before .before .before .before .before .before .before .before .before .before .before in
     let y = c .before .before .before .before .before .before .before .before .before .run in
-    let b = bytes-all (x .args .file .now) (λ i. omega (arith, c .before .before .before .before .before .before .before .before .before .before .before .before .shared-slice-known .given i)) in
-    let k = top-context (c .before .before .before .before .before .before .before .before .before .before .before .row .result) (c .before .before .before .before .before .before .before .before .before .before .before .row .ensures) in
     let h = c .before .before .before .before .before .before .records .given in
-    let f = subst (λ z. RunIs (length (x .args .file .now)) 0 0 6 noMarks (walk (inside file 0x4D4D []) [] 6 (slice 6 (length (x .args .file .now)) (x .args .file .now))) z (y .last .1 .1 .1 .1 .1 .0)) (h .1) (y .ensures .0 (inside file 0x4D4D []) [] k) in
-    let v : RunWithin 6 (length (x .args .file .now)) (Ran.Done (h .0 .0) (h .0 .1 .0) (h .0 .1 .1 .0)) = subst (RunWithin 6 (length (x .args .file .now))) (h .1) (y .ensures .1 .1) in
-    let u = c .before .before .before .at-end in
+    let f = top-run (x .args .file .now) (c .before .before .before .before .before .before .before .before .before .before .before .row .result) (c .before .before .before .before .before .before .before .before .before .before .before .row .ensures) (y .result) (y .last .1 .1 .1 .1 .1 .0) (y .ensures .0) (h .1) in
     let g = c .before .r2 .given in
-    figure-shut (x .args .file .now) b (x .pre .0) (x .pre .1) (y .last .1 .1 .1 .1 .1 .0) (h .0 .0) (h .0 .1 .0) (h .0 .1 .1 .0) f (u .result) (u .ensures) (g .0 .0) (g .1)
+    figure-shut (x .args .file .now) (bytes-all (x .args .file .now) (λ i. omega (arith, c .before .before .before .before .before .before .before .before .before .before .before .before .shared-slice-known .given i))) (x .pre .0) (x .pre .1) (y .last .1 .1 .1 .1 .1 .0) (h .0 .0) (h .0 .1 .0) (h .0 .1 .1 .0) f (c .before .before .before .at-end .result) (c .before .before .before .at-end .ensures) (g .0 .0) (g .1)
 
 returns-3 : tie.Need-returns-3
 returns-3 c =
     let x = c .before .before .before .before .before .before .before .before .before .before .before .before .before in
     let y = c .before .before .before .before .before .before .before .before .before .run in
-    let b = bytes-all (x .args .file .now) (λ i. omega (arith, c .before .before .before .before .before .before .before .before .before .before .before .before .shared-slice-known .given i)) in
-    let k = top-context (c .before .before .before .before .before .before .before .before .before .before .before .row .result) (c .before .before .before .before .before .before .before .before .before .before .before .row .ensures) in
     let h = c .before .before .before .before .before .before .records .given in
-    let f = subst (λ z. RunIs (length (x .args .file .now)) 0 0 6 noMarks (walk (inside file 0x4D4D []) [] 6 (slice 6 (length (x .args .file .now)) (x .args .file .now))) z (y .last .1 .1 .1 .1 .1 .0)) (h .1) (y .ensures .0 (inside file 0x4D4D []) [] k) in
-    let v : RunWithin 6 (length (x .args .file .now)) (Ran.Done (h .0 .0) (h .0 .1 .0) (h .0 .1 .1 .0)) = subst (RunWithin 6 (length (x .args .file .now))) (h .1) (y .ensures .1 .1) in
-    let u = c .before .before .before .at-end in
-    figure-accepted (x .args .file .now) b (x .pre .0) (x .pre .1) (y .last .1 .1 .1 .1 .1 .0) (h .0 .0) (h .0 .1 .0) (h .0 .1 .1 .0) f (u .result) (u .ensures) (c .before .enum-told .given .1) (c .counts .result) (c .counts .ensures)
+    let f = top-run (x .args .file .now) (c .before .before .before .before .before .before .before .before .before .before .before .row .result) (c .before .before .before .before .before .before .before .before .before .before .before .row .ensures) (y .result) (y .last .1 .1 .1 .1 .1 .0) (y .ensures .0) (h .1) in
+    figure-accepted (x .args .file .now) (bytes-all (x .args .file .now) (λ i. omega (arith, c .before .before .before .before .before .before .before .before .before .before .before .before .shared-slice-known .given i))) (x .pre .0) (x .pre .1) (y .last .1 .1 .1 .1 .1 .0) (h .0 .0) (h .0 .1 .0) (h .0 .1 .1 .0) f (c .before .before .before .at-end .result) (c .before .before .before .at-end .ensures) (c .before .enum-told .given .1) (c .counts .result) (c .counts .ensures)
 
 pub check-figure-spec : {M : Type 1} → statement M
 check-figure-spec =

@@ -6,17 +6,15 @@ use mathlib.Core.Bool.{true, false}
 use mathlib.Core.List.{List}
 use Prim.Native.Nat.{_+_, _≤_}
 use lib.ListN.{length}
-use lib.Seq.{slice, length-slice}
-use Rattle.rules.specs.Bytes.{le}
+use lib.Seq.{slice}
 use Rattle.rules.specs.Rules.{Parent}
 use Rattle.rules.specs.Walk.{Step}
 use Rattle.table.specs.Packed.{plusIn}
 use Rattle.table.proofs.Facts.{plus-is}
 use Rattle.own_data.specs.Own.{Judges}
-use Rattle.own_data.proofs.Conditions.{some-around}
 use Rattle.reader.specs.declared.Head.{Head}
 use Rattle.reader.specs.States.{HeadIs}
-use Rattle.reader.proofs.Opens.{opened-fault, judged-within, opened-enters, head-enter, head-leaf}
+use Rattle.reader.proofs.Opens.{opened-fault, judged-ends, opened-enters, head-enter, head-leaf}
 use borrow.Author.Needs.{needs}
 use Rattle.reader.proofs.look_listed.Statement.{statement}
 use Rattle.reader.proofs.look_listed.Tie as tie
@@ -37,11 +35,7 @@ add-from-2 : tie.Need-add-from-2
 add-from-2 c =
     let x = c .before .before .before .before .before in
     let g = c .before .size .given in
-    let q : Parent = record { id = 0; own = le 2 (x .args .count) } in
-    let j = subst (Judges q (x .args .at) (x .args .id) (slice (x .args .at + 6) (x .args .stop) (x .args .file .now))) (g .1) (c .before .before .before .judge .ensures q (some-around (x .args .count) (x .pre .2))) in
-    let w = judged-within q (x .args .at) (x .args .id) (slice (x .args .at + 6) (x .args .stop) (x .args .file .now)) (g .0 .0) j in
-    let z = length-slice (x .args .at + 6) (x .args .stop) (x .args .file .now) (x .pre .1) in
-    let f : x .args .at + 6 + g .0 .0 ≤ x .args .stop = omega arith in
+    let f = judged-ends (x .args .file .now) (x .args .at) (x .args .id) (x .args .stop) (x .args .count) (x .pre .0) (x .pre .1) (x .pre .2) _ (c .before .before .before .judge .ensures) (g .0 .0) (g .1) in
     omega arith
 
 may-have-children-requires : tie.Need-may-have-children-requires
@@ -54,11 +48,7 @@ count-of-requires : tie.Need-count-of-requires
 count-of-requires c κs =
     let x = c .before .before .before .before .before .before .before in
     let g = c .before .before .before .size .given in
-    let q : Parent = record { id = 0; own = le 2 (x .args .count) } in
-    let j = subst (Judges q (x .args .at) (x .args .id) (slice (x .args .at + 6) (x .args .stop) (x .args .file .now))) (g .1) (c .before .before .before .before .before .judge .ensures q (some-around (x .args .count) (x .pre .2))) in
-    let w = judged-within q (x .args .at) (x .args .id) (slice (x .args .at + 6) (x .args .stop) (x .args .file .now)) (g .0 .0) j in
-    let z = length-slice (x .args .at + 6) (x .args .stop) (x .args .file .now) (x .pre .1) in
-    let f : x .args .at + 6 + g .0 .0 ≤ x .args .stop = omega arith in
+    let f = judged-ends (x .args .file .now) (x .args .at) (x .args .id) (x .args .stop) (x .args .count) (x .pre .0) (x .pre .1) (x .pre .2) _ (c .before .before .before .before .before .judge .ensures) (g .0 .0) (g .1) in
     omega arith
 
 returns : tie.Need-returns
@@ -71,11 +61,7 @@ returns-2 : tie.Need-returns-2
 returns-2 c =
     let x = c .before .before .before .before .before .before .before .before in
     let g = c .before .before .before .before .size .given in
-    let q : Parent = record { id = 0; own = le 2 (x .args .count) } in
-    let j = subst (Judges q (x .args .at) (x .args .id) (slice (x .args .at + 6) (x .args .stop) (x .args .file .now))) (g .1) (c .before .before .before .before .before .before .judge .ensures q (some-around (x .args .count) (x .pre .2))) in
-    let w = judged-within q (x .args .at) (x .args .id) (slice (x .args .at + 6) (x .args .stop) (x .args .file .now)) (g .0 .0) j in
-    let z = length-slice (x .args .at + 6) (x .args .stop) (x .args .file .now) (x .pre .1) in
-    let f : x .args .at + 6 + g .0 .0 ≤ x .args .stop = omega arith in
+    let f = judged-ends (x .args .file .now) (x .args .at) (x .args .id) (x .args .stop) (x .args .count) (x .pre .0) (x .pre .1) (x .pre .2) _ (c .before .before .before .before .before .before .judge .ensures) (g .0 .0) (g .1) in
     let u = sym (plus-is (x .args .id) (x .pre .3)) ∙ ap plusIn (sym (x .pre .4)) ∙ sym (c .before .before .may-have-children .ensures) ∙ c .before .if1 .taken in
     let n = c .count-of .ensures in (
       λ p rest h. subst (λ (y : Step). HeadIs (x .args .at) y (Head.Enter (x .args .id) (x .args .row) (c .count-of .result) (x .args .at + 6 + g .0 .0) (x .args .stop)))
@@ -88,11 +74,7 @@ returns-3 : tie.Need-returns-3
 returns-3 c =
     let x = c .before .before .before .before .before .before .before in
     let g = c .before .before .before .size .given in
-    let q : Parent = record { id = 0; own = le 2 (x .args .count) } in
-    let j = subst (Judges q (x .args .at) (x .args .id) (slice (x .args .at + 6) (x .args .stop) (x .args .file .now))) (g .1) (c .before .before .before .before .before .judge .ensures q (some-around (x .args .count) (x .pre .2))) in
-    let w = judged-within q (x .args .at) (x .args .id) (slice (x .args .at + 6) (x .args .stop) (x .args .file .now)) (g .0 .0) j in
-    let z = length-slice (x .args .at + 6) (x .args .stop) (x .args .file .now) (x .pre .1) in
-    let f : x .args .at + 6 + g .0 .0 ≤ x .args .stop = omega arith in
+    let f = judged-ends (x .args .file .now) (x .args .at) (x .args .id) (x .args .stop) (x .args .count) (x .pre .0) (x .pre .1) (x .pre .2) _ (c .before .before .before .before .before .judge .ensures) (g .0 .0) (g .1) in
     let u = sym (plus-is (x .args .id) (x .pre .3)) ∙ ap plusIn (sym (x .pre .4)) ∙ sym (c .before .may-have-children .ensures) ∙ c .if1 .left in (
       λ p rest h. subst (λ (y : Step). HeadIs (x .args .at) y (Head.Leaf (x .args .stop)))
           (sym (opened-enters p (x .args .at) (x .args .id) (slice (x .args .at + 6) (x .args .stop) (x .args .file .now)) rest (g .0 .0) (subst (Judges p (x .args .at) (x .args .id) (slice (x .args .at + 6) (x .args .stop) (x .args .file .now))) (g .1) (c .before .before .before .before .before .judge .ensures p h))))
