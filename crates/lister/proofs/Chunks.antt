@@ -51,7 +51,7 @@ pub record Entered (s : List ℕ) (at stop id own : ℕ) (t : Run) : Type 0 wher
   pub lists : (depth parent next : ℕ) → recordsOf at depth parent next t ≡
       record { identifier = id; offset = at; len = stop - at; depth = depth; parent = parent; own = own } ∷ recordsOf (at + 6 + own) (depth + 1) next (next + 1) kids
 
-module _ {s : List ℕ} {at stop word depth parent next : ℕ} (order : at + 6 ≤ stop) (bounds : Bounds s at stop word depth parent next) {id row : ℕ} (i : id ≡ wordAt s at) (i′ : row ≡ rowOf id) where
+module _ {s : List ℕ} {at stop word depth parent next : ℕ} (order : at + 6 ≤ stop) (bounds : Bounds s at stop word depth parent next) {id row : ℕ} (id-is : id ≡ wordAt s at) (row-is : row ≡ rowOf id) where
   -- a chunk without a row
   pub skipped-listed : (records : List ℕ) → row ≡ 0 → (p : Parent) (t : Run) → Laid s at stop p word (first t) → Listed records at depth parent next (first t) records next
   skipped-listed records e p end l = absurd (omega (arith, laid-size (bounds .ends) l))
@@ -60,7 +60,7 @@ module _ {s : List ℕ} {at stop word depth parent next : ℕ} (order : at + 6 �
       let z = laid-size (bounds .ends) l in
       let w = l .obeys .0 in
       let j = known-stands s at stop (bounds .ends) id₁ own kids end (l .is) (lawful-small p id₁ own kids w) (omega arith) .id-is in
-      absurd (eqb-false (rowOf id₁) 0 (row-of-listed id₁ (lawful-listed p id₁ own kids w)) (ap rowOf (sym j ∙ sym i) ∙ sym i′ ∙ e))
+      absurd (eqb-false (rowOf id₁) 0 (row-of-listed id₁ (lawful-listed p id₁ own kids w)) (ap rowOf (sym j ∙ sym id-is) ∙ sym row-is ∙ e))
 
   -- a chunk with one; k is what own data comes to
   module _ {k : ℕ} (found : (around own more : List ℕ) → CountIs around word → Begins row around own more → own ++ more ≡ slice (at + 6) stop s → k ≡ length own) where
@@ -70,13 +70,13 @@ module _ {s : List ℕ} {at stop word depth parent next : ℕ} (order : at + 6 �
         let z = laid-size (bounds .ends) l in
         let u = l .obeys .0 in
         let j = skip-stands s at stop (bounds .ends) id₁ body end (l .is) (unlisted-small id₁ u) (omega arith) .id-is in
-        absurd (e (i′ ∙ ap rowOf (i ∙ j) ∙ row-of-unlisted id₁ (not-true (listed id₁) (and-parts (ltb id₁ 0x1_0000) (not (listed id₁)) u .1))))
+        absurd (e (row-is ∙ ap rowOf (id-is ∙ j) ∙ row-of-unlisted id₁ (not-true (listed id₁) (and-parts (ltb id₁ 0x1_0000) (not (listed id₁)) u .1))))
     entered e p (known id₁ own kids rest) l =
         let z = laid-size (bounds .ends) l in
         let w = l .obeys .0 in
         let v = lawful-small p id₁ own kids w in
-        let j = i ∙ known-stands s at stop (bounds .ends) id₁ own kids end (l .is) v (omega arith) .id-is in
-        let b : Begins row (p .own) own (bytes kids ++ []) = rw (i′, j) (lawful-begins p id₁ own kids w) in
+        let j = id-is ∙ known-stands s at stop (bounds .ends) id₁ own kids end (l .is) v (omega arith) .id-is in
+        let b : Begins row (p .own) own (bytes kids ++ []) = rw (row-is, j) (lawful-begins p id₁ own kids w) in
         let n : k ≡ length own = found (p .own) own (bytes kids ++ []) (l .count-is) b (ap (drop 6) (l .is) ∙ drop-slice 6 at stop s) in
         let f : at + 6 + k ≡ at + (6 + length own) = omega arith in
         let g : stop ≡ at + (6 + length own + size kids) = omega arith in

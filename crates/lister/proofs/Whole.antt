@@ -17,7 +17,7 @@ use Rattle.rules.specs.Rules.{file, Meets}
 use Rattle.rules.specs.Gives.{recordCount, list, flat}
 use Rattle.rules.specs.Walk.{Answer, refused, accepted, verdict}
 use Rattle.rules.specs.Calls.{Effect, leaving, filled, countsOf, checkOf, checkCall, listOf, listCall}
-use Rattle.rules.proofs.Verdict.{demand2, length-figure}
+use Rattle.rules.proofs.Verdict.{demand2}
 use Rattle.lister.specs.Laid.{Laid, Bounds, Room, Listed}
 use Rattle.lister.proofs.Rows.{length-flat, length-records}
 
@@ -63,9 +63,6 @@ module _ {s : List ℕ} {counts : Counts} (a : Accepted s counts) where
 
     pub whole-bounds : Bounds s 0 (length s) 0 0 0 0
     whole-bounds = record { ends = omega arith; short = meets .within-limit; count-small = omega arith; deep = omega arith; over = omega arith; before = omega arith }
-
-    pub whole-header : 6 ≤ length s
-    whole-header = omega (arith, ap length (meets .is), length-figure (a .kids))
 
   module _ (row : List ℕ) where
     pub list-no-room : length row / 6 < counts .records → listCall s row ≡ leaving (Checked.Refused (NoRoom (counts .records))) row

@@ -54,6 +54,7 @@ pub record Begins (row : ℕ) (around own more : List ℕ) : Type 0 where
 abbrev pub sixOf : ℕ → ℕ → ℕ → ℕ → ℕ → ℕ → List ℕ
 sixOf id at len depth parent own = id ∷ at ∷ len ∷ depth ∷ parent ∷ own ∷ []
 
+-- each of them fits 32 bits
 pub record Small (id at len depth parent own : ℕ) : Type 0 where
   pub id-small : id < 2 ^ 32
   pub at-small : at < 2 ^ 32

@@ -113,6 +113,7 @@ fn list_run(
 
 // The list of a figure's known chunks, in file order, into a lent row whose room is counted in whole records. Answers
 // what the check answers, or that there is no room; a refusal leaves the row as it was.
+// (The file is a run of one chunk. With no other call of `list_chunk`, a chunk without children costs `list_run` no call.)
 pub fn list(file: &[u8], row: &mut [u32]) -> Checked
     ensures answer { λ r. ⌜ r ≡ listCall (now (file .entry)) (now (row .entry)) .answer ⌝ }
     ensures filled { λ r. ⌜ now (row .exit) ≡ listCall (now (file .entry)) (now (row .entry)) .rows ⌝ }
@@ -124,7 +125,7 @@ pub fn list(file: &[u8], row: &mut [u32]) -> Checked
             if row.len() / 6 < records {
                 return Checked::Refused(Refusal::NoRoom(records));
             }
-            list_chunk(file, row, 0, 0, file.len(), 0, 0, 0);
+            list_run(file, row, 0, 0, file.len(), 0, 0, 0);
             Checked::Accepted(counts)
         }
     }

@@ -5,7 +5,7 @@ use borrow.Author.Needs.{needs}
 use Rattle.rules.specs.Layout.{figure}
 use Rattle.rules.specs.Rules.{file}
 use Rattle.reader.proofs.Parts.{bytes-all}
-use Rattle.lister.proofs.Whole.{gives, list-refused, accepted-by, whole-laid, whole-bounds, whole-header, whole-room, list-no-room, list-filled}
+use Rattle.lister.proofs.Whole.{gives, list-refused, accepted-by, whole-laid, whole-bounds, whole-room, list-no-room, list-filled}
 use Rattle.lister.proofs.list.Statement.{statement}
 use Rattle.lister.proofs.list.Tie as tie
 
@@ -25,13 +25,13 @@ returns c =
     let a = accepted-by (x .file .now) (g .0 .0) (sym (c .before .before .before .before .check .ensures) ∙ g .1) in
     gives (x .file .now) (x .row .now) (list-no-room a (x .row .now) (c .if1 .taken))
 
-list-chunk-requires : tie.Need-list-chunk-requires
-list-chunk-requires c κs =
+list-run-requires : tie.Need-list-run-requires
+list-run-requires c κs =
     let x = c .before .before .before .before .before .before .before .before .args in
     let g = c .before .before .before .counts .given in
     let a = accepted-by (x .file .now) (g .0 .0) (sym (c .before .before .before .before .before .check .ensures) ∙ g .1) in
     let b = bytes-all (x .file .now) (λ i. omega (arith, c .before .before .before .before .before .before .before .shared-slice-known .given i)) in
-    (whole-header a b, whole-bounds a b, (file, figure (a .kids), whole-laid a b, whole-room a (x .row .now) (c .before .if1 .left)))
+    (omega arith, whole-bounds a b, (file, figure (a .kids), whole-laid a b, whole-room a (x .row .now) (c .before .if1 .left)))
 
 returns-2 : tie.Need-returns-2
 returns-2 c =
@@ -49,7 +49,7 @@ returns-3 c =
     let a = accepted-by (x .file .now) (g .0 .0) (sym (c .before .before .before .before .before .before .before .before .check .ensures) ∙ g .1) in
     let b = bytes-all (x .file .now) (λ i. omega (arith, c .before .before .before .before .before .before .before .before .before .before .shared-slice-known .given i)) in
     gives (x .file .now) (x .row .now)
-    (list-filled a (x .row .now) (c .before .before .before .before .if1 .left) _ _ (c .before .before .list-chunk .ensures file (figure (a .kids)) (whole-laid a b)))
+    (list-filled a (x .row .now) (c .before .before .before .before .if1 .left) _ _ (c .before .before .list-run .ensures file (figure (a .kids)) (whole-laid a b)))
 
 pub list-spec : {M : Type 1} → statement M
 list-spec =
@@ -59,7 +59,7 @@ list-spec =
     enum-known-r
     enum-known-counts
     returns
-    list-chunk-requires
+    list-run-requires
     returns-2
     same-length
     returns-3)

@@ -5,6 +5,7 @@ use mathlib.Core.List.{List, [], _∷_}
 use Prim.Native.Nat.{_+_, _-_, _*_, _≤_}
 use native.Mathlib.Omega.{arith}
 use borrow.Author.Needs.{needs}
+use lib.ListN.{length}
 use lib.Seq.{slice}
 use Rattle.rules.specs.Rules.{inside}
 use Rattle.rules.specs.Walk.{step, walk}
@@ -50,44 +51,30 @@ run-at t = and 2 run-kinds.ps (is 2 run-kinds.ps μ-run t) run.Pre
 abbrev run-below : ℕ → In 2 run-kinds.ps
 run-below t = and 2 run-kinds.ps (falls 2 run-kinds.ps _<_ μ-run t) run.Pre
 
-chunk-look-requires : (t : ℕ) → chunk-lts.Need-look-requires (
+-- what is known of the functions that each of the two calls
+abbrev chunk-calls : ℕ → chunk-lts.Claims
+chunk-calls t = (
   look-reads.Asked,
   look-reads.Learnt,
   run-below t,
   run.Post,
   at-end-reads.Asked,
   at-end-reads.Learnt,
-) (chunk-at t) chunk.Post
+)
+
+abbrev run-calls : ℕ → run-lts.Claims
+run-calls t = (chunk-below t, chunk.Post)
+
+chunk-look-requires : (t : ℕ) → chunk-lts.Need-look-requires (chunk-calls t) (chunk-at t) chunk.Post
 chunk-look-requires t c κs = (c .before .before .before .pre .1 .0, c .before .before .before .pre .1 .2)
 
-chunk-enum-known-r : (t : ℕ) → chunk-lts.Need-enum-known-r (
-  look-reads.Asked,
-  look-reads.Learnt,
-  run-below t,
-  run.Post,
-  at-end-reads.Asked,
-  at-end-reads.Learnt,
-) (chunk-at t) chunk.Post
+chunk-enum-known-r : (t : ℕ) → chunk-lts.Need-enum-known-r (chunk-calls t) (chunk-at t) chunk.Post
 chunk-enum-known-r t c = search needs
 
-chunk-enum-known-stop : (t : ℕ) → chunk-lts.Need-enum-known-stop (
-  look-reads.Asked,
-  look-reads.Learnt,
-  run-below t,
-  run.Post,
-  at-end-reads.Asked,
-  at-end-reads.Learnt,
-) (chunk-at t) chunk.Post
+chunk-enum-known-stop : (t : ℕ) → chunk-lts.Need-enum-known-stop (chunk-calls t) (chunk-at t) chunk.Post
 chunk-enum-known-stop t c = search needs
 
-chunk-sub-t24 : (t : ℕ) → chunk-lts.Need-sub-t24 (
-  look-reads.Asked,
-  look-reads.Learnt,
-  run-below t,
-  run.Post,
-  at-end-reads.Asked,
-  at-end-reads.Learnt,
-) (chunk-at t) chunk.Post
+chunk-sub-t24 : (t : ℕ) → chunk-lts.Need-sub-t24 (chunk-calls t) (chunk-at t) chunk.Post
 chunk-sub-t24 t c =
     let x = c .before .before .before .before .before .before .before .before .before in
     let w = c .before .before .before .before .before .look in
@@ -96,44 +83,16 @@ chunk-sub-t24 t c =
     let v : HeadWithin (x .args .at) (x .args .end) (Head.Skip (g .0 .0)) = subst (HeadWithin (x .args .at) (x .args .end)) (g .1) (w .ensures .1 .1 .1) in
     omega arith
 
-chunk-enum-known-stop-2 : (t : ℕ) → chunk-lts.Need-enum-known-stop-2 (
-  look-reads.Asked,
-  look-reads.Learnt,
-  run-below t,
-  run.Post,
-  at-end-reads.Asked,
-  at-end-reads.Learnt,
-) (chunk-at t) chunk.Post
+chunk-enum-known-stop-2 : (t : ℕ) → chunk-lts.Need-enum-known-stop-2 (chunk-calls t) (chunk-at t) chunk.Post
 chunk-enum-known-stop-2 t c = search needs
 
-chunk-enum-known-id : (t : ℕ) → chunk-lts.Need-enum-known-id (
-  look-reads.Asked,
-  look-reads.Learnt,
-  run-below t,
-  run.Post,
-  at-end-reads.Asked,
-  at-end-reads.Learnt,
-) (chunk-at t) chunk.Post
+chunk-enum-known-id : (t : ℕ) → chunk-lts.Need-enum-known-id (chunk-calls t) (chunk-at t) chunk.Post
 chunk-enum-known-id t c = search needs
 
-chunk-slice-aggregate-run : (t : ℕ) → chunk-lts.Need-slice-aggregate-run (
-  look-reads.Asked,
-  look-reads.Learnt,
-  run-below t,
-  run.Post,
-  at-end-reads.Asked,
-  at-end-reads.Learnt,
-) (chunk-at t) chunk.Post
+chunk-slice-aggregate-run : (t : ℕ) → chunk-lts.Need-slice-aggregate-run (chunk-calls t) (chunk-at t) chunk.Post
 chunk-slice-aggregate-run t c = search needs
 
-chunk-run-requires : (t : ℕ) → chunk-lts.Need-run-requires (
-  look-reads.Asked,
-  look-reads.Learnt,
-  run-below t,
-  run.Post,
-  at-end-reads.Asked,
-  at-end-reads.Learnt,
-) (chunk-at t) chunk.Post
+chunk-run-requires : (t : ℕ) → chunk-lts.Need-run-requires (chunk-calls t) (chunk-at t) chunk.Post
 chunk-run-requires t c κs =
     let x = c .before .before .before .before .before .before .before .before .before .before in
     let w = c .before .before .before .before .before .before .look in
@@ -142,44 +101,16 @@ chunk-run-requires t c κs =
     let v : HeadWithin (x .args .at) (x .args .end) (Head.Enter (g .0 .0) (g .0 .1 .0) (g .0 .1 .1 .0) (g .0 .1 .1 .1 .0) (g .0 .1 .1 .1 .1 .0)) = subst (HeadWithin (x .args .at) (x .args .end)) (g .1) (w .ensures .1 .1 .1) in
     (omega (arith, v .0, v .1, v .2, x .pre), (v .1, omega (arith, v .0), record { ends = omega (arith, x .pre .1 .2 .ends, v .2); short = x .pre .1 .2 .short; word = v .3; five = refl }, (inside (x .pre .1 .3 .0) (g .0 .0) (ent (x .args .file .now) (x .args .at) (x .args .end) (x .pre .1 .0) (x .pre .1 .2 .ends) b (x .pre .1 .3 .0) (x .pre .1 .3 .1) (x .args .marks .now) (w .last .1 .1 .1 .1 .1 .0) (w .result) (w .ensures .0 (x .pre .1 .3 .0) (x .pre .1 .3 .1) (x .pre .1 .3 .2)) (w .ensures .1 .0 (x .pre .1 .3 .0) (x .pre .1 .3 .1) (x .pre .1 .3 .2)) (g .0 .0) (g .0 .1 .0) (g .0 .1 .1 .0) (g .0 .1 .1 .1 .0) (g .0 .1 .1 .1 .1 .0) (g .1) .own), [], inner-context (x .args .file .now) (x .args .at) (x .args .end) (x .pre .1 .0) (x .pre .1 .2 .ends) b (x .pre .1 .3 .0) (x .pre .1 .3 .1) (x .args .marks .now) (w .last .1 .1 .1 .1 .1 .0) (w .result) (w .ensures .0 (x .pre .1 .3 .0) (x .pre .1 .3 .1) (x .pre .1 .3 .2)) (w .ensures .1 .0 (x .pre .1 .3 .0) (x .pre .1 .3 .1) (x .pre .1 .3 .2)) (g .0 .0) (g .0 .1 .0) (g .0 .1 .1 .0) (g .0 .1 .1 .1 .0) (g .0 .1 .1 .1 .1 .0) (g .1) (v .3))))
 
-chunk-enum-known-r-2 : (t : ℕ) → chunk-lts.Need-enum-known-r-2 (
-  look-reads.Asked,
-  look-reads.Learnt,
-  run-below t,
-  run.Post,
-  at-end-reads.Asked,
-  at-end-reads.Learnt,
-) (chunk-at t) chunk.Post
+chunk-enum-known-r-2 : (t : ℕ) → chunk-lts.Need-enum-known-r-2 (chunk-calls t) (chunk-at t) chunk.Post
 chunk-enum-known-r-2 t c = search needs
 
-chunk-enum-known-records : (t : ℕ) → chunk-lts.Need-enum-known-records (
-  look-reads.Asked,
-  look-reads.Learnt,
-  run-below t,
-  run.Post,
-  at-end-reads.Asked,
-  at-end-reads.Learnt,
-) (chunk-at t) chunk.Post
+chunk-enum-known-records : (t : ℕ) → chunk-lts.Need-enum-known-records (chunk-calls t) (chunk-at t) chunk.Post
 chunk-enum-known-records t c = search needs
 
-chunk-slice-aggregate-at-end : (t : ℕ) → chunk-lts.Need-slice-aggregate-at-end (
-  look-reads.Asked,
-  look-reads.Learnt,
-  run-below t,
-  run.Post,
-  at-end-reads.Asked,
-  at-end-reads.Learnt,
-) (chunk-at t) chunk.Post
+chunk-slice-aggregate-at-end : (t : ℕ) → chunk-lts.Need-slice-aggregate-at-end (chunk-calls t) (chunk-at t) chunk.Post
 chunk-slice-aggregate-at-end t c = search needs
 
-chunk-at-end-requires : (t : ℕ) → chunk-lts.Need-at-end-requires (
-  look-reads.Asked,
-  look-reads.Learnt,
-  run-below t,
-  run.Post,
-  at-end-reads.Asked,
-  at-end-reads.Learnt,
-) (chunk-at t) chunk.Post
+chunk-at-end-requires : (t : ℕ) → chunk-lts.Need-at-end-requires (chunk-calls t) (chunk-at t) chunk.Post
 chunk-at-end-requires t c κs =
     let x = c .before .before .before .before .before .before .before .before .before .before .before .before .before .before .before .before in
     let w = c .before .before .before .before .before .before .before .before .before .before .before .before .look in
@@ -192,34 +123,13 @@ chunk-at-end-requires t c κs =
     let m = x .pre .1 .2 .short in
     (y .ensures .1 .0, enter-placed (x .args .file .now) (x .args .at) (x .args .end) (x .pre .1 .0) (x .pre .1 .2 .ends) b (x .pre .1 .3 .0) (x .pre .1 .3 .1) (x .args .marks .now) (w .last .1 .1 .1 .1 .1 .0) (w .result) (w .ensures .0 (x .pre .1 .3 .0) (x .pre .1 .3 .1) (x .pre .1 .3 .2)) (w .ensures .1 .0 (x .pre .1 .3 .0) (x .pre .1 .3 .1) (x .pre .1 .3 .2)) (g .0 .0) (g .0 .1 .0) (g .0 .1 .1 .0) (g .0 .1 .1 .1 .0) (g .0 .1 .1 .1 .1 .0) (g .1) (v .1) (omega (arith, x .pre .1 .2 .ends, v .2)) (omega (arith, v .0)) (y .last .1 .1 .1 .1 .1 .0) (h .0 .0) (h .0 .1 .0) (h .0 .1 .1 .0) f (omega arith), omega arith)
 
-chunk-enum-known-r-3 : (t : ℕ) → chunk-lts.Need-enum-known-r-3 (
-  look-reads.Asked,
-  look-reads.Learnt,
-  run-below t,
-  run.Post,
-  at-end-reads.Asked,
-  at-end-reads.Learnt,
-) (chunk-at t) chunk.Post
+chunk-enum-known-r-3 : (t : ℕ) → chunk-lts.Need-enum-known-r-3 (chunk-calls t) (chunk-at t) chunk.Post
 chunk-enum-known-r-3 t c = search needs
 
-chunk-enum-told : (t : ℕ) → chunk-lts.Need-enum-told (
-  look-reads.Asked,
-  look-reads.Learnt,
-  run-below t,
-  run.Post,
-  at-end-reads.Asked,
-  at-end-reads.Learnt,
-) (chunk-at t) chunk.Post
+chunk-enum-told : (t : ℕ) → chunk-lts.Need-enum-told (chunk-calls t) (chunk-at t) chunk.Post
 chunk-enum-told t c = search needs
 
-chunk-add-t33 : (t : ℕ) → chunk-lts.Need-add-t33 (
-  look-reads.Asked,
-  look-reads.Learnt,
-  run-below t,
-  run.Post,
-  at-end-reads.Asked,
-  at-end-reads.Learnt,
-) (chunk-at t) chunk.Post
+chunk-add-t33 : (t : ℕ) → chunk-lts.Need-add-t33 (chunk-calls t) (chunk-at t) chunk.Post
 chunk-add-t33 t c =
     let x = c .before .before .before .before .before .before .before .before .before .before .before .before .before .before .before .before .before .before .before in
     let w = c .before .before .before .before .before .before .before .before .before .before .before .before .before .before .before .look in
@@ -233,24 +143,10 @@ chunk-add-t33 t c =
     let e = x .pre .1 .2 .ends in
     omega arith
 
-chunk-same-length : (t : ℕ) → chunk-lts.Need-same-length (
-  look-reads.Asked,
-  look-reads.Learnt,
-  run-below t,
-  run.Post,
-  at-end-reads.Asked,
-  at-end-reads.Learnt,
-) (chunk-at t) chunk.Post
+chunk-same-length : (t : ℕ) → chunk-lts.Need-same-length (chunk-calls t) (chunk-at t) chunk.Post
 chunk-same-length t c = search needs
 
-chunk-returns : (t : ℕ) → chunk-lts.Need-returns (
-  look-reads.Asked,
-  look-reads.Learnt,
-  run-below t,
-  run.Post,
-  at-end-reads.Asked,
-  at-end-reads.Learnt,
-) (chunk-at t) chunk.Post
+chunk-returns : (t : ℕ) → chunk-lts.Need-returns (chunk-calls t) (chunk-at t) chunk.Post
 chunk-returns t c =
     let x = c .before .before .before .before .before .before .before .before .before in
     let w = c .before .before .before .before .before .look in
@@ -258,24 +154,10 @@ chunk-returns t c =
     let g = c .before .r .given in
     (λ q seen k. chunk-fault q (x .args .at) (x .args .marks .now) (w .last .1 .1 .1 .1 .1 .0) (step q seen (x .args .at) (slice (x .args .at) (x .args .end) (x .args .file .now))) (g .0 .0) (subst (HeadIs (x .args .at) (step q seen (x .args .at) (slice (x .args .at) (x .args .end) (x .args .file .now)))) (g .1) (w .ensures .0 q seen k)), (w .ensures .1 .1 .0, tt))
 
-chunk-same-length-2 : (t : ℕ) → chunk-lts.Need-same-length-2 (
-  look-reads.Asked,
-  look-reads.Learnt,
-  run-below t,
-  run.Post,
-  at-end-reads.Asked,
-  at-end-reads.Learnt,
-) (chunk-at t) chunk.Post
+chunk-same-length-2 : (t : ℕ) → chunk-lts.Need-same-length-2 (chunk-calls t) (chunk-at t) chunk.Post
 chunk-same-length-2 t c = search needs
 
-chunk-returns-2 : (t : ℕ) → chunk-lts.Need-returns-2 (
-  look-reads.Asked,
-  look-reads.Learnt,
-  run-below t,
-  run.Post,
-  at-end-reads.Asked,
-  at-end-reads.Learnt,
-) (chunk-at t) chunk.Post
+chunk-returns-2 : (t : ℕ) → chunk-lts.Need-returns-2 (chunk-calls t) (chunk-at t) chunk.Post
 chunk-returns-2 t c =
     let x = c .before .before .before .before .before .before .before .before .before in
     let w = c .before .before .before .before .before .look in
@@ -286,24 +168,10 @@ chunk-returns-2 t c =
       (w .ensures .1 .1 .0, omega arith),
     )
 
-chunk-same-length-3 : (t : ℕ) → chunk-lts.Need-same-length-3 (
-  look-reads.Asked,
-  look-reads.Learnt,
-  run-below t,
-  run.Post,
-  at-end-reads.Asked,
-  at-end-reads.Learnt,
-) (chunk-at t) chunk.Post
+chunk-same-length-3 : (t : ℕ) → chunk-lts.Need-same-length-3 (chunk-calls t) (chunk-at t) chunk.Post
 chunk-same-length-3 t c = search needs
 
-chunk-returns-3 : (t : ℕ) → chunk-lts.Need-returns-3 (
-  look-reads.Asked,
-  look-reads.Learnt,
-  run-below t,
-  run.Post,
-  at-end-reads.Asked,
-  at-end-reads.Learnt,
-) (chunk-at t) chunk.Post
+chunk-returns-3 : (t : ℕ) → chunk-lts.Need-returns-3 (chunk-calls t) (chunk-at t) chunk.Post
 chunk-returns-3 t c =
     let x = c .before .before .before .before .before .before .before .before .before in
     let w = c .before .before .before .before .before .look in
@@ -316,24 +184,10 @@ chunk-returns-3 t c =
       (w .ensures .1 .1 .0, omega arith),
     )
 
-chunk-same-length-4 : (t : ℕ) → chunk-lts.Need-same-length-4 (
-  look-reads.Asked,
-  look-reads.Learnt,
-  run-below t,
-  run.Post,
-  at-end-reads.Asked,
-  at-end-reads.Learnt,
-) (chunk-at t) chunk.Post
+chunk-same-length-4 : (t : ℕ) → chunk-lts.Need-same-length-4 (chunk-calls t) (chunk-at t) chunk.Post
 chunk-same-length-4 t c = search needs
 
-chunk-returns-4 : (t : ℕ) → chunk-lts.Need-returns-4 (
-  look-reads.Asked,
-  look-reads.Learnt,
-  run-below t,
-  run.Post,
-  at-end-reads.Asked,
-  at-end-reads.Learnt,
-) (chunk-at t) chunk.Post
+chunk-returns-4 : (t : ℕ) → chunk-lts.Need-returns-4 (chunk-calls t) (chunk-at t) chunk.Post
 chunk-returns-4 t c =
     let x = c .before .before .before .before .before .before .before .before .before .before .before .before .before .before .before in
     let w = c .before .before .before .before .before .before .before .before .before .before .before .look in
@@ -347,24 +201,10 @@ chunk-returns-4 t c =
       (w .ensures .1 .1 .0, tt),
     )
 
-chunk-same-length-5 : (t : ℕ) → chunk-lts.Need-same-length-5 (
-  look-reads.Asked,
-  look-reads.Learnt,
-  run-below t,
-  run.Post,
-  at-end-reads.Asked,
-  at-end-reads.Learnt,
-) (chunk-at t) chunk.Post
+chunk-same-length-5 : (t : ℕ) → chunk-lts.Need-same-length-5 (chunk-calls t) (chunk-at t) chunk.Post
 chunk-same-length-5 t c = search needs
 
-chunk-returns-5 : (t : ℕ) → chunk-lts.Need-returns-5 (
-  look-reads.Asked,
-  look-reads.Learnt,
-  run-below t,
-  run.Post,
-  at-end-reads.Asked,
-  at-end-reads.Learnt,
-) (chunk-at t) chunk.Post
+chunk-returns-5 : (t : ℕ) → chunk-lts.Need-returns-5 (chunk-calls t) (chunk-at t) chunk.Post
 chunk-returns-5 t c =
     let x = c .before .before .before .before .before .before .before .before .before .before .before .before .before .before .before .before .before .before .before .before in
     let w = c .before .before .before .before .before .before .before .before .before .before .before .before .before .before .before .before .look in
@@ -379,24 +219,10 @@ chunk-returns-5 t c =
       (w .ensures .1 .1 .0, tt),
     )
 
-chunk-same-length-6 : (t : ℕ) → chunk-lts.Need-same-length-6 (
-  look-reads.Asked,
-  look-reads.Learnt,
-  run-below t,
-  run.Post,
-  at-end-reads.Asked,
-  at-end-reads.Learnt,
-) (chunk-at t) chunk.Post
+chunk-same-length-6 : (t : ℕ) → chunk-lts.Need-same-length-6 (chunk-calls t) (chunk-at t) chunk.Post
 chunk-same-length-6 t c = search needs
 
-chunk-returns-6 : (t : ℕ) → chunk-lts.Need-returns-6 (
-  look-reads.Asked,
-  look-reads.Learnt,
-  run-below t,
-  run.Post,
-  at-end-reads.Asked,
-  at-end-reads.Learnt,
-) (chunk-at t) chunk.Post
+chunk-returns-6 : (t : ℕ) → chunk-lts.Need-returns-6 (chunk-calls t) (chunk-at t) chunk.Post
 chunk-returns-6 t c =
     let x = c .before .before .before .before .before .before .before .before .before .before .before .before .before .before .before .before .before .before .before in
     let w = c .before .before .before .before .before .before .before .before .before .before .before .before .before .before .before .look in
@@ -420,7 +246,7 @@ run-μ-loop file parent count at end marks₀ p₀ records₀ skipped₀ marks p
 run-loop-holds :
     (t : ℕ) →
     run-lts.Need-loop-holds
-    (chunk-below t, chunk.Post)
+    (run-calls t)
     (run-at t)
     run.Post
     run-Inv-loop
@@ -439,7 +265,7 @@ run-loop-holds t c =
 run-chunk-requires :
     (t : ℕ) →
     run-lts.Need-chunk-requires
-    (chunk-below t, chunk.Post)
+    (run-calls t)
     (run-at t)
     run.Post
     run-Inv-loop
@@ -452,7 +278,7 @@ run-chunk-requires t c κs =
 run-enum-known-r :
     (t : ℕ) →
     run-lts.Need-enum-known-r
-    (chunk-below t, chunk.Post)
+    (run-calls t)
     (run-at t)
     run.Post
     run-Inv-loop
@@ -462,7 +288,7 @@ run-enum-known-r t c = search needs
 run-same-length :
     (t : ℕ) →
     run-lts.Need-same-length
-    (chunk-below t, chunk.Post)
+    (run-calls t)
     (run-at t)
     run.Post
     run-Inv-loop
@@ -471,7 +297,7 @@ run-same-length t c = search needs
 
 run-returns :
     (t : ℕ) →
-    run-lts.Need-returns (chunk-below t, chunk.Post) (run-at t) run.Post run-Inv-loop run-μ-loop
+    run-lts.Need-returns (run-calls t) (run-at t) run.Post run-Inv-loop run-μ-loop
 run-returns t c =
     let x = c .before .before .before .before .before .before .before .before .before .before .before in
     let i = c .before .before .before .before .before .before .before .before .loop in
@@ -488,72 +314,59 @@ run-returns t c =
 run-enum-known-next :
     (t : ℕ) →
     run-lts.Need-enum-known-next
-    (chunk-below t, chunk.Post)
+    (run-calls t)
     (run-at t)
     run.Post
     run-Inv-loop
     run-μ-loop
 run-enum-known-next t c = search needs
 
+-- how far the run has come, behind a chunk that was done
+stepped : (t : ℕ) (c : run-lts.After-next (run-calls t) (run-at t) run.Post run-Inv-loop run-μ-loop) →
+    let x = c .before .before .before .before .before .before .before .before .before .before in
+    let i = c .before .before .before .before .before .before .before .loop in
+    let g = c .next .given .0 in
+    ChunkWithin (i .p) (x .args .end) (Ran.Done (g .0) (g .1 .0) (g .1 .1 .0)) × (x .args .end ≤ length (x .args .file .now)) × (length (x .args .file .now) ≤ 1048576) × (6 * i .records + i .skipped ≤ i .p - x .args .at) × (x .args .at ≤ i .p)
+stepped t c =
+    let x = c .before .before .before .before .before .before .before .before .before .before in
+    let i = c .before .before .before .before .before .before .before .loop in
+    (subst (ChunkWithin (i .p) (x .args .end)) (c .next .given .1) (c .before .before .before .before .chunk .ensures .1 .1), x .pre .1 .2 .ends, x .pre .1 .2 .short, i .inv .within, i .inv .past)
+
 run-add-records :
     (t : ℕ) →
     run-lts.Need-add-records
-    (chunk-below t, chunk.Post)
+    (run-calls t)
     (run-at t)
     run.Post
     run-Inv-loop
     run-μ-loop
 run-add-records t c =
-    let x = c .before .before .before .before .before .before .before .before .before .before .before in
-    let i = c .before .before .before .before .before .before .before .before .loop in
-    let w = c .before .before .before .before .before .chunk in
-    let g = c .before .next .given in
-    let v : ChunkWithin (i .p) (x .args .end) (Ran.Done (g .0 .0) (g .0 .1 .0) (g .0 .1 .1 .0)) = subst (ChunkWithin (i .p) (x .args .end)) (g .1) (w .ensures .1 .1) in
-    let e = x .pre .1 .2 .ends in
-    let m = x .pre .1 .2 .short in
-    let n = i .inv .within in
-    let a = i .inv .past in
+    let f = stepped t (c .before) in
     omega arith
 
 run-add-skipped :
     (t : ℕ) →
     run-lts.Need-add-skipped
-    (chunk-below t, chunk.Post)
+    (run-calls t)
     (run-at t)
     run.Post
     run-Inv-loop
     run-μ-loop
 run-add-skipped t c =
-    let x = c .before .before .before .before .before .before .before .before .before .before .before in
-    let i = c .before .before .before .before .before .before .before .before .loop in
-    let w = c .before .before .before .before .before .chunk in
-    let g = c .before .next .given in
-    let v : ChunkWithin (i .p) (x .args .end) (Ran.Done (g .0 .0) (g .0 .1 .0) (g .0 .1 .1 .0)) = subst (ChunkWithin (i .p) (x .args .end)) (g .1) (w .ensures .1 .1) in
-    let e = x .pre .1 .2 .ends in
-    let m = x .pre .1 .2 .short in
-    let n = i .inv .within in
-    let a = i .inv .past in
+    let f = stepped t (c .before) in
     omega arith
 
 run-loop-less :
     (t : ℕ) →
-    run-lts.Need-loop-less (chunk-below t, chunk.Post) (run-at t) run.Post run-Inv-loop run-μ-loop
+    run-lts.Need-loop-less (run-calls t) (run-at t) run.Post run-Inv-loop run-μ-loop
 run-loop-less t c =
-    let x = c .before .before .before .before .before .before .before .before .before .before .before in
-    let i = c .before .before .before .before .before .before .before .before .loop in
-    let w = c .before .before .before .before .before .chunk in
-    let g = c .before .next .given in
-    let v : ChunkWithin (i .p) (x .args .end) (Ran.Done (g .0 .0) (g .0 .1 .0) (g .0 .1 .1 .0)) = subst (ChunkWithin (i .p) (x .args .end)) (g .1) (w .ensures .1 .1) in
-    let e = x .pre .1 .2 .ends in
-    let m = x .pre .1 .2 .short in
-    let n = i .inv .within in
-    let a = i .inv .past in
+    let f = stepped t (c .before) in
     omega arith
 
 run-loop-again :
     (t : ℕ) →
     run-lts.Need-loop-again
-    (chunk-below t, chunk.Post)
+    (run-calls t)
     (run-at t)
     run.Post
     run-Inv-loop
@@ -563,17 +376,15 @@ run-loop-again t c =
     let i = c .before .before .before .before .before .before .before .before .loop in
     let w = c .before .before .before .before .before .chunk in
     let g = c .before .next .given in
-    let v : ChunkWithin (i .p) (x .args .end) (Ran.Done (g .0 .0) (g .0 .1 .0) (g .0 .1 .1 .0)) = subst (ChunkWithin (i .p) (x .args .end)) (g .1) (w .ensures .1 .1) in
+    let f = stepped t (c .before) in
     let e = x .pre .1 .2 .ends in
-    let m = x .pre .1 .2 .short in
-    let n = i .inv .within in
     let a = i .inv .past in
     let b = bytes-all (x .args .file .now) (λ k. omega (arith, c .before .before .before .before .before .before .before .before .before .before .shared-slice-known .given k)) in
     let y = i .inv .somewhere in
     let z = (run-goes-on (y .0) (y .1) (x .args .file .now) (i .p) (x .args .end) (i .marks) (x .args .parent) (x .args .count) (y .2) (i .inv .five) (omega (arith, a, x .pre .1 .1)) (step (y .0) (y .1) (i .p) (slice (i .p) (x .args .end) (x .args .file .now))) (step-says (y .0) (y .1) (i .p) (slice (i .p) (x .args .end) (x .args .file .now)) (bytes-slice (x .args .file .now) (i .p) (x .args .end) b)) (step-parts (x .args .file .now) (i .p) (x .args .end) (c .before .before .before .before .before .before .before .loop-test .taken) e (y .0) (y .1) b) (g .0 .0) (g .0 .1 .0) (g .0 .1 .1 .0) (w .last .1 .1 .1 .1 .1 .0) (subst (λ z. ChunkIs (y .0) (i .p) (step (y .0) (y .1) (i .p) (slice (i .p) (x .args .end) (x .args .file .now))) z (i .marks) (w .last .1 .1 .1 .1 .1 .0)) (g .1) (w .ensures .0 (y .0) (y .1) (y .2)))) in
     record {
       past = omega arith;
-      before = v .1;
+      before = f .0 .1;
       five = w .ensures .1 .0;
       within = omega arith;
       somewhere = (y .0, z .seen′, z .context);
@@ -590,7 +401,7 @@ run-loop-again t c =
 run-same-length-2 :
     (t : ℕ) →
     run-lts.Need-same-length-2
-    (chunk-below t, chunk.Post)
+    (run-calls t)
     (run-at t)
     run.Post
     run-Inv-loop
@@ -599,7 +410,7 @@ run-same-length-2 t c = search needs
 
 run-returns-2 :
     (t : ℕ) →
-    run-lts.Need-returns-2 (chunk-below t, chunk.Post) (run-at t) run.Post run-Inv-loop run-μ-loop
+    run-lts.Need-returns-2 (run-calls t) (run-at t) run.Post run-Inv-loop run-μ-loop
 run-returns-2 t c =
     let x = c .before .before .before .before in
     let i = c .before .loop in (
@@ -610,14 +421,7 @@ run-returns-2 t c =
     )
 
 pub +chunk+run-spec : {M : Type 1} → statement M
-+chunk+run-spec = close μ-chunk μ-run (λ t. chunk-lts.spec (
-  look-reads.Asked,
-  look-reads.Learnt,
-  run-below t,
-  run.Post,
-  at-end-reads.Asked,
-  at-end-reads.Learnt,
-)
++chunk+run-spec = close μ-chunk μ-run (λ t. chunk-lts.spec (chunk-calls t)
     (chunk-at t)
     chunk.Post
     (chunk-look-requires t)
@@ -648,7 +452,7 @@ pub +chunk+run-spec : {M : Type 1} → statement M
     (chunk-same-length-6 t)
     (chunk-returns-6 t))
     λ t. run-lts.spec
-    (chunk-below t, chunk.Post)
+    (run-calls t)
     (run-at t)
     run.Post
     run-Inv-loop
