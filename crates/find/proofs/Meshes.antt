@@ -56,7 +56,7 @@ module _ (p : Parent) (own : List ℕ) (kids rest : Run) (s : List ℕ) (at stop
 -- ---- object by object
 
 -- of the meshes of a run t of 3D3D, so many stand before `at`, where the next object stands, or the end
-pub record Passed (p : Parent) (t : Run) (s : List ℕ) (from stop a n : ℕ) (before at : ℕ) : Type 0 where
+pub record MeshesBefore (p : Parent) (t : Run) (s : List ℕ) (from stop a n : ℕ) (before at : ℕ) : Type 0 where
   pub tail : Run
   pub spans : Spans p (onward 0x4000 tail) s at stop
   pub done : List Mesh
@@ -67,12 +67,12 @@ module _ (p : Parent) (i : p .id ≡ 0x3D3D) (t : Run) (s : List ℕ) (from stop
   onto-object : (t : Run) (o : ℕ) → Obeys p t → meshesOf o a n t ≡ meshesOf (offsetOf 0x4000 o t) a n (onward 0x4000 t)
   onto-object t o h = meshes-onward 0x4000 p (rw i to-object) t o a n h
 
-  pub none-passed : Spans p t s from stop → Passed p t s from stop a n 0 (offsetOf 0x4000 from t)
-  none-passed h = record { tail = t; spans = onward-spans 0x4000 p t s from stop h; done = []; count = refl; split = onto-object t from (h .obeys) }
+  pub none-before : Spans p t s from stop → MeshesBefore p t s from stop a n 0 (offsetOf 0x4000 from t)
+  none-before h = record { tail = t; spans = onward-spans 0x4000 p t s from stop h; done = []; count = refl; split = onto-object t from (h .obeys) }
 
-  module _ (before at : ℕ) (w : Passed p t s from stop a n before at) where
-    pub all-passed : stop ≤ at → meshesOf from a n t ≡ w .done
-    all-passed l = w .split ∙ go (onward-is 0x4000 (w .tail)) (w .spans)
+  module _ (before at : ℕ) (w : MeshesBefore p t s from stop a n before at) where
+    pub all-before : stop ≤ at → meshesOf from a n t ≡ w .done
+    all-before l = w .split ∙ go (onward-is 0x4000 (w .tail)) (w .spans)
       where
         go : (onward 0x4000 (w .tail) ≡ end) ⊎ ((own : List ℕ) × (kids : Run) × (rest : Run) × (onward 0x4000 (w .tail) ≡ known 0x4000 own kids rest)) →
             Spans p (onward 0x4000 (w .tail)) s at stop → w .done ++ meshesOf at a n (onward 0x4000 (w .tail)) ≡ w .done
@@ -106,8 +106,8 @@ module _ (p : Parent) (i : p .id ≡ 0x3D3D) (t : Run) (s : List ℕ) (from stop
       one-on : meshesOf from a n t ≡ (w .done ++ ms) ++ meshesOf (at + (6 + length (e .own) + size (e .kids))) a n (e .rest)
       one-on = e .split ∙ rw (m, append-assoc (w .done) ms (meshesOf (at + (6 + length (e .own) + size (e .kids))) a n (e .rest)))
 
-      pub passed-on : (after : ℕ) → after ≡ before + length ms → Passed p t s from stop a n after (offsetOf 0x4000 (at + (6 + length (e .own) + size (e .kids))) (e .rest))
-      passed-on after c =
+      pub object-on : (after : ℕ) → after ≡ before + length ms → MeshesBefore p t s from stop a n after (offsetOf 0x4000 (at + (6 + length (e .own) + size (e .kids))) (e .rest))
+      object-on after c =
           let past : ℕ = at + (6 + length (e .own) + size (e .kids)) in
           let h = after-known p s at stop 0x4000 (e .own) (e .kids) (e .rest) (e .spans) in record {
             tail = e .rest;

@@ -12,10 +12,10 @@ use Rattle.find.specs.declared.Place.{Place}
 use Rattle.find.specs.declared.Found.{Found}
 use Rattle.find.specs.Runs.{Spans, Begins}
 use Rattle.find.specs.Places.{ObjectIs, PlaceIs, FoundIs}
-use Rattle.find.proofs.Runs.{stands-here, kids-here, after-known, First, offset-after}
-use Rattle.find.proofs.Meshes.{no-mesh, mesh-here, one-mesh, Passed, Here, here, passed-on, nth-there}
+use Rattle.find.proofs.Runs.{kids-here, after-known, First, offset-after}
+use Rattle.find.proofs.Meshes.{no-mesh, mesh-here, one-mesh, MeshesBefore, Here, here, object-on, nth-there}
 
-module _ (p : Parent) (i : p .id ≡ 0x3D3D) (t : Run) (s : List ℕ) (from stop a n before at : ℕ) (w : Passed p t s from stop a n before at) (l : at < stop) where
+module _ (p : Parent) (i : p .id ≡ 0x3D3D) (t : Run) (s : List ℕ) (from stop a n before at : ℕ) (w : MeshesBefore p t s from stop a n before at) (l : at < stop) where
   abbrev e : Here p i t s from stop a n before at w
   e = here p i t s from stop a n before at w l
 
@@ -26,24 +26,18 @@ module _ (p : Parent) (i : p .id ≡ 0x3D3D) (t : Run) (s : List ℕ) (from stop
     found : ObjectIs at (e .own) (e .kids) o
     found = is p (e .own) (e .kids) (e .rest) stop (e .spans)
 
-    pub object-on : at < o .stop
-    object-on = omega (arith, found .ends-at)
-
-    pub object-ends : o .stop ≤ stop
-    object-ends = omega (arith, found .ends-at, stands-here p s at stop 0x4000 (e .own) (e .kids) (e .rest) (e .spans) .ends)
-
     pub rest-here : Spans p (e .rest) s (o .stop) stop
     rest-here = rw (found .ends-at) (after-known p s at stop 0x4000 (e .own) (e .kids) (e .rest) (e .spans))
 
     pub next-on : (next : ℕ) → next ≡ offsetOf 0x4000 (o .stop) (e .rest) → at < next
-    next-on next f = omega (arith, object-on, offset-after 0x4000 (o .stop) (e .rest))
+    next-on next f = omega (arith, found .ends-at, offset-after 0x4000 (o .stop) (e .rest))
 
     -- ---- no mesh in it
 
-    pub passed-none : o .stop ≤ o .mesh → (next : ℕ) → next ≡ offsetOf 0x4000 (o .stop) (e .rest) → Passed p t s from stop a n before next
-    passed-none m next f =
+    pub without-mesh : o .stop ≤ o .mesh → (next : ℕ) → next ≡ offsetOf 0x4000 (o .stop) (e .rest) → MeshesBefore p t s from stop a n before next
+    without-mesh m next f =
         rw (f, found .ends-at)
-        (passed-on p i t s from stop a n before at w e [] (no-mesh p (e .own) (e .kids) (e .rest) s at stop (e .spans) (omega (arith, m, found .mesh-at, found .ends-at)) (at + 6) (length (e .own) - 1)) before (omega arith))
+        (object-on p i t s from stop a n before at w e [] (no-mesh p (e .own) (e .kids) (e .rest) s at stop (e .spans) (omega (arith, m, found .mesh-at, found .ends-at)) (at + 6) (length (e .own) - 1)) before (omega arith))
 
     -- ---- one
 
@@ -54,8 +48,8 @@ module _ (p : Parent) (i : p .id ≡ 0x3D3D) (t : Run) (s : List ℕ) (from stop
       one : meshesOf (at + (6 + length (e .own))) (at + 6) (length (e .own) - 1) (e .kids) ≡ meshOf (at + 6) (length (e .own) - 1) (mesh-here p (e .own) (e .kids) (e .rest) s at stop (e .spans) within .kids) ∷ []
       one = one-mesh p (e .own) (e .kids) (e .rest) s at stop (e .spans) within (at + 6) (length (e .own) - 1)
 
-      pub passed-one : (next : ℕ) → next ≡ offsetOf 0x4000 (o .stop) (e .rest) → Passed p t s from stop a n (before + 1) next
-      passed-one next f = rw (f, found .ends-at) (passed-on p i t s from stop a n before at w e _ one (before + 1) refl)
+      pub with-mesh : (next : ℕ) → next ≡ offsetOf 0x4000 (o .stop) (e .rest) → MeshesBefore p t s from stop a n (before + 1) next
+      with-mesh next f = rw (f, found .ends-at) (object-on p i t s from stop a n before at w e _ one (before + 1) refl)
 
       abbrev mesh : First 0x4100 (inside p 0x4000 (e .own)) (e .kids) s (at + (6 + length (e .own))) (at + (6 + length (e .own) + size (e .kids))) (kids-here p s at stop 0x4000 (e .own) (e .kids) (e .rest) (e .spans))
       mesh = mesh-here p (e .own) (e .kids) (e .rest) s at stop (e .spans) within

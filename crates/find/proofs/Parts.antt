@@ -21,7 +21,7 @@ use Rattle.little_endian.proofs.Slices.{drop-slice, take-slice, word-slice}
 use Rattle.scan.proofs.Parts.{numbers-slice, corners-slice}
 use Rattle.find.specs.declared.Elements.{Elements}
 use Rattle.find.specs.Runs.{Spans}
-use Rattle.find.specs.Places.{Counts, PlaceIs}
+use Rattle.find.specs.Places.{ElementsAre, PlaceIs}
 use Rattle.find.proofs.Runs.{First, own-here, stands-here, child-onward, first-there, first-nowhere}
 
 -- own data of a known chunk is as long as its shape says
@@ -35,7 +35,7 @@ module _ (k : ℕ) (own s : List ℕ) (at : ℕ) (sized : 2 + k * count own ≡ 
   pub count-there : wordAt s (at + 6) ≡ count own
   count-there = sym (word-slice (at + 6) (at + 6 + length own) s (omega arith)) ∙ ap (λ (l : List ℕ). value (take 2 l)) (sym there)
 
-  pub counts-there : (n : ℕ) → n ≡ wordAt s (at + 6) → Counts k own s record { at = at + 8; count = n }
+  pub counts-there : (n : ℕ) → n ≡ wordAt s (at + 6) → ElementsAre k own s record { at = at + 8; count = n }
   counts-there n e =
       let c : n ≡ count own = e ∙ count-there in
       let a : at + 6 + 2 ≡ at + 8 = omega arith in
@@ -46,17 +46,17 @@ module _ (k : ℕ) (own s : List ℕ) (at : ℕ) (sized : 2 + k * count own ≡ 
       }
 
 -- no own data has no elements
-pub counts-none : (k : ℕ) (s : List ℕ) → Counts k [] s record { at = 0; count = 0 }
+pub counts-none : (k : ℕ) (s : List ℕ) → ElementsAre k [] s record { at = 0; count = 0 }
 counts-none k s = record { count-is = refl; are = rw (mul-none k) (sym (slice-empty 0 s)); stay = omega (arith, mul-none k) }
   where
     mul-none : (k : ℕ) → 0 + k * 0 ≡ 0
     mul-none k = omega arith
 
 module _ (own s : List ℕ) (r : Elements) where
-  pub vertices-there : Counts 12 own s r → vertexNumbers own ≡ numbers 4 (3 * r .count) (drop (r .at) s)
+  pub vertices-there : ElementsAre 12 own s r → vertexNumbers own ≡ numbers 4 (3 * r .count) (drop (r .at) s)
   vertices-there h = rw (← (h .count-is), h .are) (numbers-slice 4 (3 * r .count) (r .at) (r .at + 12 * r .count) s (omega arith))
 
-  pub corners-there : Counts 8 own s r → faceCorners own ≡ corners (r .count) (drop (r .at) s)
+  pub corners-there : ElementsAre 8 own s r → faceCorners own ≡ corners (r .count) (drop (r .at) s)
   corners-there h = rw (← (h .count-is), h .are) (corners-slice (r .count) (r .at) (r .at + 8 * r .count) s (omega arith))
 
 -- ---- the first child of counted own data, at o
@@ -83,10 +83,10 @@ module _ (x k : ℕ) (e : shape x ≡ counted k) (p : Parent) (t : Run) (s : Lis
         own-here p s (offsetOf x at t) stop x (first .own) (first .kids) (first .rest) (first .spans) ∙
         ap (λ (i : ℕ). slice (i + 6) (i + 6 + length (first .own)) s) (sym is)
 
-    pub counts-first : (n : ℕ) → n ≡ wordAt s (o + 6) → Counts k (child x t) s record { at = o + 8; count = n }
+    pub counts-first : (n : ℕ) → n ≡ wordAt s (o + 6) → ElementsAre k (child x t) s record { at = o + 8; count = n }
     counts-first n f = rw child-is (counts-there k (first .own) s o sized own-first first-ends n f)
 
-  pub counts-nowhere : stop ≤ o → Counts k (child x t) s record { at = 0; count = 0 }
+  pub counts-nowhere : stop ≤ o → ElementsAre k (child x t) s record { at = 0; count = 0 }
   counts-nowhere l =
       let c : child x t ≡ [] = child-onward x t ∙ ap (child x) (first-nowhere x p t s at stop h (omega arith)) in
       rw c (counts-none k s)
@@ -104,7 +104,7 @@ child-finite p (known id own kids rest) h = go (eqb id 0x4110) refl (and-parts _
     go true e q ih = q
     go false e q ih = ih
 
-pub place-there : (p : Parent) (kids : Run) (s : List ℕ) → Obeys p kids → (na ns : ℕ) (v f : Elements) → Counts 12 (child 0x4110 kids) s v → Counts 8 (child 0x4120 kids) s f →
+pub place-there : (p : Parent) (kids : Run) (s : List ℕ) → Obeys p kids → (na ns : ℕ) (v f : Elements) → ElementsAre 12 (child 0x4110 kids) s v → ElementsAre 8 (child 0x4120 kids) s f →
     PlaceIs s (meshOf na ns kids) record { name = na; size = ns; vertices = v; faces = f }
 place-there p kids s h na ns v f a b = record {
   name-at = refl;

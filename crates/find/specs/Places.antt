@@ -16,7 +16,7 @@ use Rattle.find.specs.declared.Place.{Place}
 use Rattle.find.specs.declared.Found.{Found}
 
 -- the elements of own data that is a count word and so many times k bytes
-pub record Counts (k : ℕ) (own s : List ℕ) (r : Elements) : Type 0 where
+pub record ElementsAre (k : ℕ) (own s : List ℕ) (r : Elements) : Type 0 where
   pub count-is : r .count ≡ count own
   pub are : drop 2 own ≡ slice (r .at) (r .at + k * r .count) s
   pub stay : r .at + k * r .count ≤ length s

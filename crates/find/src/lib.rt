@@ -11,7 +11,7 @@ ghost use Rattle.rules.specs.Layout.{Run, known, child, offsetOf};
 ghost use Rattle.rules.specs.Rules.{Parent, Meets};
 ghost use Rattle.rules.specs.Gives.{meshOf, meshesOf, meshes};
 ghost use Rattle.find.specs.Runs.{Spans, SomeRun, Begins, SomeObjects, Accepted, IsCounted};
-ghost use Rattle.find.specs.Places.{Counts, ObjectIs, PlaceIs, FoundIs};
+ghost use Rattle.find.specs.Places.{ElementsAre, ObjectIs, PlaceIs, FoundIs};
 
 // The elements of counted own data: where they begin, and how many there are.
 pub struct Elements {
@@ -59,7 +59,7 @@ fn next_child(file: &[u8], id: u32, at: usize, stop: usize) -> usize
 // The elements of the first chunk of an identifier among those from at to stop; none, where there is no such chunk.
 fn elements_of(file: &[u8], id: u32, at: usize, stop: usize) -> Elements
     requires { ⌜ (listed id ≡ true) × IsCounted id × SomeRun (now file) at stop ⌝ }
-    ensures { λ r. ⌜ ((p : Parent) (t : Run) (k : ℕ) → shape id ≡ counted k → Spans p t (now (file .entry)) at stop → Counts k (child id t) (now (file .entry)) r) ⌝ }
+    ensures { λ r. ⌜ ((p : Parent) (t : Run) (k : ℕ) → shape id ≡ counted k → Spans p t (now (file .entry)) at stop → ElementsAre k (child id t) (now (file .entry)) r) ⌝ }
 {
     let o = next_child(file, id, at, stop);
     if o < stop {

@@ -8,7 +8,7 @@ use Rattle.lists.proofs.Order.{Finite, never, lt-irrefl, lt-asym, lt-mi
 pub record Strict (before : Float → Float → Bool) : Type 0 where
   pub irrefl : (x : Float) → Finite x → before x x ≡ false
   pub asym : (x y : Float) → Finite x → Finite y → before x y ≡ true → before y x ≡ false
-  -- what comes before a comes before all that do not
+  -- what comes before a comes before each c that does not
   pub mixed : (b a c : Float) → Finite b → Finite a → Finite c → before b a ≡ true → before c a ≡ false → before b c ≡ true
   pub apart : (x y : Float) → Finite x → Finite y → before x y ≡ true → eq y x ≡ false
 
@@ -27,6 +27,6 @@ downward = record {
     turned b a c fb fa fc h k true e = refl
     turned b a c fb fa fc h k false e = absurd (never (lt a c) (lt-mixed a b c fa fb fc h e) k)
 
--- what comes before no x comes before none that does
+-- y does not come before x, and b does: so y does not come before b
 pub through : (before : Float → Float → Bool) → Strict before → (y b x : Float) → Finite y → Finite b → Finite x → before b x ≡ true → before y x ≡ false → before y b ≡ false
 through before o y b x fy fb fx h k = o .asym b y fb fy (o .mixed b x y fb fx fy h k)

@@ -5,7 +5,7 @@ use mathlib.Core.List.{List}
 use Prim.Native.Nat.{ℕ}
 use lib.Ieee.{Float}
 use Rattle.rules.specs.declared.Refusal.{Refusal}
-use Rattle.rules.specs.Walk.{Answer}
+use Rattle.rules.specs.Walk.{Answer, verdict}
 use Rattle.rules.specs.Gives.{Mesh}
 use Rattle.rules.specs.Calls.{ofMesh, Rows}
 use Rattle.find.specs.declared.Place.{Place}
@@ -19,9 +19,12 @@ pub data Choice : Type 0 where
 abbrev pub choose : ℕ → Answer → Choice
 choose mesh a = ofMesh no yes mesh a
 
-abbrev pub AskedIs : List ℕ → Choice → Asked → Type 0
-AskedIs s (no x) r = r ≡ Asked.Refused x
-AskedIs s (yes m) r = (place : Place) × (r ≡ Asked.Mesh place) × PlaceIs s m place
+abbrev pub ChoiceIs : List ℕ → Choice → Asked → Type 0
+ChoiceIs s (no x) r = r ≡ Asked.Refused x
+ChoiceIs s (yes m) r = (place : Place) × (r ≡ Asked.Mesh place) × PlaceIs s m place
+
+pub record AskedIs (s : List ℕ) (mesh : ℕ) (r : Asked) : Type 0 where
+  pub is : ChoiceIs s (choose mesh (verdict s)) r
 
 -- a mesh stands at a place of the file s
 abbrev pub SomeMesh : List ℕ → Place → Type 0

@@ -10,11 +10,10 @@ use rules::Sizes;
 use rules::Span;
 use rules::Tabled;
 ghost use mathlib.Core.Path.{_≡_};
-ghost use Rattle.rules.specs.Walk.{verdict};
 ghost use Rattle.rules.specs.Gives.{Mesh};
 ghost use Rattle.rules.specs.Calls.{tablesOf, tablesCall, nameCall, boxCall};
 ghost use Rattle.find.specs.Places.{PlaceIs};
-ghost use Rattle.mesh.specs.Choices.{choose, AskedIs, SomeMesh, rows};
+ghost use Rattle.mesh.specs.Choices.{AskedIs, SomeMesh, rows};
 
 // Where the mesh asked for stands; or the refusal of the file, or of the number.
 pub enum Asked {
@@ -23,7 +22,7 @@ pub enum Asked {
 }
 
 fn ask(file: &[u8], mesh: u32) -> Asked
-    ensures { λ r. ⌜ AskedIs (now (file .entry)) (choose mesh (verdict (now (file .entry)))) r ⌝ }
+    ensures { λ r. ⌜ AskedIs (now (file .entry)) mesh r ⌝ }
 {
     match reader::check(file) {
         Checked::Refused(r) => Asked::Refused(r),

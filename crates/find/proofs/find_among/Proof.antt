@@ -7,14 +7,14 @@ use Rattle.rules.specs.Layout.{Run}
 use Rattle.rules.specs.Rules.{Parent}
 use Rattle.find.specs.Runs.{Spans}
 use Rattle.find.proofs.Parts.{all-listed}
-use Rattle.find.proofs.Meshes.{Passed, none-passed, all-passed, nth-beyond}
-use Rattle.find.proofs.Objects.{object-begins, next-on, rest-here, passed-none, passed-one, mesh-begins, mesh-found}
+use Rattle.find.proofs.Meshes.{MeshesBefore, none-before, all-before, nth-beyond}
+use Rattle.find.proofs.Objects.{object-begins, next-on, rest-here, without-mesh, with-mesh, mesh-begins, mesh-found}
 use Rattle.find.proofs.find_among.Statement.{statement}
 use Rattle.find.proofs.find_among.Tie as tie
 
 abbrev Inv-loop : tie.InvT-loop
 Inv-loop file from stop mesh before₀ at₀ before at =
-    (before ≤ mesh) × ((p : Parent) (t : Run) (a n : ℕ) → p .id ≡ 0x3D3D → Spans p t file from stop → Passed p t file from stop a n before at)
+    (before ≤ mesh) × ((p : Parent) (t : Run) (a n : ℕ) → p .id ≡ 0x3D3D → Spans p t file from stop → MeshesBefore p t file from stop a n before at)
 
 abbrev μ-loop : tie.MeasureT-loop
 μ-loop file from stop mesh before₀ at₀ before at = stop - at
@@ -28,7 +28,7 @@ next-child-requires c κs =
 loop-holds : tie.Need-loop-holds Inv-loop μ-loop
 loop-holds c =
     let x = c .before .before in
-    (omega arith, λ p t a n i h. rw (c .next-child .ensures p t h) (none-passed p i t (x .args .file .now) (x .args .from) (x .args .stop) a n h))
+    (omega arith, λ p t a n i h. rw (c .next-child .ensures p t h) (none-before p i t (x .args .file .now) (x .args .from) (x .args .stop) a n h))
 
 object-at-requires : tie.Need-object-at-requires Inv-loop μ-loop
 object-at-requires c κs =
@@ -95,8 +95,8 @@ loop-again c =
           let r = rest-here p i t (x .args .file .now) (x .args .from) (x .args .stop) a n (l .before) (l .at) w y (o .result) (o .ensures) in
           let q = c .next-child2 .ensures _ _ r in
           ⊎-elim
-          (λ v. rw (v .2) (passed-one p i t (x .args .file .now) (x .args .from) (x .args .stop) a n (l .before) (l .at) w y (o .result) (o .ensures) (v .0 .taken) _ q))
-          (λ v. rw (v .1) (passed-none p i t (x .args .file .now) (x .args .from) (x .args .stop) a n (l .before) (l .at) w y (o .result) (o .ensures) (v .0 .left) _ q))
+          (λ v. rw (v .2) (with-mesh p i t (x .args .file .now) (x .args .from) (x .args .stop) a n (l .before) (l .at) w y (o .result) (o .ensures) (v .0 .taken) _ q))
+          (λ v. rw (v .1) (without-mesh p i t (x .args .file .now) (x .args .from) (x .args .stop) a n (l .before) (l .at) w y (o .result) (o .ensures) (v .0 .left) _ q))
           (c .before .if1 .came),
     )
 
@@ -106,7 +106,7 @@ returns-2 c =
     let l = c .before .loop in
     λ p t a n i h.
     let w = l .inv .1 p t a n i h in
-    let e = all-passed p i t (x .args .file .now) (x .args .from) (x .args .stop) a n (l .before) (l .at) w (omega arith) in
+    let e = all-before p i t (x .args .file .now) (x .args .from) (x .args .stop) a n (l .before) (l .at) w (omega arith) in
     (rw e (nth-beyond (w .done) (x .args .mesh) (omega (arith, w .count, l .inv .0))), rw e (sym (w .count)))
 
 pub find-among-spec : {M : Type 1} → statement M

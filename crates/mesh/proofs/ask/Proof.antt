@@ -1,8 +1,6 @@
 -- The check's answer, and then the mesh that is found.
-use mathlib.Core.Path.{sym, _∙_, subst}
+use mathlib.Core.Path.{sym, _∙_}
 use native.Mathlib.Omega.{arith}
-use Rattle.rules.specs.Gives.{meshes}
-use Rattle.find.specs.Places.{FoundIs}
 use Rattle.reader.proofs.Parts.{bytes-all}
 use Rattle.mesh.proofs.Asks.{file-refused, file-accepted, mesh-there, mesh-nowhere}
 use borrow.Author.Needs.{needs}
@@ -22,8 +20,7 @@ find-mesh-requires : tie.Need-find-mesh-requires
 find-mesh-requires c κs =
     let x = c .before .before .before .before .args in
     let b = bytes-all (x .file .now) (λ i. omega (arith, c .before .before .before .shared-slice-known .given i)) in
-    let g = c .enum-told .given in
-    let l = file-accepted (x .file .now) b (g .0 .0) (sym (c .before .before .check .ensures) ∙ g .1) in
+    let l = file-accepted (x .file .now) b (sym (c .before .before .check .ensures) ∙ c .enum-told .given .1) in
     (l .kids, l .meets)
 
 enum-known-place : tie.Need-enum-known-place
@@ -34,26 +31,22 @@ enum-known-n c = search needs
 
 returns : tie.Need-returns
 returns c =
-    let g = c .before .r .given in
-    file-refused (c .before .before .before .before .before .args .file .now) (c .before .before .before .before .before .args .mesh) (g .0 .0) (sym (c .before .before .before .check .ensures) ∙ g .1)
+    let x = c .before .before .before .before .before .args in
+    file-refused (x .file .now) (x .mesh) (sym (c .before .before .before .check .ensures) ∙ c .before .r .given .1)
 
 returns-2 : tie.Need-returns-2
 returns-2 c =
     let x = c .before .before .before .before .before .before .before .before .args in
     let b = bytes-all (x .file .now) (λ i. omega (arith, c .before .before .before .before .before .before .before .shared-slice-known .given i)) in
-    let g = c .before .before .before .before .enum-told .given in
-    let l = file-accepted (x .file .now) b (g .0 .0) (sym (c .before .before .before .before .before .before .check .ensures) ∙ g .1) in
-    let h = c .before .place .given in
-    mesh-there (x .file .now) (x .mesh) l (h .0 .0) (subst (FoundIs (x .file .now) (meshes (l .kids)) (x .mesh)) (h .1) (c .before .before .before .find-mesh .ensures (l .kids) (l .meets)))
+    let l = file-accepted (x .file .now) b (sym (c .before .before .before .before .before .before .check .ensures) ∙ c .before .before .before .before .enum-told .given .1) in
+    mesh-there (x .file .now) (x .mesh) l (c .before .before .before .find-mesh .result) (c .before .before .before .find-mesh .ensures (l .kids) (l .meets)) (c .before .place .given .1)
 
 returns-3 : tie.Need-returns-3
 returns-3 c =
     let x = c .before .before .before .before .before .before .before .before .args in
     let b = bytes-all (x .file .now) (λ i. omega (arith, c .before .before .before .before .before .before .before .shared-slice-known .given i)) in
-    let g = c .before .before .before .before .enum-told .given in
-    let l = file-accepted (x .file .now) b (g .0 .0) (sym (c .before .before .before .before .before .before .check .ensures) ∙ g .1) in
-    let h = c .before .n .given in
-    mesh-nowhere (x .file .now) (x .mesh) l (h .0 .0) (subst (FoundIs (x .file .now) (meshes (l .kids)) (x .mesh)) (h .1) (c .before .before .before .find-mesh .ensures (l .kids) (l .meets)))
+    let l = file-accepted (x .file .now) b (sym (c .before .before .before .before .before .before .check .ensures) ∙ c .before .before .before .before .enum-told .given .1) in
+    mesh-nowhere (x .file .now) (x .mesh) l (c .before .before .before .find-mesh .result) (c .before .before .before .find-mesh .ensures (l .kids) (l .meets)) (c .before .n .given .1)
 
 pub ask-spec : {M : Type 1} → statement M
 ask-spec =

@@ -1,10 +1,8 @@
 -- A refusal, an empty mesh, or the box.
-use mathlib.Core.Path.{subst}
 use Prim.Native.Nat.{_<_}
 use native.Mathlib.Omega.{arith}
-use Rattle.rules.specs.Walk.{verdict}
-use Rattle.mesh.specs.Choices.{choose, AskedIs}
-use Rattle.mesh.proofs.Asks.{asked-no, asked-yes, box-refused, box-empty, box-goes-on}
+use Rattle.mesh.proofs.Asks.{asked-no, asked-yes}
+use Rattle.mesh.proofs.Calls.{box-refused, box-empty, box-goes-on}
 use borrow.Author.Needs.{needs}
 use Rattle.mesh.proofs.bounding_box.Statement.{statement}
 use Rattle.mesh.proofs.bounding_box.Tie as tie
@@ -21,17 +19,14 @@ enum-known-place c = search needs
 returns : tie.Need-returns
 returns c =
     let x = c .before .before .before .before .before .before .args in
-    let g = c .before .before .place .given in
-    let q = asked-yes (x .file .now) (choose (x .mesh) (verdict (x .file .now))) (g .0 .0) (subst (AskedIs (x .file .now) (choose (x .mesh) (verdict (x .file .now)))) (g .1) (c .before .before .before .before .ask .ensures)) in
-    box-empty (x .file .now) (x .mesh) (q .0) (q .1) (g .0 .0) (q .2) (c .if1 .taken)
+    let q = asked-yes (c .before .before .before .before .ask .ensures) (c .before .before .place .given .1) in
+    box-empty (x .file .now) (x .mesh) (q .is) (q .placed) (c .if1 .taken)
 
 box-of-requires : tie.Need-box-of-requires
 box-of-requires c κs =
-    let x = c .before .before .before .before .before .before .args in
-    let g = c .before .before .place .given in
-    let q = asked-yes (x .file .now) (choose (x .mesh) (verdict (x .file .now))) (g .0 .0) (subst (AskedIs (x .file .now) (choose (x .mesh) (verdict (x .file .now)))) (g .1) (c .before .before .before .before .ask .ensures)) in
-    let p = q .2 in
-    let n : 0 < g .0 .0 .vertices .count = omega arith in
+    let q = asked-yes (c .before .before .before .before .ask .ensures) (c .before .before .place .given .1) in
+    let p = q .placed in
+    let n : 0 < c .before .before .place .given .0 .0 .vertices .count = omega arith in
     (n, p .vertices-stay, rw (p .vertices-are) at (p .vertices-finite))
 
 centre-of-requires : tie.Need-centre-of-requires
@@ -40,16 +35,14 @@ centre-of-requires c κs = search needs
 returns-2 : tie.Need-returns-2
 returns-2 c =
     let x = c .before .before .before .before .before .args in
-    let g = c .before .r .given in
-    let q = asked-no (x .file .now) (choose (x .mesh) (verdict (x .file .now))) (g .0 .0) (subst (AskedIs (x .file .now) (choose (x .mesh) (verdict (x .file .now)))) (g .1) (c .before .before .before .ask .ensures)) in
-    box-refused (x .file .now) (x .mesh) (g .0 .0) q
+    let q = asked-no (c .before .before .before .ask .ensures) (c .before .r .given .1) in
+    box-refused (x .file .now) (x .mesh) q
 
 returns-3 : tie.Need-returns-3
 returns-3 c =
     let x = c .before .before .before .before .before .before .before .before .args in
-    let g = c .before .before .before .before .place .given in
-    let q = asked-yes (x .file .now) (choose (x .mesh) (verdict (x .file .now))) (g .0 .0) (subst (AskedIs (x .file .now) (choose (x .mesh) (verdict (x .file .now)))) (g .1) (c .before .before .before .before .before .before .ask .ensures)) in
-    box-goes-on (x .file .now) (x .mesh) (q .0) (q .1) (g .0 .0) (q .2) (c .before .before .if1 .left) (c .before .box-of .result) (c .before .box-of .ensures) (c .centre-of .result) (c .centre-of .ensures)
+    let q = asked-yes (c .before .before .before .before .before .before .ask .ensures) (c .before .before .before .before .place .given .1) in
+    box-goes-on (x .file .now) (x .mesh) (q .is) (q .placed) (c .before .before .if1 .left) (c .before .box-of .result) (c .before .box-of .ensures) (c .centre-of .result) (c .centre-of .ensures)
 
 pub bounding-box-spec : {M : Type 1} → statement M
 bounding-box-spec =

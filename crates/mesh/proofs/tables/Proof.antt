@@ -1,10 +1,10 @@
 -- A refusal, or the mesh's tables.
-use mathlib.Core.Path.{sym, ap, _∙_, subst}
-use Rattle.rules.specs.Walk.{verdict}
+use mathlib.Core.Path.{sym, ap, _∙_}
 use Rattle.rules.specs.Calls.{Effect, Rows}
 use Rattle.rules.specs.declared.Tabled.{Tabled}
-use Rattle.mesh.specs.Choices.{choose, AskedIs, rows}
-use Rattle.mesh.proofs.Asks.{asked-no, asked-yes, tables-refused, tables-go-on}
+use Rattle.mesh.specs.Choices.{rows}
+use Rattle.mesh.proofs.Asks.{asked-no, asked-yes}
+use Rattle.mesh.proofs.Calls.{tables-refused, tables-go-on}
 use Rattle.mesh.proofs.Filled.{gives}
 use borrow.Author.Needs.{needs}
 use Rattle.mesh.proofs.tables.Statement.{statement}
@@ -21,17 +21,14 @@ enum-known-place c = search needs
 
 fill-requires : tie.Need-fill-requires
 fill-requires c κs =
-    let x = c .before .before .before .before .before .before .before .before .before .args in
-    let g = c .before .before .before .place .given in
-    let q = asked-yes (x .file .now) (choose (x .mesh) (verdict (x .file .now))) (g .0 .0) (subst (AskedIs (x .file .now) (choose (x .mesh) (verdict (x .file .now)))) (g .1) (c .before .before .before .before .before .ask .ensures)) in
-    (q .0, q .2)
+    let q = asked-yes (c .before .before .before .before .before .ask .ensures) (c .before .before .before .place .given .1) in
+    (q .mesh-is, q .placed)
 
 returns : tie.Need-returns
 returns c =
     let x = c .before .before .before .before .before .before .before .args in
-    let g = c .before .r .given in
-    let q = asked-no (x .file .now) (choose (x .mesh) (verdict (x .file .now))) (g .0 .0) (subst (AskedIs (x .file .now) (choose (x .mesh) (verdict (x .file .now)))) (g .1) (c .before .before .before .ask .ensures)) in
-    gives (tables-refused (x .file .now) (x .mesh) (g .0 .0) q (rows (x .vertices .now) (x .corners .now)))
+    let q = asked-no (c .before .before .before .ask .ensures) (c .before .r .given .1) in
+    gives (tables-refused (x .file .now) (x .mesh) q (rows (x .vertices .now) (x .corners .now)))
 
 same-length : tie.Need-same-length
 same-length c = search needs
@@ -42,11 +39,10 @@ same-length-2 c = search needs
 returns-2 : tie.Need-returns-2
 returns-2 c =
     let x = c .before .before .before .before .before .before .before .before .before .before .before .before .before .before .args in
-    let g = c .before .before .before .before .before .before .before .before .place .given in
-    let q = asked-yes (x .file .now) (choose (x .mesh) (verdict (x .file .now))) (g .0 .0) (subst (AskedIs (x .file .now) (choose (x .mesh) (verdict (x .file .now)))) (g .1) (c .before .before .before .before .before .before .before .before .before .before .ask .ensures)) in
-    let e = tables-go-on (x .file .now) (x .mesh) (q .0) (q .1) (rows (x .vertices .now) (x .corners .now)) in (
-      c .before .before .before .before .fill .ensures .0 (q .0) (q .2) ∙ ap (λ (y : Effect Tabled Rows). y .answer) (sym e),
-      c .before .before .before .before .fill .ensures .1 (q .0) (q .2) ∙ ap (λ (y : Effect Tabled Rows). y .rows) (sym e),
+    let q = asked-yes (c .before .before .before .before .before .before .before .before .before .before .ask .ensures) (c .before .before .before .before .before .before .before .before .place .given .1) in
+    let e = tables-go-on (x .file .now) (x .mesh) (q .is) (rows (x .vertices .now) (x .corners .now)) in (
+      c .before .before .before .before .fill .ensures .0 (q .mesh-is) (q .placed) ∙ ap (λ (y : Effect Tabled Rows). y .answer) (sym e),
+      c .before .before .before .before .fill .ensures .1 (q .mesh-is) (q .placed) ∙ ap (λ (y : Effect Tabled Rows). y .rows) (sym e),
     )
 
 pub tables-spec : {M : Type 1} → statement M
