@@ -1,6 +1,6 @@
 # make test   the gate: layout, proofs, must-fail edits, programs and tests
 # make prove  the proofs alone, in seconds where little has changed
-.PHONY: all test prove rust-test c-compile clean
+.PHONY: all test prove rust-test c-compile asked clean
 
 all: prove
 
@@ -10,9 +10,19 @@ prove:
 test:
 	bash tests/gate
 
-rust-test:
-	cargo test -j1 --offline --release --quiet --manifest-path second/Cargo.toml
-	cargo build -j1 --offline --release --quiet --manifest-path bench/Cargo.toml
+CARGO_FLAGS = -j1 --offline --release --quiet --manifest-path
+
+# the second reader's own tests, then round trips of the proved writer against it
+rust-test: target/staticlib/libtds.a
+	cargo test $(CARGO_FLAGS) second/Cargo.toml
+	TDS_LIB_DIR=$(CURDIR)/target/staticlib cargo test $(CARGO_FLAGS) second/Cargo.toml --features writer --test round_trips
+	cargo build $(CARGO_FLAGS) bench/Cargo.toml
+
+# rt knows what has changed, so it is always asked
+target/staticlib/libtds.a: asked
+	rt staticlib tds
+
+asked:
 
 include stick/Makefile.inc
 
