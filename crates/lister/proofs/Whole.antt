@@ -12,12 +12,12 @@ use Rattle.rules.specs.declared.Refusal.the-variants.{NoRoom}
 use Rattle.rules.specs.declared.Counts.{Counts}
 use Rattle.rules.specs.declared.Checked.{Checked}
 use Rattle.rules.specs.Bytes.{Bytes}
-use Rattle.rules.specs.Layout.{Run, figure}
-use Rattle.rules.specs.Rules.{file, Meets}
+use Rattle.rules.specs.Layout.{figure}
+use Rattle.rules.specs.Rules.{file}
 use Rattle.rules.specs.Gives.{recordCount, list, flat}
 use Rattle.rules.specs.Walk.{Answer, refused, accepted, verdict}
-use Rattle.rules.specs.Calls.{Effect, leaving, filled, countsOf, checkOf, checkCall, listOf, listCall}
-use Rattle.rules.proofs.Verdict.{demand2}
+use Rattle.rules.specs.Calls.{Effect, leaving, filled, checkOf, checkCall, listOf, listCall}
+use Rattle.reader.proofs.Accepted.{Accepted, meets-by}
 use Rattle.lister.specs.Laid.{Laid, Bounds, Room, Listed}
 use Rattle.lister.proofs.Rows.{length-flat, length-records}
 
@@ -37,32 +37,16 @@ list-refused s row r = go (verdict s)
 
 -- ---- an accepted file
 
-pub record Accepted (s : List ℕ) (counts : Counts) : Type 0 where
-  pub kids : Run
-  pub verdict-is : verdict s ≡ accepted kids
-  pub counts-are : counts ≡ countsOf kids
-
-pub accepted-by : (s : List ℕ) (counts : Counts) → checkCall s ≡ Checked.Accepted counts → Accepted s counts
-unfolding checkCall
-accepted-by s counts = go (verdict s) refl
-  where
-    go : (a : Answer) → verdict s ≡ a → checkOf a ≡ Checked.Accepted counts → Accepted s counts
-    go (refused r) v e = absurd (let z : _≡_ {A = ℕ} 0 1 = cc in omega arith)
-    go (accepted kids) v e = record { kids = kids; verdict-is = v; counts-are = cc }
-
 module _ {s : List ℕ} {counts : Counts} (a : Accepted s counts) where
   records-are : counts .records ≡ recordCount (figure (a .kids))
   records-are = ap (λ (x : Counts). x .records) (a .counts-are)
 
   module _ (b : Bytes s) where
-    meets : Meets s (a .kids)
-    meets = demand2 s b (a .kids) .0 (a .verdict-is)
-
     pub whole-laid : Laid s 0 (length s) file 0 (figure (a .kids))
-    whole-laid = record { is = meets .is ∙ sym (take-length s); obeys = meets .chunks; count-is = record { is = refl; small = omega arith } }
+    whole-laid = record { is = meets-by b a .is ∙ sym (take-length s); obeys = meets-by b a .chunks; count-is = record { is = refl; small = omega arith } }
 
     pub whole-bounds : Bounds s 0 (length s) 0 0 0 0
-    whole-bounds = record { ends = omega arith; short = meets .within-limit; count-small = omega arith; deep = omega arith; over = omega arith; before = omega arith }
+    whole-bounds = record { ends = omega arith; short = meets-by b a .within-limit; count-small = omega arith; deep = omega arith; over = omega arith; before = omega arith }
 
   module _ (row : List ℕ) where
     pub list-no-room : length row / 6 < counts .records → listCall s row ≡ leaving (Checked.Refused (NoRoom (counts .records))) row

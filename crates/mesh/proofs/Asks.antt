@@ -9,13 +9,10 @@ use Rattle.rules.specs.declared.Refusal.{Refusal}
 use Rattle.rules.specs.declared.Refusal.the-variants.{NoSuchMesh}
 use Rattle.rules.specs.declared.Counts.{Counts}
 use Rattle.rules.specs.declared.Checked.{Checked}
-use Rattle.rules.specs.Bytes.{Bytes}
-use Rattle.rules.specs.Layout.{Run}
-use Rattle.rules.specs.Rules.{Meets}
 use Rattle.rules.specs.Walk.{Answer, refused, accepted, verdict}
 use Rattle.rules.specs.Gives.{Mesh, meshes}
 use Rattle.rules.specs.Calls.{checkOf, checkCall, pickMesh}
-use Rattle.rules.proofs.Verdict.{demand2}
+use Rattle.reader.proofs.Accepted.{Accepted}
 use Rattle.find.specs.declared.Place.{Place}
 use Rattle.find.specs.declared.Found.{Found}
 use Rattle.find.specs.Places.{PlaceIs, FoundIs}
@@ -32,20 +29,6 @@ file-refused s mesh {r} e = record { is = go (verdict s) e }
     go (refused x) e = cc
     go (accepted kids) e = absurd (let z : _≡_ {A = ℕ} 0 1 = cc in omega arith)
 
--- an accepted file has a layout that meets the rules
-pub record Layout (s : List ℕ) : Type 0 where
-  pub kids : Run
-  pub is : verdict s ≡ accepted kids
-  pub meets : Meets s kids
-
-pub file-accepted : (s : List ℕ) → Bytes s → {counts : Counts} → checkCall s ≡ Checked.Accepted counts → Layout s
-unfolding checkCall
-file-accepted s b {counts} = go (verdict s) refl
-  where
-    go : (a : Answer) → verdict s ≡ a → checkOf a ≡ Checked.Accepted counts → Layout s
-    go (refused r) v e = absurd (let z : _≡_ {A = ℕ} 0 1 = cc in omega arith)
-    go (accepted kids) v e = record { kids = kids; is = v; meets = demand2 s b kids .0 v }
-
 -- ---- by the search
 
 -- what the code makes of what is found
@@ -53,9 +36,9 @@ askedOf : Found → Asked
 askedOf (Found.Mesh place) = Asked.Mesh place
 askedOf (Found.Meshes n) = Asked.Refused (NoSuchMesh n)
 
-module _ (s : List ℕ) (mesh : ℕ) (l : Layout s) where
+module _ (s : List ℕ) (mesh : ℕ) {counts : Counts} (l : Accepted s counts) where
   chosen : (x : Option Mesh) → getElem? (meshes (l .kids)) mesh ≡ x → choose mesh (verdict s) ≡ pickMesh no yes (length (meshes (l .kids))) x
-  chosen x e = rw (l .is, e)
+  chosen x e = rw (l .verdict-is, e)
 
   searched : (r : Found) → FoundIs s (meshes (l .kids)) mesh r → AskedIs s mesh (askedOf r)
   unfolding askedOf

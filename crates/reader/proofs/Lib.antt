@@ -6,3 +6,4 @@ pub mod Entering
 pub mod Runs
 pub mod Loop
 pub mod Files
+pub mod Accepted

@@ -5,7 +5,8 @@ use borrow.Author.Needs.{needs}
 use Rattle.rules.specs.Layout.{figure}
 use Rattle.rules.specs.Rules.{file}
 use Rattle.reader.proofs.Parts.{bytes-all}
-use Rattle.lister.proofs.Whole.{gives, list-refused, accepted-by, whole-laid, whole-bounds, whole-room, list-no-room, list-filled}
+use Rattle.reader.proofs.Accepted.{accepted-by}
+use Rattle.lister.proofs.Whole.{gives, list-refused, whole-laid, whole-bounds, whole-room, list-no-room, list-filled}
 use Rattle.lister.proofs.list.Statement.{statement}
 use Rattle.lister.proofs.list.Tie as tie
 

@@ -2,7 +2,8 @@
 use mathlib.Core.Path.{sym, _∙_}
 use native.Mathlib.Omega.{arith}
 use Rattle.reader.proofs.Parts.{bytes-all}
-use Rattle.mesh.proofs.Asks.{file-refused, file-accepted, mesh-there, mesh-nowhere}
+use Rattle.reader.proofs.Accepted.{accepted-by, meets-by}
+use Rattle.mesh.proofs.Asks.{file-refused, mesh-there, mesh-nowhere}
 use borrow.Author.Needs.{needs}
 use Rattle.mesh.proofs.ask.Statement.{statement}
 use Rattle.mesh.proofs.ask.Tie as tie
@@ -20,8 +21,8 @@ find-mesh-requires : tie.Need-find-mesh-requires
 find-mesh-requires c κs =
     let x = c .before .before .before .before .args in
     let b = bytes-all (x .file .now) (λ i. omega (arith, c .before .before .before .shared-slice-known .given i)) in
-    let l = file-accepted (x .file .now) b (sym (c .before .before .check .ensures) ∙ c .enum-told .given .1) in
-    (l .kids, l .meets)
+    let l = accepted-by (x .file .now) _ (sym (c .before .before .check .ensures) ∙ c .enum-told .given .1) in
+    (l .kids, meets-by b l)
 
 enum-known-place : tie.Need-enum-known-place
 enum-known-place c = search needs
@@ -38,15 +39,15 @@ returns-2 : tie.Need-returns-2
 returns-2 c =
     let x = c .before .before .before .before .before .before .before .before .args in
     let b = bytes-all (x .file .now) (λ i. omega (arith, c .before .before .before .before .before .before .before .shared-slice-known .given i)) in
-    let l = file-accepted (x .file .now) b (sym (c .before .before .before .before .before .before .check .ensures) ∙ c .before .before .before .before .enum-told .given .1) in
-    mesh-there (x .file .now) (x .mesh) l (c .before .before .before .find-mesh .result) (c .before .before .before .find-mesh .ensures (l .kids) (l .meets)) (c .before .place .given .1)
+    let l = accepted-by (x .file .now) _ (sym (c .before .before .before .before .before .before .check .ensures) ∙ c .before .before .before .before .enum-told .given .1) in
+    mesh-there (x .file .now) (x .mesh) l (c .before .before .before .find-mesh .result) (c .before .before .before .find-mesh .ensures (l .kids) (meets-by b l)) (c .before .place .given .1)
 
 returns-3 : tie.Need-returns-3
 returns-3 c =
     let x = c .before .before .before .before .before .before .before .before .args in
     let b = bytes-all (x .file .now) (λ i. omega (arith, c .before .before .before .before .before .before .before .shared-slice-known .given i)) in
-    let l = file-accepted (x .file .now) b (sym (c .before .before .before .before .before .before .check .ensures) ∙ c .before .before .before .before .enum-told .given .1) in
-    mesh-nowhere (x .file .now) (x .mesh) l (c .before .before .before .find-mesh .result) (c .before .before .before .find-mesh .ensures (l .kids) (l .meets)) (c .before .n .given .1)
+    let l = accepted-by (x .file .now) _ (sym (c .before .before .before .before .before .before .check .ensures) ∙ c .before .before .before .before .enum-told .given .1) in
+    mesh-nowhere (x .file .now) (x .mesh) l (c .before .before .before .find-mesh .result) (c .before .before .before .find-mesh .ensures (l .kids) (meets-by b l)) (c .before .n .given .1)
 
 pub ask-spec : {M : Type 1} → statement M
 ask-spec =

@@ -1,0 +1,29 @@
+-- What the callers of the check know of a file that it accepts: its layout.
+use mathlib.Core.Path.{_≡_, refl}
+use mathlib.Core.List.{List}
+use Prim.Native.Nat.{ℕ}
+use native.Mathlib.Omega.{arith}
+use Rattle.rules.specs.declared.Counts.{Counts}
+use Rattle.rules.specs.declared.Checked.{Checked}
+use Rattle.rules.specs.Bytes.{Bytes}
+use Rattle.rules.specs.Layout.{Run}
+use Rattle.rules.specs.Rules.{Meets}
+use Rattle.rules.specs.Walk.{Answer, refused, accepted, verdict}
+use Rattle.rules.specs.Calls.{countsOf, checkOf, checkCall}
+use Rattle.rules.proofs.Verdict.{demand2}
+
+pub record Accepted (s : List ℕ) (counts : Counts) : Type 0 where
+  pub kids : Run
+  pub verdict-is : verdict s ≡ accepted kids
+  pub counts-are : counts ≡ countsOf kids
+
+pub accepted-by : (s : List ℕ) (counts : Counts) → checkCall s ≡ Checked.Accepted counts → Accepted s counts
+unfolding checkCall
+accepted-by s counts = go (verdict s) refl
+  where
+    go : (a : Answer) → verdict s ≡ a → checkOf a ≡ Checked.Accepted counts → Accepted s counts
+    go (refused r) v e = absurd (let z : _≡_ {A = ℕ} 0 1 = cc in omega arith)
+    go (accepted kids) v e = record { kids = kids; verdict-is = v; counts-are = cc }
+
+pub meets-by : {s : List ℕ} {counts : Counts} → Bytes s → (a : Accepted s counts) → Meets s (a .kids)
+meets-by {s} b a = demand2 s b (a .kids) .0 (a .verdict-is)
