@@ -21,8 +21,8 @@ use Rattle.rules.proofs.Bytes.{value-le}
 use Rattle.rules.proofs.Conditions.{broken-here, broken-later, unbroken}
 use Rattle.rules.proofs.OwnSize.{own-size-less}
 use Rattle.little_endian.proofs.Slices.{take-slice, drop-slice}
-use Rattle.table.specs.Packed.{rowOf, plusIn, shapeIn}
-use Rattle.table.proofs.Facts.{plus-is, shape-is}
+use Rattle.table.specs.Packed.{rowOf, plusIn, sizeIn, shapeIn}
+use Rattle.table.proofs.Facts.{plus-is, shape-is, Plain}
 use Rattle.own_data.specs.declared.Own.{Own}
 use Rattle.own_data.specs.declared.Judged.{Judged}
 use Rattle.own_data.specs.Own.{Fits, Exceeds, OwnIs, CountIs, Exact, JudgedIs, Judges}
@@ -65,6 +65,28 @@ module _ (p : Parent) (o id : ℕ) (body : List ℕ) where
 
       pub judge-fine : numbersFinite p id (take k body) end ≡ true → faceNumbersBelow p id (take k body) end ≡ true → Judges p o id body (Judged.Size k)
       judge-fine f h = judges none _ (past ∙ broken-later _ _ _ (rw (← (fits .is)) f) ∙ broken-later _ _ _ (rw (← (fits .is)) h) ∙ unbroken [] tt) (ap Judged.Size (fits .is))
+
+-- ---- a plain row: its size is all that is asked
+
+module _ (p : Parent) (o id : ℕ) (body : List ℕ) (q : Plain id) where
+  plain-fits : sizeIn (rowOf id) ≤ length body → Fits (shape id) (p .own) body (sizeIn (rowOf id))
+  plain-fits h = subst (λ (sh : Shape). Fits sh (p .own) body (sizeIn (rowOf id))) (sym (q .shape-fixed)) record { named = refl; is = refl; within = h }
+
+  pub plain-fine : length body ≡ sizeIn (rowOf id) → Judges p o id body (Judged.Size (sizeIn (rowOf id)))
+  plain-fine e =
+      judge-fine p o id body (sizeIn (rowOf id)) (plain-fits (omega (arith, e))) (rw (q .no-plus) (le-leb (length body) (sizeIn (rowOf id)) (omega (arith, e))))
+      (rw (q .not-4110, q .not-4140)) (rw (q .not-4130))
+
+  pub plain-fault : (length body ≡ sizeIn (rowOf id) → ⊥) → Judges p o id body (Judged.Fault (Length o))
+  plain-fault ne = go (leb (length body) (sizeIn (rowOf id))) refl
+    where
+      go : (b : Bool) → leb (length body) (sizeIn (rowOf id)) ≡ b → Judges p o id body (Judged.Fault (Length o))
+      go true h =
+          let m = leb-true (length body) (sizeIn (rowOf id)) h in
+          judge-too-long p o id body (subst (λ (sh : Shape). Exceeds sh (p .own) body) (sym (q .shape-fixed)) record { named = refl; beyond = omega (arith, m, ne) })
+      go false h =
+          let m = leb-false (length body) (sizeIn (rowOf id)) h in
+          judge-left-over p o id body (sizeIn (rowOf id)) (plain-fits (omega (arith, m))) (rw (q .no-plus) h)
 
 -- ---- own data in the file
 

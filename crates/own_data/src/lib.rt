@@ -147,8 +147,8 @@ pub enum Judged {
     Size(usize),
 }
 
-// The own data of a listed chunk that stands from at to stop; count is the count word of the chunk around.
-pub fn judge(file: &[u8], id: usize, row: u64, count: u32, at: usize, stop: usize) -> Judged
+// Own data of any row.
+fn judge_any(file: &[u8], id: usize, row: u64, count: u32, at: usize, stop: usize) -> Judged
     requires { ⌜ (at + 6 ≤ stop) × (stop ≤ length (now file)) × (count < 65536) × (listed id ≡ true) × (row ≡ rowOf id) ⌝ }
     ensures { λ r. ⌜ ((p : Parent) → CountIs (p .own) count → Judges p at id (slice (at + 6) stop (now (file .entry))) r) ⌝ }
 {
@@ -168,5 +168,22 @@ pub fn judge(file: &[u8], id: usize, row: u64, count: u32, at: usize, stop: usiz
             }
             Judged::Size(size)
         }
+    }
+}
+
+// The own data of a listed chunk that stands from at to stop; count is the count word of the chunk around. A plain row has
+// one condition only, and is told at once.
+pub fn judge(file: &[u8], id: usize, row: u64, count: u32, at: usize, stop: usize) -> Judged
+    requires { ⌜ (at + 6 ≤ stop) × (stop ≤ length (now file)) × (count < 65536) × (listed id ≡ true) × (row ≡ rowOf id) ⌝ }
+    ensures { λ r. ⌜ ((p : Parent) → CountIs (p .own) count → Judges p at id (slice (at + 6) stop (now (file .entry))) r) ⌝ }
+{
+    if !table::is_plain(row) {
+        return judge_any(file, id, row, count, at, stop);
+    }
+    let size = table::size(row);
+    if stop - at == 6 + size {
+        Judged::Size(size)
+    } else {
+        Judged::Fault(Refusal::Length(at))
     }
 }

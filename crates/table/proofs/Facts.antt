@@ -1,5 +1,5 @@
 -- What a packed row says, in the words of crate rules: one test for each field, computed over the whole table.
-use mathlib.Core.Path.{_≡_, refl, sym, _∙_}
+use mathlib.Core.Path.{_≡_, refl, sym, ap, _∙_}
 use Prim.Native.Nat.{ℕ, _≤_}
 use mathlib.Core.Bool.{Bool, true, false, not, _&&_, _||_, cond, true≢false, false≢true}
 use mathlib.Core.List.{List, [], _∷_}
@@ -9,7 +9,7 @@ use Rattle.rules.specs.Bytes.{every}
 use Rattle.rules.specs.Table.{Shape, fixed, name, counted, each, named-words, rows, atMostOne, atLeastOne, among, listed, under, shape, plus, limits, needs}
 use Rattle.rules.proofs.Bools.{and-parts, or-second}
 use Rattle.rules.proofs.Rows.{everyId, among-every, listed-every, under-listed}
-use Rattle.table.specs.Packed.{Packed, packedRows, rowAmong, rowOf, mayHoldIn, plusIn, slotOf, kindIn, sizeIn, shapeFrom, shapeIn}
+use Rattle.table.specs.Packed.{Packed, packedRows, rowAmong, rowOf, mayHoldIn, plusIn, plainIn, slotOf, kindIn, sizeIn, shapeFrom, shapeIn}
 
 -- ---- tests that two things are the same
 
@@ -99,6 +99,38 @@ unfolding shapeIn
 shape-is x l =
     let h = and-parts _ _ (listed-every (λ x. eqb (kindIn (rowOf x)) (kindOf (shape x)) && eqb (sizeIn (rowOf x)) (sizeOf (shape x))) shape-test x l) in
     rw (eqb-true (kindIn (rowOf x)) (kindOf (shape x)) (h .0), eqb-true (sizeIn (rowOf x)) (sizeOf (shape x)) (h .1)) (shape-back (shape x))
+
+-- ---- plain rows
+
+-- no rule speaks of the own data of a plain row
+abbrev unruled : ℕ → Bool
+unruled x = not (eqb x 0x4110) && (not (eqb x 0x4140) && not (eqb x 0x4130))
+
+plain-test : everyId (λ x. not (plainIn (rowOf x)) || (eqb (kindIn (rowOf x)) 0 && (not (plus x) && unruled x))) rows ≡ true
+unfolding rows every packedRows rowOf plus
+plain-test = refl
+
+pub record Plain (x : ℕ) : Type 0 where
+  pub shape-fixed : shape x ≡ fixed (sizeIn (rowOf x))
+  pub no-plus : plus x ≡ false
+  pub not-4110 : eqb x 0x4110 ≡ false
+  pub not-4140 : eqb x 0x4140 ≡ false
+  pub not-4130 : eqb x 0x4130 ≡ false
+
+pub plain-is : (x : ℕ) → listed x ≡ true → plainIn (rowOf x) ≡ true → Plain x
+unfolding shapeIn
+plain-is x l p =
+    let h = and-parts _ _ (or-second _ _ (listed-every (λ x. not (plainIn (rowOf x)) || (eqb (kindIn (rowOf x)) 0 && (not (plus x) && unruled x))) plain-test x l) (ap not p)) in
+    let g = and-parts _ _ (h .1) in
+    let u = and-parts _ _ (g .1) in
+    let v = and-parts _ _ (u .1) in
+    record {
+      shape-fixed = sym (shape-is x l) ∙ ap (λ (k : ℕ). shapeFrom k (sizeIn (rowOf x))) (eqb-true (kindIn (rowOf x)) 0 (h .0));
+      no-plus = not-true _ (g .0);
+      not-4110 = not-true _ (u .0);
+      not-4140 = not-true _ (v .0);
+      not-4130 = not-true _ (v .1);
+    }
 
 -- ---- slots: within a container, chunks of one slot are those of one group, and slot 5 is none's
 

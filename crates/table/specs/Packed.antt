@@ -73,6 +73,10 @@ kindIn row = row / 2 ^ 20 % 16
 abbrev pub plusIn : ℕ → Bool
 plusIn row = eqb (row / 2 ^ 24 % 16) 1
 
+-- own data of a fixed size, and no children: kind and plus are both 0
+abbrev pub plainIn : ℕ → Bool
+plainIn row = eqb (row / 2 ^ 20 % 256) 0
+
 abbrev pub sizeIn : ℕ → ℕ
 sizeIn row = row / 2 ^ 28 % 256
 

@@ -1,7 +1,7 @@
 // The chunk table of document 01 as code looks it up. A row is one number, so that looking at it costs nothing; crate
 // rules has the table in words, and proofs/Facts that each number says what its row says there.
 ghost use mathlib.Core.Path.{_≡_};
-ghost use Rattle.table.specs.Packed.{rowOf, mayHoldIn, plusIn, kindIn, Slot, Size};
+ghost use Rattle.table.specs.Packed.{rowOf, mayHoldIn, plusIn, plainIn, kindIn, Slot, Size};
 
 // The row of an identifier, 0 where it has none. The columns, from the left:
 // - size of own data: of all of it, of one counted element, or of what there is for each face
@@ -78,6 +78,13 @@ pub fn may_have_children(row: u64) -> bool
     ensures { λ r. ⌜ r ≡ plusIn row ⌝ }
 {
     row / 16777216 % 16 == 1
+}
+
+// Own data of a fixed size, and no children: most chunks of most files are such.
+pub fn is_plain(row: u64) -> bool
+    ensures { λ r. ⌜ r ≡ plainIn row ⌝ }
+{
+    row / 1048576 % 256 == 0
 }
 
 pub fn size(row: u64) -> usize
