@@ -21,8 +21,8 @@ use Rattle.rules.proofs.Bytes.{value-le}
 use Rattle.rules.proofs.Conditions.{broken-here, broken-later, unbroken}
 use Rattle.rules.proofs.OwnSize.{own-size-less}
 use Rattle.little_endian.proofs.Slices.{take-slice, drop-slice}
-use Rattle.table.specs.Packed.{rowOf, plusIn, sizeIn, shapeIn}
-use Rattle.table.proofs.Facts.{plus-is, shape-is, Plain}
+use Rattle.table.specs.Packed.{rowOf, plusIn, plainIn, sizeIn, shapeIn}
+use Rattle.table.proofs.Facts.{plus-is, shape-is, Plain, plain-is}
 use Rattle.own_data.specs.declared.Own.{Own}
 use Rattle.own_data.specs.declared.Judged.{Judged}
 use Rattle.own_data.specs.Own.{Fits, Exceeds, OwnIs, CountIs, Exact, JudgedIs, Judges}
@@ -72,12 +72,12 @@ module _ (p : Parent) (o id : ℕ) (body : List ℕ) (q : Plain id) where
   plain-fits : sizeIn (rowOf id) ≤ length body → Fits (shape id) (p .own) body (sizeIn (rowOf id))
   plain-fits h = subst (λ (sh : Shape). Fits sh (p .own) body (sizeIn (rowOf id))) (sym (q .shape-fixed)) record { named = refl; is = refl; within = h }
 
-  pub plain-fine : length body ≡ sizeIn (rowOf id) → Judges p o id body (Judged.Size (sizeIn (rowOf id)))
+  plain-fine : length body ≡ sizeIn (rowOf id) → Judges p o id body (Judged.Size (sizeIn (rowOf id)))
   plain-fine e =
       judge-fine p o id body (sizeIn (rowOf id)) (plain-fits (omega (arith, e))) (rw (q .no-plus) (le-leb (length body) (sizeIn (rowOf id)) (omega (arith, e))))
       (rw (q .not-4110, q .not-4140)) (rw (q .not-4130))
 
-  pub plain-fault : (length body ≡ sizeIn (rowOf id) → ⊥) → Judges p o id body (Judged.Fault (Length o))
+  plain-fault : (length body ≡ sizeIn (rowOf id) → ⊥) → Judges p o id body (Judged.Fault (Length o))
   plain-fault ne = go (leb (length body) (sizeIn (rowOf id))) refl
     where
       go : (b : Bool) → leb (length body) (sizeIn (rowOf id)) ≡ b → Judges p o id body (Judged.Fault (Length o))
@@ -87,6 +87,24 @@ module _ (p : Parent) (o id : ℕ) (body : List ℕ) (q : Plain id) where
       go false h =
           let m = leb-false (length body) (sizeIn (rowOf id)) h in
           judge-left-over p o id body (sizeIn (rowOf id)) (plain-fits (omega (arith, m))) (rw (q .no-plus) h)
+
+-- a chunk of a plain row, from `at` to `past`
+module _ (s : List ℕ) (at past id row k : ℕ) (order : at + 6 ≤ past) (stays : past ≤ length s) (l : listed id ≡ true) (e : row ≡ rowOf id) (plain : plainIn row ≡ true) (is : k ≡ sizeIn row) (p : Parent) where
+  row-plain : Plain id
+  row-plain = plain-is id l (subst (λ (r : ℕ). plainIn r ≡ true) e plain)
+
+  size-of : k ≡ sizeIn (rowOf id)
+  size-of = is ∙ ap sizeIn e
+
+  body-length : length (slice (at + 6) past s) ≡ past - (at + 6)
+  body-length = length-slice (at + 6) past s stays
+
+  pub plain-chunk-fine : past - at ≡ 6 + k → Judges p at id (slice (at + 6) past s) (Judged.Size k)
+  plain-chunk-fine h =
+      subst (λ (n : ℕ). Judges p at id (slice (at + 6) past s) (Judged.Size n)) (sym size-of) (plain-fine p at id (slice (at + 6) past s) row-plain (omega (arith, body-length, size-of, h, order)))
+
+  pub plain-chunk-fault : (past - at ≡ 6 + k → ⊥) → Judges p at id (slice (at + 6) past s) (Judged.Fault (Length at))
+  plain-chunk-fault ne = plain-fault p at id (slice (at + 6) past s) row-plain (λ f. ne (omega (arith, f, body-length, size-of, order)))
 
 -- ---- own data in the file
 

@@ -1,15 +1,7 @@
 -- A plain row is judged by its size alone; any other by all conditions.
-use mathlib.Core.Path.{_≡_, sym, ap, _∙_, subst}
-use native.Mathlib.Omega.{arith}
-use mathlib.Core.Bool.{true}
-use Prim.Native.Nat.{ℕ, _+_}
-use lib.Seq.{slice, length-slice}
+use mathlib.Core.Path.{sym, _∙_}
 use borrow.Author.Tests.{not-false}
-use Rattle.table.specs.Packed.{plainIn, sizeIn}
-use Rattle.table.proofs.Facts.{plain-is}
-use Rattle.own_data.specs.declared.Judged.{Judged}
-use Rattle.own_data.specs.Own.{Judges}
-use Rattle.own_data.proofs.Conditions.{plain-fine, plain-fault}
+use Rattle.own_data.proofs.Conditions.{plain-chunk-fine, plain-chunk-fault}
 use borrow.Author.Needs.{needs}
 use Rattle.own_data.proofs.judge.Statement.{statement}
 use Rattle.own_data.proofs.judge.Tie as tie
@@ -35,20 +27,14 @@ add-if2 c = search needs
 returns-2 : tie.Need-returns-2
 returns-2 c = λ p h.
     let x = c .before .before .before .before .before in
-    let e = x .pre .4 in
-    let q = plain-is (x .args .id) (x .pre .3) (subst (λ (r : ℕ). plainIn r ≡ true) e (sym (c .before .before .before .is-plain .ensures) ∙ not-false _ (c .before .before .if1 .left))) in
-    let k = c .before .size .ensures .is ∙ ap sizeIn e in
-    let z = length-slice (x .args .at + 6) (x .args .stop) (x .args .file .now) (x .pre .1) in
-    subst (λ (n : ℕ). Judges p (x .args .at) (x .args .id) (slice (x .args .at + 6) (x .args .stop) (x .args .file .now)) (Judged.Size n)) (sym k) (plain-fine p (x .args .at) (x .args .id) (slice (x .args .at + 6) (x .args .stop) (x .args .file .now)) q (omega (arith, z, k, c .if2 .taken, x .pre .0)))
+    plain-chunk-fine (x .args .file .now) (x .args .at) (x .args .stop) (x .args .id) (x .args .row) (c .before .size .result) (x .pre .0) (x .pre .1) (x .pre .3) (x .pre .4)
+    (sym (c .before .before .before .is-plain .ensures) ∙ not-false _ (c .before .before .if1 .left)) (c .before .size .ensures .is) p (c .if2 .taken)
 
 returns-3 : tie.Need-returns-3
 returns-3 c = λ p h.
     let x = c .before .before .before .before .before in
-    let e = x .pre .4 in
-    let q = plain-is (x .args .id) (x .pre .3) (subst (λ (r : ℕ). plainIn r ≡ true) e (sym (c .before .before .before .is-plain .ensures) ∙ not-false _ (c .before .before .if1 .left))) in
-    let k = c .before .size .ensures .is ∙ ap sizeIn e in
-    let z = length-slice (x .args .at + 6) (x .args .stop) (x .args .file .now) (x .pre .1) in
-    plain-fault p (x .args .at) (x .args .id) (slice (x .args .at + 6) (x .args .stop) (x .args .file .now)) q (λ f. c .if2 .left (omega (arith, f, z, k, x .pre .0)))
+    plain-chunk-fault (x .args .file .now) (x .args .at) (x .args .stop) (x .args .id) (x .args .row) (c .before .size .result) (x .pre .0) (x .pre .1) (x .pre .3) (x .pre .4)
+    (sym (c .before .before .before .is-plain .ensures) ∙ not-false _ (c .before .before .if1 .left)) (c .before .size .ensures .is) p (c .if2 .left)
 
 pub judge-spec : {M : Type 1} → statement M
 judge-spec =
