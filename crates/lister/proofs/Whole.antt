@@ -16,22 +16,23 @@ use Rattle.rules.specs.Layout.{figure}
 use Rattle.rules.specs.Rules.{file}
 use Rattle.rules.specs.Gives.{recordCount, list, flat}
 use Rattle.rules.specs.Walk.{Answer, refused, accepted, verdict}
+use Rattle.rules.specs.Encodings.{flatRecords}
 use Rattle.rules.specs.Calls.{Effect, leaving, filled, checkOf, checkCall, listOf, listCall}
 use Rattle.reader.proofs.Accepted.{Accepted, meets-by}
 use Rattle.lister.specs.Laid.{Laid, Bounds, Room, Listed}
 use Rattle.lister.proofs.Rows.{length-flat, length-records}
 
 -- what the call answers and leaves, in two parts
-pub gives : (s row : List ℕ) {answer : Checked} {rows : List ℕ} → listCall s row ≡ leaving answer rows → (answer ≡ listCall s row .answer) × (rows ≡ listCall s row .rows)
+pub gives : (s row : List ℕ) {answer : Checked} {rows : List ℕ} → listCall flatRecords s row ≡ leaving answer rows → (answer ≡ listCall flatRecords s row .answer) × (rows ≡ listCall flatRecords s row .rows)
 gives s row e = (ap (λ (x : Effect Checked (List ℕ)). x .answer) (sym e), ap (λ (x : Effect Checked (List ℕ)). x .rows) (sym e))
 
 -- ---- a refused file
 
-pub list-refused : (s row : List ℕ) (r : Refusal) → checkCall s ≡ Checked.Refused r → listCall s row ≡ leaving (Checked.Refused r) row
+pub list-refused : (s row : List ℕ) (r : Refusal) → checkCall s ≡ Checked.Refused r → listCall flatRecords s row ≡ leaving (Checked.Refused r) row
 unfolding checkCall listCall
 list-refused s row r = go (verdict s)
   where
-    go : (a : Answer) → checkOf a ≡ Checked.Refused r → listOf row a ≡ leaving (Checked.Refused r) row
+    go : (a : Answer) → checkOf a ≡ Checked.Refused r → listOf flatRecords row a ≡ leaving (Checked.Refused r) row
     go (refused x) e = ap (λ (c : Checked). leaving c row) e
     go (accepted kids) e = absurd (let z : _≡_ {A = ℕ} 0 1 = cc in omega arith)
 
@@ -49,7 +50,7 @@ module _ {s : List ℕ} {counts : Counts} (a : Accepted s counts) where
     whole-bounds = record { ends = omega arith; short = meets-by b a .within-limit; count-small = omega arith; deep = omega arith; over = omega arith; before = omega arith }
 
   module _ (row : List ℕ) where
-    pub list-no-room : length row / 6 < counts .records → listCall s row ≡ leaving (Checked.Refused (NoRoom (counts .records))) row
+    pub list-no-room : length row / 6 < counts .records → listCall flatRecords s row ≡ leaving (Checked.Refused (NoRoom (counts .records))) row
     unfolding listCall
     list-no-room h = rw (a .verdict-is, records-are, lt-leb (recordCount (figure (a .kids))) (length row / 6) (omega (arith, records-are)))
 
@@ -57,7 +58,7 @@ module _ {s : List ℕ} {counts : Counts} (a : Accepted s counts) where
       pub whole-room : Room row 0 (figure (a .kids))
       whole-room = omega (arith, records-are)
 
-      pub list-filled : (row′ : List ℕ) (r : ℕ) → Listed row 0 0 0 0 (figure (a .kids)) row′ r → listCall s row ≡ leaving (Checked.Accepted counts) row′
+      pub list-filled : (row′ : List ℕ) (r : ℕ) → Listed row 0 0 0 0 (figure (a .kids)) row′ r → listCall flatRecords s row ≡ leaving (Checked.Accepted counts) row′
       unfolding listCall
       list-filled row′ r l =
           let new = flat (list (a .kids)) in

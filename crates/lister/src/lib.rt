@@ -13,6 +13,7 @@ ghost use lib.ListN.{length};
 ghost use lib.Seq.{slice, sets};
 ghost use Rattle.rules.specs.Layout.{Run};
 ghost use Rattle.rules.specs.Rules.{Parent};
+ghost use Rattle.rules.specs.Encodings.{flatRecords};
 ghost use Rattle.rules.specs.Calls.{listCall};
 ghost use Rattle.own_data.specs.Own.{CountIs};
 ghost use Rattle.lister.specs.Laid.{first, Laid, Bounds, Room, Listed, Begins, Small, sixOf};
@@ -115,8 +116,8 @@ fn list_run(
 // what the check answers, or that there is no room; a refusal leaves the row as it was.
 // (The file is a run of one chunk. With no other call of `list_chunk`, a chunk without children costs `list_run` no call.)
 pub fn list(file: &[u8], row: &mut [u32]) -> Checked
-    ensures answer { λ r. ⌜ r ≡ listCall (now (file .entry)) (now (row .entry)) .answer ⌝ }
-    ensures filled { λ r. ⌜ now (row .exit) ≡ listCall (now (file .entry)) (now (row .entry)) .rows ⌝ }
+    ensures answer { λ r. ⌜ r ≡ listCall flatRecords (now (file .entry)) (now (row .entry)) .answer ⌝ }
+    ensures filled { λ r. ⌜ now (row .exit) ≡ listCall flatRecords (now (file .entry)) (now (row .entry)) .rows ⌝ }
 {
     match reader::check(file) {
         Checked::Refused(r) => Checked::Refused(r),

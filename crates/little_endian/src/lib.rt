@@ -1,9 +1,11 @@
-// Little-endian numbers in a slice, and the test of a 32-bit float's exponent.
+// Little-endian numbers in a slice, read and written, and the test of a 32-bit float's exponent.
 ghost use mathlib.Core.Path.{_≡_};
 ghost use Prim.Native.Nat.{_+_, _<_, _≤_};
 ghost use lib.ListN.{length, getD};
-ghost use Rattle.little_endian.specs.Numbers.{Word, Long};
+ghost use Rattle.rules.specs.Bytes.{le};
 ghost use Rattle.rules.specs.OwnData.{finite};
+ghost use Rattle.little_endian.specs.Numbers.{Word, Long};
+ghost use Rattle.little_endian.specs.Put.{Put};
 
 fn byte_at(s: &[u8], at: usize) -> u32
     requires { ⌜ at < length (now s) ⌝ }
@@ -37,4 +39,25 @@ pub fn is_finite(bits: u32) -> bool
     ensures { λ r. ⌜ r ≡ finite bits ⌝ }
 {
     bits / 8388608 % 256 != 255
+}
+
+// ---- written
+
+// Puts a 2-byte number at a position of out, and answers the position behind it.
+pub fn put_word(v: u16, at: usize, out: &mut [u8]) -> usize
+    requires { ⌜ at + 2 ≤ length (now out) ⌝ }
+    ensures { λ r. ⌜ Put (now (out .entry)) at (le 2 v) (now (out .exit)) r ⌝ }
+{
+    out[at] = (v % 256) as u8;
+    out[at + 1] = (v / 256) as u8;
+    at + 2
+}
+
+// Puts a 4-byte number at a position of out, and answers the position behind it.
+pub fn put_long(v: u32, at: usize, out: &mut [u8]) -> usize
+    requires { ⌜ at + 4 ≤ length (now out) ⌝ }
+    ensures { λ r. ⌜ Put (now (out .entry)) at (le 4 v) (now (out .exit)) r ⌝ }
+{
+    let high = put_word((v % 65536) as u16, at, out);
+    put_word((v / 65536) as u16, high, out)
 }

@@ -16,6 +16,7 @@ use Rattle.rules.specs.Bytes.{numbers}
 use Rattle.rules.specs.Box.{boxOf, centreOf}
 use Rattle.rules.specs.Walk.{Answer, refused, accepted, verdict}
 use Rattle.rules.specs.Gives.{Mesh, meshes}
+use Rattle.rules.specs.Encodings.{Encoding}
 use Rattle.rules.specs.Calls.{leaving, ofMesh, pickMesh, Rows, tablesOf, tablesCall, nameOf, nameCall, aroundOf, boxCall}
 use Rattle.find.specs.declared.Place.{Place}
 use Rattle.find.specs.Places.{PlaceIs}
@@ -43,12 +44,17 @@ module _ {A : Type 0} (refuse : Refusal → A) (use-it : Mesh → A) (mesh : ℕ
   unfolding with-choice
   call-goes-on a m e = by-choice a ∙ ap with-choice e
 
+module _ {A B : Type 0} (v : Encoding ℕ A) (c : Encoding ℕ B) (s : List ℕ) (mesh : ℕ) (rows : Rows A B) where
+  pub tables-refused : {r : Refusal} → choose mesh (verdict s) ≡ no r → tablesCall v c s mesh rows ≡ leaving (Tabled.Refused r) rows
+  unfolding tablesCall
+  tables-refused {r} e = call-refused (λ r. leaving (Tabled.Refused r) rows) (tablesOf v c rows) mesh (verdict s) r e
+
+  pub tables-go-on : {m : Mesh} → choose mesh (verdict s) ≡ yes m → tablesCall v c s mesh rows ≡ tablesOf v c rows m
+  unfolding tablesCall
+  tables-go-on {m} e = call-goes-on (λ r. leaving (Tabled.Refused r) rows) (tablesOf v c rows) mesh (verdict s) m e
+
 module _ (s : List ℕ) (mesh : ℕ) where
   module _ {r : Refusal} (e : choose mesh (verdict s) ≡ no r) where
-    pub tables-refused : (row : Rows) → tablesCall s mesh row ≡ leaving (Tabled.Refused r) row
-    unfolding tablesCall
-    tables-refused row = call-refused (λ r. leaving (Tabled.Refused r) row) (tablesOf row) mesh (verdict s) r e
-
     pub name-refused : Named.Refused r ≡ nameCall s mesh
     unfolding nameCall
     name-refused = sym (call-refused Named.Refused nameOf mesh (verdict s) r e)
@@ -58,10 +64,6 @@ module _ (s : List ℕ) (mesh : ℕ) where
     box-refused = sym (call-refused Boxed.Refused aroundOf mesh (verdict s) r e)
 
   module _ {m : Mesh} (e : choose mesh (verdict s) ≡ yes m) where
-    pub tables-go-on : (row : Rows) → tablesCall s mesh row ≡ tablesOf row m
-    unfolding tablesCall
-    tables-go-on row = call-goes-on (λ r. leaving (Tabled.Refused r) row) (tablesOf row) mesh (verdict s) m e
-
     module _ {place : Place} (p : PlaceIs s m place) where
       pub name-goes-on : Named.At record { offset = place .name; size = place .size } ≡ nameCall s mesh
       unfolding nameCall

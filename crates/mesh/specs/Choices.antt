@@ -3,7 +3,6 @@
 use mathlib.Core.Path.{_≡_}
 use mathlib.Core.List.{List}
 use Prim.Native.Nat.{ℕ}
-use lib.Ieee.{Float}
 use Rattle.rules.specs.declared.Refusal.{Refusal}
 use Rattle.rules.specs.Walk.{Answer, verdict}
 use Rattle.rules.specs.Gives.{Mesh}
@@ -31,5 +30,5 @@ abbrev pub SomeMesh : List ℕ → Place → Type 0
 SomeMesh s place = (m : Mesh) × PlaceIs s m place
 
 -- the two rows of the tables
-abbrev pub rows : List Float → List ℕ → Rows
+abbrev pub rows : {A B : Type 0} → List A → List B → Rows A B
 rows vertices corners = record { vertices = vertices; corners = corners }

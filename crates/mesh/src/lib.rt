@@ -11,6 +11,7 @@ use rules::Span;
 use rules::Tabled;
 ghost use mathlib.Core.Path.{_≡_};
 ghost use Rattle.rules.specs.Gives.{Mesh};
+ghost use Rattle.rules.specs.Encodings.{floatRow, cornerRow};
 ghost use Rattle.rules.specs.Calls.{tablesOf, tablesCall, nameCall, boxCall};
 ghost use Rattle.find.specs.Places.{PlaceIs};
 ghost use Rattle.mesh.specs.Choices.{AskedIs, SomeMesh, rows};
@@ -36,8 +37,8 @@ fn ask(file: &[u8], mesh: u32) -> Asked
 // The tables of the mesh at a place, into rows that may be too small.
 fn fill(file: &[u8], place: Place, vertices: &mut [f32], corners: &mut [u16]) -> Tabled
     requires { ⌜ SomeMesh (now file) place ⌝ }
-    ensures answer { λ r. ⌜ ((m : Mesh) → PlaceIs (now (file .entry)) m place → r ≡ tablesOf (rows (now (vertices .entry)) (now (corners .entry))) m .answer) ⌝ }
-    ensures filled { λ r. ⌜ ((m : Mesh) → PlaceIs (now (file .entry)) m place → rows (now (vertices .exit)) (now (corners .exit)) ≡ tablesOf (rows (now (vertices .entry)) (now (corners .entry))) m .rows) ⌝ }
+    ensures answer { λ r. ⌜ ((m : Mesh) → PlaceIs (now (file .entry)) m place → r ≡ tablesOf floatRow cornerRow (rows (now (vertices .entry)) (now (corners .entry))) m .answer) ⌝ }
+    ensures filled { λ r. ⌜ ((m : Mesh) → PlaceIs (now (file .entry)) m place → rows (now (vertices .exit)) (now (corners .exit)) ≡ tablesOf floatRow cornerRow (rows (now (vertices .entry)) (now (corners .entry))) m .rows) ⌝ }
 {
     let n = place.vertices.count;
     let f = place.faces.count;
@@ -58,8 +59,8 @@ fn fill(file: &[u8], place: Place, vertices: &mut [f32], corners: &mut [u16]) ->
 // The vertices and corners of a mesh, into lent rows: three numbers a vertex, three corners a face. A refusal leaves both
 // rows as they were.
 pub fn tables(file: &[u8], mesh: u32, vertices: &mut [f32], corners: &mut [u16]) -> Tabled
-    ensures answer { λ r. ⌜ r ≡ tablesCall (now (file .entry)) mesh (rows (now (vertices .entry)) (now (corners .entry))) .answer ⌝ }
-    ensures filled { λ r. ⌜ rows (now (vertices .exit)) (now (corners .exit)) ≡ tablesCall (now (file .entry)) mesh (rows (now (vertices .entry)) (now (corners .entry))) .rows ⌝ }
+    ensures answer { λ r. ⌜ r ≡ tablesCall floatRow cornerRow (now (file .entry)) mesh (rows (now (vertices .entry)) (now (corners .entry))) .answer ⌝ }
+    ensures filled { λ r. ⌜ rows (now (vertices .exit)) (now (corners .exit)) ≡ tablesCall floatRow cornerRow (now (file .entry)) mesh (rows (now (vertices .entry)) (now (corners .entry))) .rows ⌝ }
 {
     match ask(file, mesh) {
         Asked::Refused(r) => Tabled::Refused(r),

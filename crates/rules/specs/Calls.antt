@@ -1,11 +1,10 @@
 -- What each call of the reader answers and leaves in the lent rows, for every file and every row. The contracts of the
 -- public functions are equations with these definitions.
-use Prim.Native.Nat.{ℕ, _/_}
+use Prim.Native.Nat.{ℕ}
 use mathlib.Core.Bool.{cond}
-use mathlib.Core.List.{List, [], _∷_, _++_, map}
+use mathlib.Core.List.{List, _++_}
 use mathlib.Core.Option.{Option, none, some}
 use lib.Dec.{eqb, leb}
-use lib.Ieee.{Float}
 use lib.ListN.{length, drop, getElem?}
 use Rattle.rules.specs.declared.Refusal.{Refusal}
 use Rattle.rules.specs.declared.Refusal.the-variants.{NoRoom, NoSuchMesh, Empty}
@@ -18,8 +17,9 @@ use Rattle.rules.specs.declared.Named.{Named}
 use Rattle.rules.specs.declared.Boxed.{Boxed}
 use Rattle.rules.specs.Layout.{Run, figure}
 use Rattle.rules.specs.Walk.{Answer, refused, accepted, verdict}
-use Rattle.rules.specs.Gives.{recordCount, list, flat, headers, owned, skipped, Mesh, meshes}
-use Rattle.rules.specs.Box.{float, boxOf, centreOf}
+use Rattle.rules.specs.Gives.{Record, recordCount, list, headers, owned, skipped, Mesh, meshes}
+use Rattle.rules.specs.Box.{boxOf, centreOf}
+use Rattle.rules.specs.Encodings.{Encoding}
 
 -- a call that fills lent rows: its answer, and the rows afterwards
 pub record Effect (A R : Type 0) : Type 0 where
@@ -52,15 +52,15 @@ checkCall s = checkOf (verdict s)
 
 -- ---- the list, into a row whose room is counted in whole records
 
-abbrev pub listOf : List ℕ → Answer → Effect Checked (List ℕ)
-listOf row (refused r) = leaving (Checked.Refused r) row
-listOf row (accepted kids) =
-    cond (leb (recordCount (figure kids)) (length row / 6))
-    (leaving (Checked.Accepted (countsOf kids)) (filled (flat (list kids)) row))
+abbrev pub listOf : {A : Type 0} → Encoding Record A → List A → Answer → Effect Checked (List A)
+listOf e row (refused r) = leaving (Checked.Refused r) row
+listOf e row (accepted kids) =
+    cond (leb (recordCount (figure kids)) (e .room (length row)))
+    (leaving (Checked.Accepted (countsOf kids)) (filled (e .encode (list kids)) row))
     (leaving (Checked.Refused (NoRoom (recordCount (figure kids)))) row)
 
-unfoldable pub listCall : List ℕ → List ℕ → Effect Checked (List ℕ)
-listCall s row = listOf row (verdict s)
+unfoldable pub listCall : {A : Type 0} → Encoding Record A → List ℕ → List A → Effect Checked (List A)
+listCall e s row = listOf e row (verdict s)
 
 -- ---- one mesh
 
@@ -73,21 +73,21 @@ abbrev pub ofMesh : {A : Type 0} → (Refusal → A) → (Mesh → A) → ℕ �
 ofMesh refuse use-it mesh (refused r) = refuse r
 ofMesh refuse use-it mesh (accepted kids) = pickMesh refuse use-it (length (meshes kids)) (getElem? (meshes kids) mesh)
 
--- the tables: a row of floats and a row of corners, three to a vertex and three to a face
-pub record Rows : Type 0 where
-  pub vertices : List Float
-  pub corners : List ℕ
+-- the tables: a row of vertices and a row of corners, three numbers to a vertex and three to a face
+pub record Rows (A B : Type 0) : Type 0 where
+  pub vertices : List A
+  pub corners : List B
 
-abbrev pub tablesOf : Rows → Mesh → Effect Tabled Rows
-tablesOf rows m =
-    cond (leb (length (m .vertices)) (length (rows .vertices)))
-    (cond (leb (length (m .corners)) (length (rows .corners)))
-    (leaving (Tabled.Filled record { vertices = m .vertexCount; faces = m .faceCount }) record { vertices = filled (map float (m .vertices)) (rows .vertices); corners = filled (m .corners) (rows .corners) })
+abbrev pub tablesOf : {A B : Type 0} → Encoding ℕ A → Encoding ℕ B → Rows A B → Mesh → Effect Tabled (Rows A B)
+tablesOf v c rows m =
+    cond (leb (length (m .vertices)) (v .room (length (rows .vertices))))
+    (cond (leb (length (m .corners)) (c .room (length (rows .corners))))
+    (leaving (Tabled.Filled record { vertices = m .vertexCount; faces = m .faceCount }) record { vertices = filled (v .encode (m .vertices)) (rows .vertices); corners = filled (c .encode (m .corners)) (rows .corners) })
     (leaving (Tabled.Refused (NoRoom (length (m .corners)))) rows))
     (leaving (Tabled.Refused (NoRoom (length (m .vertices)))) rows)
 
-unfoldable pub tablesCall : List ℕ → ℕ → Rows → Effect Tabled Rows
-tablesCall s mesh rows = ofMesh (λ r. leaving (Tabled.Refused r) rows) (tablesOf rows) mesh (verdict s)
+unfoldable pub tablesCall : {A B : Type 0} → Encoding ℕ A → Encoding ℕ B → List ℕ → ℕ → Rows A B → Effect Tabled (Rows A B)
+tablesCall v c s mesh rows = ofMesh (λ r. leaving (Tabled.Refused r) rows) (tablesOf v c rows) mesh (verdict s)
 
 -- the name of the mesh's object
 abbrev pub nameOf : Mesh → Named

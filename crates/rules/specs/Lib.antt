@@ -8,6 +8,7 @@ pub mod Rules
 pub mod Walk
 pub mod Gives
 pub mod Box
+pub mod Encodings
 pub mod Calls
 pub mod Gaps
 pub mod Demands

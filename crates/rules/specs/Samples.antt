@@ -14,6 +14,7 @@ use Rattle.rules.specs.Refusals.{codeOf}
 use Rattle.rules.specs.Walk.{Answer, refused, accepted, verdict}
 use Rattle.rules.specs.Gives.{list, flat, Mesh, meshes}
 use Rattle.rules.specs.Box.{float}
+use Rattle.rules.specs.Encodings.{flatRecords}
 use Rattle.rules.specs.Calls.{checkCall, listCall, nameCall, boxCall}
 
 -- an answer as the paper writes it: a refusal's number and place; or the counts of headers, own data and skipped bytes
@@ -57,7 +58,7 @@ answers =
     checkCall triangle ∷
     checkCall (set triangle 82 3) ∷
     checkCall (set triangle 32 4) ∷
-    listCall triangle (replicate 35 0) .answer ∷
+    listCall flatRecords triangle (replicate 35 0) .answer ∷
     checkCall p12 ∷ []
 
 abbrev pub papers : List Shown

@@ -7,9 +7,9 @@ use native.Mathlib.Omega.{arith}
 use mathlib.Core.List.{List, [], _∷_, _++_, append-assoc, append-nil}
 use lib.ListN.{length, take, drop, getD, length-append, length-drop}
 use lib.Seq.{take-suc, drop-cons, drop-drop, length-take-le}
-use Rattle.rules.specs.Bytes.{le}
+use Rattle.rules.specs.Bytes.{le, packed}
 use Rattle.rules.proofs.Bytes.{length-le}
-use Rattle.writer.specs.Bare.{packed, faceWords}
+use Rattle.writer.specs.Bare.{faceWords}
 
 pub length-packed : (w : ℕ) (ns : List ℕ) → length (packed w ns) ≡ w * length ns
 length-packed w [] = omega (arith, mul-zero w)

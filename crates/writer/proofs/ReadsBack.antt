@@ -13,6 +13,7 @@ use Rattle.rules.specs.declared.Tabled.{Tabled}
 use Rattle.rules.specs.OwnData.{count, vertexNumbers, faceCorners}
 use Rattle.rules.specs.Layout.{figure, bytes}
 use Rattle.rules.specs.Rules.{allBelow, Meets}
+use Rattle.rules.specs.Encodings.{floatRow, cornerRow}
 use Rattle.rules.specs.Calls.{Effect, leaving, filled, Rows, tablesOf}
 use Rattle.rules.proofs.Bools.{every-weaker}
 use Rattle.rules.proofs.Bytes.{value-le}
@@ -56,8 +57,8 @@ module _ (name : List ℕ) (vertices : List Float) (corners : List ℕ) (room si
       corners-below = rw (vertex-count, face-corners) (r .below);
     }
 
-    tables-are : (rows : Rows) → length vertices ≤ length (rows .vertices) → length corners ≤ length (rows .corners) →
-        tablesOf rows (mesh (nameData name) (vertexData vertices) (faceData corners)) ≡
+    tables-are : (rows : Rows Float ℕ) → length vertices ≤ length (rows .vertices) → length corners ≤ length (rows .corners) →
+        tablesOf floatRow cornerRow rows (mesh (nameData name) (vertexData vertices) (faceData corners)) ≡
         leaving (Tabled.Filled record { vertices = triples vertices; faces = triples corners })
         record { vertices = filled vertices (rows .vertices); corners = filled corners (rows .corners) }
     tables-are rows v c =

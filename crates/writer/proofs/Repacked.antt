@@ -9,12 +9,12 @@ use lib.Dec.{eqb}
 use lib.ListN.{length, take, drop, length-drop, take-append-drop}
 use lib.Seq.{drop-drop, length-take-le}
 use borrow.Author.Tests.{eqb-true, lt-ltb}
-use Rattle.rules.specs.Bytes.{value, le, numbers, every, Bytes}
+use Rattle.rules.specs.Bytes.{value, le, numbers, every, Bytes, packed}
 use Rattle.rules.specs.OwnData.{nameSize, corners}
 use Rattle.rules.specs.Rules.{allBelow}
 use Rattle.rules.proofs.Bools.{both, and-parts}
 use Rattle.rules.proofs.Bytes.{bytes-drop, bytes-take, le-value}
-use Rattle.writer.specs.Bare.{packed, nameData, faceWords}
+use Rattle.writer.specs.Bare.{nameData, faceWords}
 use Rattle.writer.specs.Write.{notZero}
 use Rattle.writer.specs.WritesAgain.{flags}
 

@@ -4,6 +4,7 @@ use Prim.Native.Nat.{ℕ, suc, _+_, _-_, _*_, _/_, _≤_}
 use native.Mathlib.Omega.{arith}
 use mathlib.Core.Bool.{true}
 use mathlib.Core.List.{List, [], _∷_}
+use lib.Ieee.{Float}
 use lib.ListN.{length}
 use borrow.Author.Tests.{eqb-true, eq-eqb, le-leb}
 use Rattle.rules.specs.declared.Refusal.the-variants.{NoSuchMesh}
@@ -17,6 +18,7 @@ use Rattle.rules.specs.Layout.{Run, figure}
 use Rattle.rules.specs.Rules.{Parent, file, inPlace, childrenInPlus, ownDataExact, numbersFinite, faceNumbersBelow, cornersBelow, mappingMatches, notTwice, noneMissing, allBelow, Lawful, Obeys}
 use Rattle.rules.specs.Gives.{owned, Mesh}
 use Rattle.rules.specs.Walk.{accepted, verdict}
+use Rattle.rules.specs.Encodings.{flatRecords, floatRow, cornerRow}
 use Rattle.rules.specs.Calls.{leaving, filled, listOf, listCall, ofMesh, Rows, tablesOf, tablesCall, nameOf, nameCall}
 use Rattle.rules.proofs.Bools.{both, and-parts}
 use Rattle.writer.specs.Bare.{sixChunks}
@@ -94,12 +96,12 @@ module _ (s name vertices faces : List ℕ) (e : verdict s ≡ accepted (sixChun
   unfolding nameCall
   no-other k = ap (ofMesh Named.Refused nameOf (suc k)) e
 
-  pub tables-call : (rows : Rows) → tablesCall s 0 rows ≡ tablesOf rows (mesh name vertices faces)
+  pub tables-call : (rows : Rows Float ℕ) → tablesCall floatRow cornerRow s 0 rows ≡ tablesOf floatRow cornerRow rows (mesh name vertices faces)
   unfolding tablesCall
-  tables-call rows = ap (ofMesh (λ r. leaving (Tabled.Refused r) rows) (tablesOf rows) 0) e
+  tables-call rows = ap (ofMesh (λ r. leaving (Tabled.Refused r) rows) (tablesOf floatRow cornerRow rows) 0) e
 
   pub list-call : (k n f : ℕ) → length name ≡ 1 + k → length vertices ≡ 2 + 12 * n → length faces ≡ 2 + 8 * f → (row : List ℕ) → 36 ≤ length row →
-      listCall s row ≡
+      listCall flatRecords s row ≡
       leaving (Checked.Accepted record { records = 6; headers = 36; own = 5 + k + 12 * n + 8 * f; skipped = 0 }) (filled (sixRecords k n f) row)
   unfolding listCall
   list-call k n f a b c row room =
@@ -113,4 +115,4 @@ module _ (s name vertices faces : List ℕ) (e : verdict s ≡ accepted (sixChun
       let o₄ : 12 + (6 + length name) ≡ 19 + k = omega arith in
       let n₅ : 6 + length vertices + 0 ≡ 8 + 12 * n = omega arith in
       let n₆ : 6 + length faces + 0 ≡ 8 + 8 * f = omega arith in
-      ap (listOf row) e ∙ rw (le-leb 6 (length row / 6) (omega arith), own, n₁, n₂, n₃, n₄, o₆, o₅, o₄, n₅, n₆, a, b, c)
+      ap (listOf flatRecords row) e ∙ rw (le-leb 6 (length row / 6) (omega arith), own, n₁, n₂, n₃, n₄, o₆, o₅, o₄, n₅, n₆, a, b, c)

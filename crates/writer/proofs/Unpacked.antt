@@ -8,12 +8,12 @@ use lib.Dec.{eqb, ltb}
 use lib.ListN.{length}
 use lib.Seq.{take-at, drop-at}
 use borrow.Author.Tests.{ltb-true}
-use Rattle.rules.specs.Bytes.{le, numbers, every}
+use Rattle.rules.specs.Bytes.{le, numbers, every, packed}
 use Rattle.rules.specs.OwnData.{nameSize, corners}
 use Rattle.rules.specs.Rules.{allBelow}
 use Rattle.rules.proofs.Bools.{and-parts}
 use Rattle.rules.proofs.Bytes.{length-le, value-le}
-use Rattle.writer.specs.Bare.{packed, nameData, faceWords}
+use Rattle.writer.specs.Bare.{nameData, faceWords}
 use Rattle.writer.specs.Write.{notZero}
 
 below-parts : (n x : ℕ) (xs : List ℕ) → allBelow n (x ∷ xs) ≡ true → (x < n) × (allBelow n xs ≡ true)

@@ -22,6 +22,7 @@ use Rattle.rules.specs.Rules.{limit}
 use Rattle.rules.specs.Walk.{accepted, verdict}
 use Rattle.rules.specs.Box.{float}
 use Rattle.rules.specs.Gives.{Mesh}
+use Rattle.rules.specs.Encodings.{floatRow, cornerRow}
 use Rattle.rules.specs.Calls.{Effect, leaving, filled, Rows, tablesOf, tablesCall, nameCall}
 use Rattle.rules.proofs.Bools.{both}
 use Rattle.rules.proofs.Bytes.{bytes-drop, word-small}
@@ -87,13 +88,13 @@ own-bytes name vertices faces b =
 
 -- ---- what the reader's calls fill
 
-module _ (rows : Rows) (m : Mesh) where
-  abbrev done : Effect Tabled Rows
+module _ (rows : Rows Float ℕ) (m : Mesh) where
+  abbrev done : Effect Tabled (Rows Float ℕ)
   done =
       leaving (Tabled.Filled record { vertices = m .vertexCount; faces = m .faceCount })
       record { vertices = filled (map float (m .vertices)) (rows .vertices); corners = filled (m .corners) (rows .corners) }
 
-  filled-rows : (sizes : Sizes) → tablesOf rows m .answer ≡ Tabled.Filled sizes → tablesOf rows m ≡ done
+  filled-rows : (sizes : Sizes) → tablesOf floatRow cornerRow rows m .answer ≡ Tabled.Filled sizes → tablesOf floatRow cornerRow rows m ≡ done
   filled-rows sizes e = go (leb (length (m .vertices)) (length (rows .vertices))) (leb (length (m .corners)) (length (rows .corners))) e
     where
       go : (v c : Bool) →
@@ -115,12 +116,12 @@ module _ (s name vertices faces : List ℕ) (e : verdict s ≡ accepted (sixChun
       let q : span ≡ record { offset = 18; size = length name - 1 } = cc (name-call s name vertices faces e) in
       rw q (ap (λ (l : List ℕ). take (length name - 1) (drop 18 l)) (sym is) ∙ ap (take (length name - 1)) (name-place name vertices faces) ∙ front-name name short (behind name vertices faces) n)
 
-  read-tables : (rows : Rows) (sizes : Sizes) → tablesCall s 0 rows .answer ≡ Tabled.Filled sizes →
-      (take (3 * sizes .vertices) (tablesCall s 0 rows .rows .vertices) ≡ floats vertices) × (take (3 * sizes .faces) (tablesCall s 0 rows .rows .corners) ≡ faceCorners faces)
+  read-tables : (rows : Rows Float ℕ) (sizes : Sizes) → tablesCall floatRow cornerRow s 0 rows .answer ≡ Tabled.Filled sizes →
+      (take (3 * sizes .vertices) (tablesCall floatRow cornerRow s 0 rows .rows .vertices) ≡ floats vertices) × (take (3 * sizes .faces) (tablesCall floatRow cornerRow s 0 rows .rows .corners) ≡ faceCorners faces)
   read-tables rows sizes f =
       let m = mesh name vertices faces in
       let t = tables-call s name vertices faces e rows in
-      let d : tablesCall s 0 rows ≡ done rows m = t ∙ filled-rows rows m sizes (ap (λ (w : Effect Tabled Rows). w .answer) (sym t) ∙ f) in
+      let d : tablesCall floatRow cornerRow s 0 rows ≡ done rows m = t ∙ filled-rows rows m sizes (ap (λ (w : Effect Tabled (Rows Float ℕ)). w .answer) (sym t) ∙ f) in
       let q : sizes ≡ record { vertices = count vertices; faces = count faces } = cc in (
         rw (d, q) (take-at (floats vertices) _ (3 * count vertices) (length-floats vertices)),
         rw (d, q) (take-at (faceCorners faces) _ (3 * count faces) (length-corners (count faces) (drop 2 faces))),

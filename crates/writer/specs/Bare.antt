@@ -4,7 +4,7 @@ use Prim.Native.Nat.{ℕ, zero, suc, _/_}
 use mathlib.Core.List.{List, [], _∷_, _++_, map}
 use lib.ListN.{length, take, drop}
 use lib.Ieee.{Float, binary32, toBits}
-use Rattle.rules.specs.Bytes.{le}
+use Rattle.rules.specs.Bytes.{le, packed}
 use Rattle.rules.specs.Layout.{Run, end, known}
 
 -- how many vertices, or faces, a row has: three numbers to each
@@ -12,11 +12,6 @@ abbrev pub triples : {A : Type 0} → List A → ℕ
 triples row = length row / 3
 
 -- ---- own data
-
--- numbers one after another, w bytes each
-abbrev pub packed : ℕ → List ℕ → List ℕ
-packed w [] = []
-packed w (n ∷ ns) = le w n ++ packed w ns
 
 -- 4000: the name, and its zero
 abbrev pub nameData : List ℕ → List ℕ

@@ -13,6 +13,7 @@ use Rattle.rules.specs.Bytes.{every}
 use Rattle.rules.specs.Layout.{figure, bytes}
 use Rattle.rules.specs.Rules.{Meets}
 use Rattle.rules.specs.Walk.{accepted, verdict}
+use Rattle.rules.specs.Encodings.{flatRecords, floatRow, cornerRow}
 use Rattle.rules.specs.Calls.{leaving, filled, listCall, Rows, tablesCall, nameCall}
 use Rattle.writer.specs.declared.Written.the-variants.{Size}
 use Rattle.writer.specs.Bare.{triples, bare}
@@ -40,7 +41,7 @@ pub record ReadsBack (name : List ℕ) (vertices : List Float) (corners s : List
   pub is-accepted : verdict s ≡ accepted (bare name vertices corners)
   -- its list is the six records, and nothing is skipped
   pub list : (row : List ℕ) → 36 ≤ length row →
-      listCall s row ≡
+      listCall flatRecords s row ≡
       leaving (Checked.Accepted record { records = 6; headers = 36; own = 5 + length name + 12 * triples vertices + 8 * triples corners; skipped = 0 })
       (filled (sixRecords (length name) (triples vertices) (triples corners)) row)
   -- it has one mesh, number 0
@@ -49,8 +50,8 @@ pub record ReadsBack (name : List ℕ) (vertices : List Float) (corners s : List
   pub name-at : nameCall s 0 ≡ Named.At record { offset = 18; size = length name }
   pub name-is : take (length name) (drop 18 s) ≡ name
   -- the mesh's tables, bit for bit
-  pub tables : (rows : Rows) → length vertices ≤ length (rows .vertices) → length corners ≤ length (rows .corners) →
-      tablesCall s 0 rows ≡
+  pub tables : (rows : Rows Float ℕ) → length vertices ≤ length (rows .vertices) → length corners ≤ length (rows .corners) →
+      tablesCall floatRow cornerRow s 0 rows ≡
       leaving (Tabled.Filled record { vertices = triples vertices; faces = triples corners })
       record { vertices = filled vertices (rows .vertices); corners = filled corners (rows .corners) }
 

@@ -16,6 +16,7 @@ use Rattle.rules.specs.OwnData.{count}
 use Rattle.rules.specs.Layout.{Run, figure}
 use Rattle.rules.specs.Walk.{accepted, verdict}
 use Rattle.rules.specs.Gives.{Record, list, skipped}
+use Rattle.rules.specs.Encodings.{floatRow, cornerRow}
 use Rattle.rules.specs.Calls.{leaving, filled, Rows, tablesCall, nameCall}
 use Rattle.writer.specs.declared.Written.the-variants.{Size}
 use Rattle.writer.specs.Bare.{sixChunks}
@@ -42,11 +43,11 @@ pub record WereRead (s name : List ℕ) (vertices : List Float) (corners : List 
   pub span : Span
   pub name-at : nameCall s 0 ≡ Named.At span
   pub name-is : name ≡ take (span .size) (drop (span .offset) s)
-  pub rows : Rows
+  pub rows : Rows Float ℕ
   pub sizes : Sizes
-  pub rows-filled : tablesCall s 0 rows .answer ≡ Tabled.Filled sizes
-  pub vertices-are : vertices ≡ take (3 * sizes .vertices) (tablesCall s 0 rows .rows .vertices)
-  pub corners-are : corners ≡ take (3 * sizes .faces) (tablesCall s 0 rows .rows .corners)
+  pub rows-filled : tablesCall floatRow cornerRow s 0 rows .answer ≡ Tabled.Filled sizes
+  pub vertices-are : vertices ≡ take (3 * sizes .vertices) (tablesCall floatRow cornerRow s 0 rows .rows .vertices)
+  pub corners-are : corners ≡ take (3 * sizes .faces) (tablesCall floatRow cornerRow s 0 rows .rows .corners)
 
 -- WRITING AGAIN gives the same file, where there is room for it
 abbrev pub WritesAgain : Type 0

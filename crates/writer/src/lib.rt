@@ -1,4 +1,6 @@
 // The writer of a bare figure. All is judged before the first byte is written.
+use little_endian::put_long;
+use little_endian::put_word;
 use rules::Refusal;
 ghost use mathlib.Core.Path.{_≡_};
 ghost use mathlib.Core.Bool.{true};
@@ -7,10 +9,10 @@ ghost use Prim.Native.Nat.{_+_, _*_, _%_, _<_, _≤_};
 ghost use lib.Dec.{ltb};
 ghost use lib.Ieee.{binary32, toBits};
 ghost use lib.ListN.{length};
-ghost use Rattle.rules.specs.Bytes.{le, every};
+ghost use Rattle.rules.specs.Bytes.{every, packed};
 ghost use Rattle.rules.specs.Layout.{end, known, figure, header, bytes};
-ghost use Rattle.writer.specs.Bare.{triples, packed, faceWords, nameData, vertexData, faceData, bare};
-ghost use Rattle.writer.specs.Put.{Put};
+ghost use Rattle.writer.specs.Bare.{triples, faceWords, nameData, vertexData, faceData, bare};
+ghost use Rattle.little_endian.specs.Put.{Put};
 ghost use Rattle.writer.specs.Write.{firstFault, notZero, wholeRow, finiteFloat, judged, writeCall};
 
 // The size of what was written, or a refusal.
@@ -119,25 +121,6 @@ fn judge(name: &[u8], vertices: &[f32], corners: &[u16], room: usize) -> Written
 // ---- the writing
 
 // Each function puts bytes at a position of out, and answers the position behind them.
-
-// A 2-byte number.
-fn put_word(v: u16, at: usize, out: &mut [u8]) -> usize
-    requires { ⌜ at + 2 ≤ length (now out) ⌝ }
-    ensures { λ r. ⌜ Put (now (out .entry)) at (le 2 v) (now (out .exit)) r ⌝ }
-{
-    out[at] = (v % 256) as u8;
-    out[at + 1] = (v / 256) as u8;
-    at + 2
-}
-
-// A 4-byte number.
-fn put_long(v: u32, at: usize, out: &mut [u8]) -> usize
-    requires { ⌜ at + 4 ≤ length (now out) ⌝ }
-    ensures { λ r. ⌜ Put (now (out .entry)) at (le 4 v) (now (out .exit)) r ⌝ }
-{
-    let high = put_word((v % 65536) as u16, at, out);
-    put_word((v / 65536) as u16, high, out)
-}
 
 // The header of a chunk.
 fn put_header(id: u16, len: usize, at: usize, out: &mut [u8]) -> usize

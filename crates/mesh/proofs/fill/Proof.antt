@@ -1,5 +1,6 @@
 -- Too little room for the vertices, or for the corners, or both rows filled.
 use native.Mathlib.Omega.{arith}
+use Rattle.rules.specs.Encodings.{floatRow, cornerRow}
 use Rattle.mesh.proofs.Filled.{gives, no-room-vertices, no-room-corners, both-filled}
 use borrow.Author.Needs.{needs}
 use Rattle.mesh.proofs.fill.Statement.{statement}
@@ -15,8 +16,8 @@ returns : tie.Need-returns
 returns c =
     let x = c .before .before .before .before .args in
     let s = x .file .now in (
-      λ m p. gives (no-room-vertices s m (x .place) p (x .vertices .now) (x .corners .now) (c .if1 .taken)) .0,
-      λ m p. gives (no-room-vertices s m (x .place) p (x .vertices .now) (x .corners .now) (c .if1 .taken)) .1,
+      λ m p. gives (no-room-vertices floatRow cornerRow s m (x .place) p (x .vertices .now) (x .corners .now) (c .if1 .taken)) .0,
+      λ m p. gives (no-room-vertices floatRow cornerRow s m (x .place) p (x .vertices .now) (x .corners .now) (c .if1 .taken)) .1,
     )
 
 mul-if2 : tie.Need-mul-if2
@@ -29,8 +30,8 @@ returns-2 : tie.Need-returns-2
 returns-2 c =
     let x = c .before .before .before .before .before .args in
     let s = x .file .now in (
-      λ m p. gives (no-room-corners s m (x .place) p (x .vertices .now) (x .corners .now) (c .before .if1 .left) (c .if2 .taken)) .0,
-      λ m p. gives (no-room-corners s m (x .place) p (x .vertices .now) (x .corners .now) (c .before .if1 .left) (c .if2 .taken)) .1,
+      λ m p. gives (no-room-corners floatRow cornerRow s m (x .place) p (x .vertices .now) (x .corners .now) (c .before .if1 .left) (c .if2 .taken)) .0,
+      λ m p. gives (no-room-corners floatRow cornerRow s m (x .place) p (x .vertices .now) (x .corners .now) (c .before .if1 .left) (c .if2 .taken)) .1,
     )
 
 mul-fill-floats : tie.Need-mul-fill-floats
@@ -55,8 +56,8 @@ returns-3 : tie.Need-returns-3
 returns-3 c =
     let x = c .before .before .before .before .before .before .before .before .before .before .before .before .before .args in
     let s = x .file .now in (
-      λ m p. gives (both-filled s m (x .place) p (x .vertices .now) (x .corners .now) (c .before .before .before .before .before .before .before .before .before .if1 .left) (c .before .before .before .before .before .before .before .before .if2 .left) _ (c .before .before .before .before .before .before .fill-floats .ensures) _ (c .before .before .fill-corners .ensures)) .0,
-      λ m p. gives (both-filled s m (x .place) p (x .vertices .now) (x .corners .now) (c .before .before .before .before .before .before .before .before .before .if1 .left) (c .before .before .before .before .before .before .before .before .if2 .left) _ (c .before .before .before .before .before .before .fill-floats .ensures) _ (c .before .before .fill-corners .ensures)) .1,
+      λ m p. gives (both-filled floatRow cornerRow s m (x .place) p (x .vertices .now) (x .corners .now) (c .before .before .before .before .before .before .before .before .before .if1 .left) (c .before .before .before .before .before .before .before .before .if2 .left) _ (c .before .before .before .before .before .before .fill-floats .ensures) _ (c .before .before .fill-corners .ensures)) .0,
+      λ m p. gives (both-filled floatRow cornerRow s m (x .place) p (x .vertices .now) (x .corners .now) (c .before .before .before .before .before .before .before .before .before .if1 .left) (c .before .before .before .before .before .before .before .before .if2 .left) _ (c .before .before .before .before .before .before .fill-floats .ensures) _ (c .before .before .fill-corners .ensures)) .1,
     )
 
 pub fill-spec : {M : Type 1} → statement M

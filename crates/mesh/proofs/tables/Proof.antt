@@ -1,5 +1,8 @@
 -- A refusal, or the mesh's tables.
 use mathlib.Core.Path.{sym, ap, _∙_}
+use Prim.Native.Nat.{ℕ}
+use lib.Ieee.{Float}
+use Rattle.rules.specs.Encodings.{floatRow, cornerRow}
 use Rattle.rules.specs.Calls.{Effect, Rows}
 use Rattle.rules.specs.declared.Tabled.{Tabled}
 use Rattle.mesh.specs.Choices.{rows}
@@ -28,7 +31,7 @@ returns : tie.Need-returns
 returns c =
     let x = c .before .before .before .before .before .before .before .args in
     let q = asked-no (c .before .before .before .ask .ensures) (c .before .r .given .1) in
-    gives (tables-refused (x .file .now) (x .mesh) q (rows (x .vertices .now) (x .corners .now)))
+    gives (tables-refused floatRow cornerRow (x .file .now) (x .mesh) (rows (x .vertices .now) (x .corners .now)) q)
 
 same-length : tie.Need-same-length
 same-length c = search needs
@@ -40,9 +43,9 @@ returns-2 : tie.Need-returns-2
 returns-2 c =
     let x = c .before .before .before .before .before .before .before .before .before .before .before .before .before .before .args in
     let q = asked-yes (c .before .before .before .before .before .before .before .before .before .before .ask .ensures) (c .before .before .before .before .before .before .before .before .place .given .1) in
-    let e = tables-go-on (x .file .now) (x .mesh) (q .is) (rows (x .vertices .now) (x .corners .now)) in (
-      c .before .before .before .before .fill .ensures .0 (q .mesh-is) (q .placed) ∙ ap (λ (y : Effect Tabled Rows). y .answer) (sym e),
-      c .before .before .before .before .fill .ensures .1 (q .mesh-is) (q .placed) ∙ ap (λ (y : Effect Tabled Rows). y .rows) (sym e),
+    let e = tables-go-on floatRow cornerRow (x .file .now) (x .mesh) (rows (x .vertices .now) (x .corners .now)) (q .is) in (
+      c .before .before .before .before .fill .ensures .0 (q .mesh-is) (q .placed) ∙ ap (λ (y : Effect Tabled (Rows Float ℕ)). y .answer) (sym e),
+      c .before .before .before .before .fill .ensures .1 (q .mesh-is) (q .placed) ∙ ap (λ (y : Effect Tabled (Rows Float ℕ)). y .rows) (sym e),
     )
 
 pub tables-spec : {M : Type 1} → statement M

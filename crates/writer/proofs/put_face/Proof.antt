@@ -1,6 +1,6 @@
 -- `writer::put_face` meets its contract: four words, one behind the other.
 use native.Mathlib.Omega.{arith}
-use Rattle.writer.proofs.Put.{put-then}
+use Rattle.little_endian.proofs.Put.{put-then}
 use borrow.Author.Needs.{needs}
 use Rattle.writer.proofs.put_face.Statement.{statement}
 use Rattle.writer.proofs.put_face.Tie as tie

@@ -3,7 +3,7 @@ use Prim.Native.Nat.{_+_, _*_}
 use native.Mathlib.Omega.{arith}
 use Rattle.writer.specs.Bare.{triples, faceData}
 use Rattle.writer.proofs.Bare.{leaf-bytes, length-face-data}
-use Rattle.writer.proofs.Put.{put-then}
+use Rattle.little_endian.proofs.Put.{put-then}
 use borrow.Author.Needs.{needs}
 use Rattle.writer.proofs.put_face_list.Statement.{statement}
 use Rattle.writer.proofs.put_face_list.Tie as tie

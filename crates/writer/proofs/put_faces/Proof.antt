@@ -3,9 +3,10 @@ use mathlib.Core.Path.{_≡_, refl}
 use Prim.Native.Nat.{_+_, _*_, _-_, _≤_}
 use native.Mathlib.Omega.{arith}
 use lib.ListN.{length}
-use Rattle.writer.specs.Bare.{triples, packed, faceWords}
-use Rattle.writer.specs.Put.{Put}
-use Rattle.writer.proofs.Put.{put-none, put-then}
+use Rattle.rules.specs.Bytes.{packed}
+use Rattle.writer.specs.Bare.{triples, faceWords}
+use Rattle.little_endian.specs.Put.{Put}
+use Rattle.little_endian.proofs.Put.{put-none, put-then}
 use Rattle.writer.proofs.Packed.{face-more}
 use Rattle.writer.proofs.put_faces.Statement.{statement}
 use Rattle.writer.proofs.put_faces.Tie as tie

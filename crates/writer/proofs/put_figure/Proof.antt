@@ -5,10 +5,10 @@ use native.Mathlib.Omega.{arith}
 use mathlib.Core.List.{List, [], _∷_}
 use lib.ListN.{length, length-append}
 use Rattle.writer.specs.Bare.{nameData, vertexData, faceData}
-use Rattle.writer.specs.Put.{Put}
+use Rattle.little_endian.specs.Put.{Put}
 use Rattle.writer.proofs.Bare.{length-leaf, length-vertex-data, length-face-data, six-bytes}
 use Rattle.writer.proofs.Judged.{Ready, ready}
-use Rattle.writer.proofs.Put.{put-then}
+use Rattle.little_endian.proofs.Put.{put-then}
 use borrow.Author.Needs.{needs}
 use Rattle.writer.proofs.put_figure.Statement.{statement}
 use Rattle.writer.proofs.put_figure.Tie as tie

@@ -1,6 +1,6 @@
 -- `writer::put_header` meets its contract: the identifier, then the length.
 use native.Mathlib.Omega.{arith}
-use Rattle.writer.proofs.Put.{put-then}
+use Rattle.little_endian.proofs.Put.{put-then}
 use borrow.Author.Needs.{needs}
 use Rattle.writer.proofs.put_header.Statement.{statement}
 use Rattle.writer.proofs.put_header.Tie as tie

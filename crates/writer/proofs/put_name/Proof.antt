@@ -5,8 +5,8 @@ use native.Mathlib.Numerals.{add-one}
 use native.Mathlib.Omega.{arith}
 use lib.ListN.{length, take, getD, length-set}
 use lib.Seq.{take-all, take-suc}
-use Rattle.writer.specs.Put.{Put}
-use Rattle.writer.proofs.Put.{put-none, put-byte, put-then}
+use Rattle.little_endian.specs.Put.{Put}
+use Rattle.little_endian.proofs.Put.{put-none, put-byte, put-then}
 use Rattle.writer.proofs.put_name.Statement.{statement}
 use Rattle.writer.proofs.put_name.Tie as tie
 

@@ -3,7 +3,7 @@ use Prim.Native.Nat.{_+_, _*_}
 use native.Mathlib.Omega.{arith}
 use Rattle.writer.specs.Bare.{triples, vertexData}
 use Rattle.writer.proofs.Bare.{leaf-bytes, length-vertex-data}
-use Rattle.writer.proofs.Put.{put-then}
+use Rattle.little_endian.proofs.Put.{put-then}
 use borrow.Author.Needs.{needs}
 use Rattle.writer.proofs.put_vertex_list.Statement.{statement}
 use Rattle.writer.proofs.put_vertex_list.Tie as tie

@@ -9,7 +9,7 @@ use Rattle.writer.specs.declared.Written.{Written}
 use Rattle.writer.specs.declared.Written.the-variants.{Size}
 use Rattle.writer.proofs.Bare.{length-bare}
 use Rattle.writer.proofs.Judged.{ready, called}
-use Rattle.writer.proofs.Put.{put-front}
+use Rattle.little_endian.proofs.Put.{put-front}
 use borrow.Author.Needs.{needs}
 use Rattle.writer.proofs.write.Statement.{statement}
 use Rattle.writer.proofs.write.Tie as tie

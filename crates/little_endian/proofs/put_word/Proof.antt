@@ -1,12 +1,12 @@
--- `writer::put_word` meets its contract: two bytes, one behind the other.
+-- `little_endian::put_word` meets its contract: two bytes, one behind the other.
 use mathlib.Core.Path.{_≡_}
 use Prim.Native.Nat.{_+_, _/_, _%_}
 use native.Mathlib.Omega.{arith}
 use lib.ListN.{set, length-set}
-use Rattle.writer.proofs.Put.{put-byte, put-then}
+use Rattle.little_endian.proofs.Put.{put-byte, put-then}
 use borrow.Author.Needs.{needs}
-use Rattle.writer.proofs.put_word.Statement.{statement}
-use Rattle.writer.proofs.put_word.Tie as tie
+use Rattle.little_endian.proofs.put_word.Statement.{statement}
+use Rattle.little_endian.proofs.put_word.Tie as tie
 
 cast-out : tie.Need-cast-out
 cast-out c = search needs

@@ -9,7 +9,7 @@ use mathlib.Core.List.{List, [], _∷_, _++_, append-assoc}
 use lib.ListN.{length, take, drop, set, length-append, take-append-drop}
 use lib.Seq.{set-split, length-take-le, take-at, drop-append-add, drop-drop}
 use Rattle.rules.specs.Calls.{filled}
-use Rattle.writer.specs.Put.{Put}
+use Rattle.little_endian.specs.Put.{Put}
 
 pub put-none : (o : List ℕ) (at : ℕ) → Put o at [] o at
 put-none o at =

@@ -1,13 +1,13 @@
--- `writer::put_long` meets its contract: two words, of which the lower comes first.
+-- `little_endian::put_long` meets its contract: two words, of which the lower comes first.
 use mathlib.Core.Path.{_≡_}
 use mathlib.Core.List.{_++_}
 use Prim.Native.Nat.{ℕ, _/_, _%_}
 use native.Mathlib.Omega.{arith}
 use Rattle.rules.specs.Bytes.{le}
-use Rattle.writer.proofs.Put.{put-then}
+use Rattle.little_endian.proofs.Put.{put-then}
 use borrow.Author.Needs.{needs}
-use Rattle.writer.proofs.put_long.Statement.{statement}
-use Rattle.writer.proofs.put_long.Tie as tie
+use Rattle.little_endian.proofs.put_long.Statement.{statement}
+use Rattle.little_endian.proofs.put_long.Tie as tie
 
 halves : (v : ℕ) → le 2 (v % 65536) ++ le 2 (v / 65536) ≡ le 4 v
 halves v =
