@@ -4,5 +4,6 @@ pub mod Strict
 pub mod First
 pub mod Numbers
 pub mod Fill
+pub mod Copied
 pub mod Box
 pub mod Theorems

@@ -1,5 +1,7 @@
-// The lists of a mesh: vertices and corners copied into lent rows, the box around the vertices, and its centre.
+// The lists of a mesh: vertices and corners into lent rows, as numbers or as bytes; the box around the vertices, and its centre.
 use little_endian::long_at;
+use little_endian::put_long;
+use little_endian::put_word;
 use little_endian::word_at;
 use rules::BoundingBox;
 use rules::Corner;
@@ -7,8 +9,8 @@ ghost use mathlib.Core.Path.{_≡_};
 ghost use mathlib.Core.Bool.{true};
 ghost use mathlib.Core.List.{map};
 ghost use Prim.Native.Nat.{_+_, _*_, _≤_, _<_};
-ghost use lib.ListN.{length, drop};
-ghost use Rattle.rules.specs.Bytes.{numbers, every};
+ghost use lib.ListN.{length, take, drop};
+ghost use Rattle.rules.specs.Bytes.{numbers, packed, every};
 ghost use Rattle.rules.specs.OwnData.{corners, finite};
 ghost use Rattle.rules.specs.Box.{float, lesser, greater, boxOf, middle, centreOf};
 ghost use Rattle.rules.specs.Calls.{filled};
@@ -46,6 +48,42 @@ pub fn fill_corners(s: &[u8], at: usize, n: usize, row: &mut [u16])
         row[3 * i] = word_at(s, face) as u16;
         row[3 * i + 1] = word_at(s, face + 2) as u16;
         row[3 * i + 2] = word_at(s, face + 4) as u16;
+        i += 1;
+    }
+}
+
+// The n bytes at a position, into the front of a row.
+fn copy(s: &[u8], at: usize, n: usize, row: &mut [u8])
+    requires { ⌜ (at + n ≤ length (now s)) × (n ≤ length (now row)) ⌝ }
+    ensures { λ _. ⌜ now (row .exit) ≡ filled (take n (drop at (now (s .entry)))) (now (row .entry)) ⌝ }
+{
+    let mut i = 0usize;
+    while i < n {
+        row[i] = s[at + i];
+        i += 1;
+    }
+}
+
+// The bytes of the n floats at a position, into the front of a row.
+pub fn fill_float_bytes(s: &[u8], at: usize, n: usize, row: &mut [u8])
+    requires { ⌜ (at + 4 * n ≤ length (now s)) × (4 * n ≤ length (now row)) ⌝ }
+    ensures { λ _. ⌜ now (row .exit) ≡ filled (packed 4 (numbers 4 n (drop at (now (s .entry))))) (now (row .entry)) ⌝ }
+{
+    copy(s, at, 4 * n, row);
+}
+
+// The bytes of the corners of the n faces at a position, into the front of a row: six of the eight of each face. The first
+// two corners go as one number, which is quicker than byte by byte.
+pub fn fill_corner_bytes(s: &[u8], at: usize, n: usize, row: &mut [u8])
+    requires { ⌜ (at + 8 * n ≤ length (now s)) × (6 * n ≤ length (now row)) ⌝ }
+    ensures { λ _. ⌜ now (row .exit) ≡ filled (packed 2 (corners n (drop at (now (s .entry))))) (now (row .entry)) ⌝ }
+{
+    let mut next = 0usize;
+    let mut i = 0usize;
+    while i < n {
+        let first = at + 8 * i;
+        let third = put_long(long_at(s, first), next, row);
+        next = put_word(word_at(s, first + 4) as u16, third, row);
         i += 1;
     }
 }
