@@ -10,11 +10,9 @@ use rules::Sizes;
 use rules::Span;
 use rules::Tabled;
 ghost use mathlib.Core.Path.{_≡_};
-ghost use Rattle.rules.specs.Gives.{Mesh};
 ghost use Rattle.rules.specs.Encodings.{floatRow, cornerRow};
-ghost use Rattle.rules.specs.Calls.{tablesOf, tablesCall, nameCall, boxCall};
-ghost use Rattle.find.specs.Places.{PlaceIs};
-ghost use Rattle.mesh.specs.Choices.{AskedIs, SomeMesh, rows};
+ghost use Rattle.rules.specs.Calls.{tablesCall, nameCall, boxCall};
+ghost use Rattle.mesh.specs.Choices.{yes, fitting, AskedIs, rows};
 
 // Where the mesh asked for stands; or the refusal of the file, or of the number.
 pub enum Asked {
@@ -23,7 +21,7 @@ pub enum Asked {
 }
 
 fn ask(file: &[u8], mesh: u32) -> Asked
-    ensures { λ r. ⌜ AskedIs (now (file .entry)) mesh r ⌝ }
+    ensures { λ r. ⌜ AskedIs (now (file .entry)) yes mesh r ⌝ }
 {
     match reader::check(file) {
         Checked::Refused(r) => Asked::Refused(r),
@@ -34,26 +32,25 @@ fn ask(file: &[u8], mesh: u32) -> Asked
     }
 }
 
-// The tables of the mesh at a place, into rows that may be too small.
-fn fill(file: &[u8], place: Place, vertices: &mut [f32], corners: &mut [u16]) -> Tabled
-    requires { ⌜ SomeMesh (now file) place ⌝ }
-    ensures answer { λ r. ⌜ ((m : Mesh) → PlaceIs (now (file .entry)) m place → r ≡ tablesOf floatRow cornerRow (rows (now (vertices .entry)) (now (corners .entry))) m .answer) ⌝ }
-    ensures filled { λ r. ⌜ ((m : Mesh) → PlaceIs (now (file .entry)) m place → rows (now (vertices .exit)) (now (corners .exit)) ≡ tablesOf floatRow cornerRow (rows (now (vertices .entry)) (now (corners .entry))) m .rows) ⌝ }
+// The same, of a mesh for whose tables there is room for so many numbers each. If both have too little, the vertices are
+// spoken of.
+fn ask_with_room(file: &[u8], mesh: u32, vertices: usize, corners: usize) -> Asked
+    ensures { λ r. ⌜ AskedIs (now (file .entry)) (fitting vertices corners) mesh r ⌝ }
 {
-    let n = place.vertices.count;
-    let f = place.faces.count;
-    if vertices.len() < 3 * n {
-        return Tabled::Refused(Refusal::NoRoom(3 * n));
+    match ask(file, mesh) {
+        Asked::Refused(r) => Asked::Refused(r),
+        Asked::Mesh(place) => {
+            let numbers = 3 * place.vertices.count;
+            if vertices < numbers {
+                return Asked::Refused(Refusal::NoRoom(numbers));
+            }
+            let words = 3 * place.faces.count;
+            if corners < words {
+                return Asked::Refused(Refusal::NoRoom(words));
+            }
+            Asked::Mesh(place)
+        }
     }
-    if corners.len() < 3 * f {
-        return Tabled::Refused(Refusal::NoRoom(3 * f));
-    }
-    lists::fill_floats(file, place.vertices.at, 3 * n, vertices);
-    lists::fill_corners(file, place.faces.at, f, corners);
-    Tabled::Filled(Sizes {
-        vertices: n,
-        faces: f,
-    })
 }
 
 // The vertices and corners of a mesh, into lent rows: three numbers a vertex, three corners a face. A refusal leaves both
@@ -62,9 +59,18 @@ pub fn tables(file: &[u8], mesh: u32, vertices: &mut [f32], corners: &mut [u16])
     ensures answer { λ r. ⌜ r ≡ tablesCall floatRow cornerRow (now (file .entry)) mesh (rows (now (vertices .entry)) (now (corners .entry))) .answer ⌝ }
     ensures filled { λ r. ⌜ rows (now (vertices .exit)) (now (corners .exit)) ≡ tablesCall floatRow cornerRow (now (file .entry)) mesh (rows (now (vertices .entry)) (now (corners .entry))) .rows ⌝ }
 {
-    match ask(file, mesh) {
+    match ask_with_room(file, mesh, vertices.len(), corners.len()) {
         Asked::Refused(r) => Tabled::Refused(r),
-        Asked::Mesh(place) => fill(file, place, vertices, corners),
+        Asked::Mesh(place) => {
+            let n = place.vertices.count;
+            let f = place.faces.count;
+            lists::fill_floats(file, place.vertices.at, 3 * n, vertices);
+            lists::fill_corners(file, place.faces.at, f, corners);
+            Tabled::Filled(Sizes {
+                vertices: n,
+                faces: f,
+            })
+        }
     }
 }
 
