@@ -3,8 +3,9 @@
 use Prim.Native.Nat.{ℕ, _/_}
 use mathlib.Core.List.{List, map}
 use lib.Ieee.{Float}
+use Rattle.rules.specs.declared.Record.{Record}
 use Rattle.rules.specs.Bytes.{packed}
-use Rattle.rules.specs.Gives.{Record, flat}
+use Rattle.rules.specs.Gives.{flat}
 use Rattle.rules.specs.Box.{float}
 
 -- things X in a row of A: how many a row of a length has room for, and what they are there
