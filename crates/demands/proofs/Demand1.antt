@@ -8,6 +8,7 @@ use mathlib.Core.Option.{Option, none, some}
 use Prim.Native.Nat.{ℕ}
 use lib.Dec.{eqb, leb}
 use lib.ListN.{length, getElem?}
+use Rattle.rules.specs.declared.Record.{Record}
 use Rattle.rules.specs.declared.Refusal.{Refusal}
 use Rattle.rules.specs.declared.Refusal.the-variants.{NoRoom, NoSuchMesh, Empty}
 use Rattle.rules.specs.declared.Checked.{Checked}
@@ -16,7 +17,7 @@ use Rattle.rules.specs.declared.Named.{Named}
 use Rattle.rules.specs.declared.Boxed.{Boxed}
 use Rattle.rules.specs.Layout.{figure}
 use Rattle.rules.specs.Walk.{Answer, refused, accepted, verdict}
-use Rattle.rules.specs.Gives.{Record, recordCount, Mesh, meshes}
+use Rattle.rules.specs.Gives.{recordCount, Mesh, meshes}
 use Rattle.rules.specs.Encodings.{Encoding}
 use Rattle.rules.specs.Calls.{leaving, countsOf, checkOf, checkCall, listOf, listCall, pickMesh, ofMesh, Rows, tablesOf, tablesCall, nameOf, nameCall, aroundOf, boxCall}
 use Rattle.rules.proofs.Demands.{numbered}

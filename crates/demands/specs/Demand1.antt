@@ -6,6 +6,7 @@ use mathlib.Core.Logic.{_⊎_}
 use mathlib.Core.List.{List}
 use Prim.Native.Nat.{ℕ}
 use lib.Ieee.{Float}
+use Rattle.rules.specs.declared.Record.{Record}
 use Rattle.rules.specs.declared.Refusal.{Refusal}
 use Rattle.rules.specs.declared.Checked.{Checked}
 use Rattle.rules.specs.declared.Tabled.{Tabled}
@@ -14,7 +15,6 @@ use Rattle.rules.specs.declared.Boxed.{Boxed}
 use Rattle.rules.specs.declared.Corner.{Corner}
 use Rattle.rules.specs.declared.BoundingBox.{BoundingBox}
 use Rattle.rules.specs.Refusals.{numberOf, Numbered}
-use Rattle.rules.specs.Gives.{Record}
 use Rattle.rules.specs.Encodings.{Encoding}
 use Rattle.rules.specs.Calls.{Effect, leaving, checkCall, listCall, Rows, tablesCall, nameCall, boxCall}
 use Rattle.writer.specs.declared.Written.{Written}

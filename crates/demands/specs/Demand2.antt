@@ -7,6 +7,7 @@ use mathlib.Core.List.{List}
 use mathlib.Core.Option.{some}
 use Prim.Native.Nat.{ℕ, _+_, _≤_, _<_}
 use lib.ListN.{length, getElem?}
+use Rattle.rules.specs.declared.Record.{Record}
 use Rattle.rules.specs.declared.Counts.{Counts}
 use Rattle.rules.specs.declared.Checked.{Checked}
 use Rattle.rules.specs.declared.Sizes.{Sizes}
@@ -16,7 +17,7 @@ use Rattle.rules.specs.declared.Boxed.{Boxed}
 use Rattle.rules.specs.Bytes.{Bytes}
 use Rattle.rules.specs.Layout.{Run, figure}
 use Rattle.rules.specs.Rules.{Meets}
-use Rattle.rules.specs.Gives.{Record, recordCount, list, Mesh, meshes}
+use Rattle.rules.specs.Gives.{recordCount, list, Mesh, meshes}
 use Rattle.rules.specs.Box.{boxOf, centreOf}
 use Rattle.rules.specs.Encodings.{Encoding}
 use Rattle.rules.specs.Calls.{leaving, filled, countsOf, checkCall, listCall, Rows, tablesCall, nameCall, boxCall}

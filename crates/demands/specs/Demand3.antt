@@ -7,6 +7,7 @@ use mathlib.Core.Path.{_≡_}
 use mathlib.Core.List.{List}
 use Prim.Native.Nat.{ℕ, _+_, _≤_, _<_}
 use lib.ListN.{length}
+use Rattle.rules.specs.declared.Record.{Record}
 use Rattle.rules.specs.declared.Refusal.the-variants.{NoRoom}
 use Rattle.rules.specs.declared.Counts.{Counts}
 use Rattle.rules.specs.declared.Checked.{Checked}
@@ -14,7 +15,6 @@ use Rattle.rules.specs.declared.Named.{Named}
 use Rattle.rules.specs.Bytes.{Bytes}
 use Rattle.rules.specs.Layout.{figure, bytes}
 use Rattle.rules.specs.Rules.{limit, Meets}
-use Rattle.rules.specs.Gives.{Record}
 use Rattle.rules.specs.Gaps.{Marked, without, with, InGaps, Piece, before, Moved, Pairwise}
 use Rattle.rules.specs.Demands.{putIn, allPut}
 use Rattle.rules.specs.Encodings.{Encoding}
