@@ -6,13 +6,14 @@ use Prim.Native.Nat.{ℕ, suc, _+_, _-_, _*_, _≤_}
 use native.Mathlib.Omega.{arith}
 use lib.Dec.{ltb}
 use lib.ListN.{length, drop}
-use lib.Seq.{slice, sets}
+use lib.Seq.{slice}
 use borrow.Author.Tests.{eqb-false, eqb-true, not-true}
+use Rattle.rules.specs.declared.Record.{Record}
 use Rattle.rules.specs.Table.{listed, plus, shape}
 use Rattle.rules.specs.OwnData.{ownSize}
 use Rattle.rules.specs.Layout.{Run, end, skip, known, size, bytes}
 use Rattle.rules.specs.Rules.{Parent, inside, Obeys, Lawful, noChild}
-use Rattle.rules.specs.Gives.{Record, recordCount, recordsOf, flat}
+use Rattle.rules.specs.Gives.{recordCount, recordsOf}
 use Rattle.rules.proofs.Bools.{and-parts, or-second}
 use Rattle.little_endian.specs.Numbers.{wordAt}
 use Rattle.little_endian.proofs.Slices.{drop-slice}
@@ -20,8 +21,8 @@ use Rattle.little_endian.proofs.Layouts.{skip-stands, known-stands, known-own, 
 use Rattle.table.specs.Packed.{rowOf}
 use Rattle.table.proofs.Facts.{row-of-listed, row-of-unlisted, plus-is, shape-is}
 use Rattle.own_data.specs.Own.{CountIs}
-use Rattle.lister.specs.Laid.{first, Laid, Bounds, Listed, Begins, sixOf}
-use Rattle.lister.proofs.Rows.{sets-flat}
+use Rattle.lister.specs.Laid.{Lent, written, first, Laid, Bounds, Listed, Begins}
+use Rattle.lister.proofs.Rows.{written-on}
 use Rattle.lister.proofs.Runs.{unlisted-small, lawful-listed, lawful-small, laid-size, listed-end}
 
 no-children : (t : Run) → noChild t ≡ true → bytes t ≡ []
@@ -53,7 +54,7 @@ pub record Entered (s : List ℕ) (at stop id own : ℕ) (t : Run) : Type 0 wher
 
 module _ {s : List ℕ} {at stop word depth parent next : ℕ} (order : at + 6 ≤ stop) (bounds : Bounds s at stop word depth parent next) {id row : ℕ} (id-is : id ≡ wordAt s at) (row-is : row ≡ rowOf id) where
   -- a chunk without a row
-  pub skipped-listed : (records : List ℕ) → row ≡ 0 → (p : Parent) (t : Run) → Laid s at stop p word (first t) → Listed records at depth parent next (first t) records next
+  pub skipped-listed : (records : Lent) → row ≡ 0 → (p : Parent) (t : Run) → Laid s at stop p word (first t) → Listed records at depth parent next (first t) records next
   skipped-listed records e p end l = absurd (omega (arith, laid-size (bounds .ends) l))
   skipped-listed records e p (skip id₁ body rest) l = record { counts = omega arith; fills = refl }
   skipped-listed records e p (known id₁ own kids rest) l =
@@ -100,18 +101,21 @@ module _ {s : List ℕ} {at stop id own : ℕ} {t : Run} (e : Entered s at stop 
   pub inner-laid : {word : ℕ} → CountIs (slice (at + 6) (at + 6 + own) s) word → Laid s (at + 6 + own) stop (e .around) word (e .kids)
   inner-laid {word} c = record { is = e .is; obeys = e .obeys; count-is = subst (λ (x : List ℕ). CountIs x word) (sym (e .own-is)) c }
 
-  module _ (records : List ℕ) (depth parent next : ℕ) {records₁ : List ℕ} (w : records₁ ≡ sets records (6 * next) (sixOf id at (stop - at) depth parent own)) where
+  abbrev its-record : ℕ → ℕ → Record
+  its-record depth parent = record { identifier = id; offset = at; len = stop - at; depth = depth; parent = parent; own = own }
+
+  module _ (l : Lent) (depth parent next : ℕ) {l₁ : Lent} (w : l₁ ≡ written l next (its-record depth parent ∷ [])) where
     -- its record, and then theirs
-    pub entered-listed : {records₂ : List ℕ} {r : ℕ} → Listed records₁ (at + 6 + own) (depth + 1) next (next + 1) (e .kids) records₂ r → Listed records at depth parent next t records₂ r
+    pub entered-listed : {l₂ : Lent} {r : ℕ} → Listed l₁ (at + 6 + own) (depth + 1) next (next + 1) (e .kids) l₂ r → Listed l at depth parent next t l₂ r
     entered-listed h =
-        let a : Record = record { identifier = id; offset = at; len = stop - at; depth = depth; parent = parent; own = own } in
+        let a = its-record depth parent in
         let b = recordsOf (at + 6 + own) (depth + 1) next (next + 1) (e .kids) in
         record {
           counts = omega (arith, h .counts, e .counts);
           fills =
-              h .fills ∙ ap (λ (x : List ℕ). sets x (6 * (next + 1)) (flat b)) w ∙ sets-flat records next (a ∷ []) b 1 refl ∙
-              ap (λ (rs : List Record). sets records (6 * next) (flat rs)) (sym (e .lists depth parent next));
+              h .fills ∙ ap (λ (x : Lent). written x (next + 1) b) w ∙ written-on l next (a ∷ []) b 1 refl ∙
+              ap (written l next) (sym (e .lists depth parent next));
         }
 
-    pub childless-listed : at + 6 + own ≡ stop → Listed records at depth parent next t records₁ (next + 1)
-    childless-listed f = entered-listed (listed-end records₁ (at + 6 + own) (depth + 1) next (next + 1) (e .kids) (omega (arith, e .fills)))
+    pub childless-listed : at + 6 + own ≡ stop → Listed l at depth parent next t l₁ (next + 1)
+    childless-listed f = entered-listed (listed-end l₁ (at + 6 + own) (depth + 1) next (next + 1) (e .kids) (omega (arith, e .fills)))

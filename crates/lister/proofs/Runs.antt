@@ -5,20 +5,21 @@ use mathlib.Core.List.{List, _++_, append-nil, append-assoc}
 use Prim.Native.Nat.{ℕ, suc, _+_, _-_, _*_, _≤_, _<_, _^_}
 use native.Mathlib.Omega.{arith}
 use lib.ListN.{length, take, drop}
-use lib.Seq.{sets, take-at, drop-at, length-slice}
+use lib.Seq.{take-at, drop-at, length-slice}
 use borrow.Author.Tests.{ltb-true}
+use Rattle.rules.specs.declared.Record.{Record}
 use Rattle.rules.specs.Table.{listed}
 use Rattle.rules.specs.Layout.{Run, end, skip, known, size, bytes}
 use Rattle.rules.specs.Rules.{Parent, Obeys, Lawful, unlisted, limit}
-use Rattle.rules.specs.Gives.{Record, recordCount, recordsOf, flat}
+use Rattle.rules.specs.Gives.{recordCount, recordsOf}
 use Rattle.rules.proofs.Bools.{and-parts}
 use Rattle.rules.proofs.Rows.{listed-small, under-listed}
 use Rattle.rules.proofs.Sound.{length-bytes}
 use Rattle.little_endian.specs.Numbers.{longAt}
 use Rattle.little_endian.proofs.Slices.{drop-slice, take-slice}
 use Rattle.little_endian.proofs.Layouts.{skip-stands, known-stands}
-use Rattle.lister.specs.Laid.{first, Laid, Listed}
-use Rattle.lister.proofs.Rows.{sets-flat, length-records}
+use Rattle.lister.specs.Laid.{Lent, written, first, Laid, Listed}
+use Rattle.lister.proofs.Rows.{written-on, length-records}
 
 abbrev pub rest : Run → Run
 rest end = end
@@ -125,7 +126,7 @@ module _ {s : List ℕ} {at stop word : ℕ} {p : Parent} (more : at < stop) (st
           };
         }
 
--- ---- a run in the row
+-- ---- a run in the rows
 
 no-bytes : (t : Run) → size t ≡ 0 → t ≡ end
 no-bytes end h = refl
@@ -133,22 +134,21 @@ no-bytes (skip id body more) h = absurd (omega arith)
 no-bytes (known id own kids more) h = absurd (omega arith)
 
 -- nothing is left
-pub listed-end : (row : List ℕ) (at depth parent next : ℕ) (t : Run) → size t ≡ 0 → Listed row at depth parent next t row next
-listed-end row at depth parent next t h =
+pub listed-end : (l : Lent) (at depth parent next : ℕ) (t : Run) → size t ≡ 0 → Listed l at depth parent next t l next
+listed-end l at depth parent next t h =
     let e : t ≡ end = no-bytes t h in
     rw e (record { counts = omega arith; fills = refl })
 
-pub listed-on : {row : List ℕ} {at depth parent next : ℕ} (t : Run) {row₁ : List ℕ} {n₁ : ℕ} {row₂ : List ℕ} {n₂ : ℕ} →
-    Listed row at depth parent next (first t) row₁ n₁ → Listed row₁ (at + size (first t)) depth parent n₁ (rest t) row₂ n₂ →
-    Listed row at depth parent next t row₂ n₂
-listed-on {row} {at} {depth} {parent} {next} t {row₁} h g =
+pub listed-on : {l : Lent} {at depth parent next : ℕ} (t : Run) {l₁ : Lent} {n₁ : ℕ} {l₂ : Lent} {n₂ : ℕ} →
+    Listed l at depth parent next (first t) l₁ n₁ → Listed l₁ (at + size (first t)) depth parent n₁ (rest t) l₂ n₂ →
+    Listed l at depth parent next t l₂ n₂
+listed-on {l} {at} {depth} {parent} {next} t {l₁} h g =
     let a = recordsOf at depth parent next (first t) in
     let b : ℕ → List Record = λ n. recordsOf (at + size (first t)) depth parent n (rest t) in
     let k = next + recordCount (first t) in
     record {
       counts = omega (arith, g .counts, h .counts, split-count t);
       fills =
-          g .fills ∙ ap (λ (n : ℕ). sets row₁ (6 * n) (flat (b n))) (h .counts) ∙ ap (λ (x : List ℕ). sets x (6 * k) (flat (b k))) (h .fills) ∙
-          sets-flat row next a (b k) (recordCount (first t)) (length-records at depth parent next (first t)) ∙
-          ap (λ (rs : List Record). sets row (6 * next) (flat rs)) (split-records at depth parent next t);
+          g .fills ∙ ap (λ (n : ℕ). written l₁ n (b n)) (h .counts) ∙ ap (λ (x : Lent). written x k (b k)) (h .fills) ∙
+          written-on l next a (b k) (recordCount (first t)) (length-records at depth parent next (first t)) ∙ ap (written l next) (split-records at depth parent next t);
     }

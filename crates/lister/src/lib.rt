@@ -2,42 +2,63 @@
 // this pass judges nothing: it steps from chunk to chunk by their lengths. A chunk holds a run of children and a run is made
 // of chunks: `list_chunk` and `list_run` call each other.
 use little_endian::long_at;
+use little_endian::put_long;
 use little_endian::word_at;
 use own_data::Own;
 use rules::Checked;
+use rules::Record;
 use rules::Refusal;
 ghost use mathlib.Core.Path.{_≡_};
-ghost use mathlib.Core.List.{List, _++_};
+ghost use mathlib.Core.List.{List, [], _∷_, _++_};
 ghost use Prim.Native.Nat.{ℕ, _+_, _*_, _≤_, _<_};
 ghost use lib.ListN.{length};
 ghost use lib.Seq.{slice, sets};
+ghost use Rattle.rules.specs.Bytes.{packed};
 ghost use Rattle.rules.specs.Layout.{Run};
-ghost use Rattle.rules.specs.Rules.{Parent};
-ghost use Rattle.rules.specs.Encodings.{flatRecords};
-ghost use Rattle.rules.specs.Calls.{listCall};
+ghost use Rattle.rules.specs.Rules.{Parent, limit};
+ghost use Rattle.rules.specs.Gives.{recordCount, flat};
+ghost use Rattle.rules.specs.Encodings.{flatRecords, recordBytes};
+ghost use Rattle.rules.specs.Calls.{leaving, listCall};
 ghost use Rattle.own_data.specs.Own.{CountIs};
-ghost use Rattle.lister.specs.Laid.{first, Laid, Bounds, Room, Listed, Begins, Small, sixOf};
+ghost use Rattle.lister.specs.Laid.{Lent, lent, written, listRows, first, Laid, Bounds, Room, Listed, Begins};
 
-// The six numbers of a record, from i on.
-fn put_record(
-    records: &mut [u32],
-    i: usize,
-    id: usize,
-    at: usize,
-    len: usize,
-    depth: usize,
-    parent: usize,
-    own: usize,
-)
-    requires { ⌜ (i + 6 ≤ length (now records)) × Small id at len depth parent own ⌝ }
-    ensures { λ _. ⌜ now (records .exit) ≡ sets (now (records .entry)) i (sixOf id at len depth parent own) ⌝ }
+// A record as six numbers, from i on.
+fn put_numbers(records: &mut [u32], i: usize, r: Record)
+    requires { ⌜ i + 6 ≤ length (now records) ⌝ }
+    ensures { λ _. ⌜ now (records .exit) ≡ sets (now (records .entry)) i (flat (r ∷ [])) ⌝ }
 {
-    records[i] = id as u32;
-    records[i + 1] = at as u32;
-    records[i + 2] = len as u32;
-    records[i + 3] = depth as u32;
-    records[i + 4] = parent as u32;
-    records[i + 5] = own as u32;
+    records[i] = r.identifier;
+    records[i + 1] = r.offset;
+    records[i + 2] = r.len;
+    records[i + 3] = r.depth;
+    records[i + 4] = r.parent;
+    records[i + 5] = r.own;
+}
+
+// The same as bytes, four to a number.
+fn put_bytes(bytes: &mut [u8], i: usize, r: Record)
+    requires { ⌜ i + 24 ≤ length (now bytes) ⌝ }
+    ensures { λ _. ⌜ now (bytes .exit) ≡ sets (now (bytes .entry)) i (packed 4 (flat (r ∷ []))) ⌝ }
+{
+    let offset = put_long(r.identifier, i, bytes);
+    let len = put_long(r.offset, offset, bytes);
+    let depth = put_long(r.len, len, bytes);
+    let parent = put_long(r.depth, depth, bytes);
+    let own = put_long(r.parent, parent, bytes);
+    put_long(r.own, own, bytes);
+}
+
+// The record of number next, into the rows that are in use: those that are not empty.
+fn put_record(records: &mut [u32], bytes: &mut [u8], next: usize, r: Record)
+    requires { ⌜ (next ≤ limit) × Room (lent (now records) (now bytes)) (next + 1) ⌝ }
+    ensures { λ _. ⌜ lent (now (records .exit)) (now (bytes .exit)) ≡ written (lent (now (records .entry)) (now (bytes .entry))) next (r ∷ []) ⌝ }
+{
+    if records.len() != 0 {
+        put_numbers(records, 6 * next, r);
+    }
+    if bytes.len() != 0 {
+        put_bytes(bytes, 24 * next, r);
+    }
 }
 
 // How long the own data is with which a chunk's body, from at to stop, begins; count is the count word of the chunk
@@ -62,6 +83,7 @@ fn own_length(file: &[u8], row: u64, count: u32, at: usize, stop: usize) -> usiz
 fn list_chunk(
     file: &[u8],
     records: &mut [u32],
+    bytes: &mut [u8],
     count: u32,
     at: usize,
     stop: usize,
@@ -69,29 +91,48 @@ fn list_chunk(
     parent: usize,
     next: usize,
 ) -> usize
-    requires { ⌜ (at + 6 ≤ stop) × Bounds (now file) at stop count depth parent next × ((p : Parent) × (t : Run) × Laid (now file) at stop p count (first t) × Room (now records) next (first t)) ⌝ }
-    ensures { λ r. ⌜ ((p : Parent) (t : Run) → Laid (now (file .entry)) at stop p count (first t) → Listed (now (records .entry)) at depth parent next (first t) (now (records .exit)) r) ⌝ }
+    requires { ⌜ (at + 6 ≤ stop) × Bounds (now file) at stop count depth parent next × ((p : Parent) × (t : Run) × Laid (now file) at stop p count (first t) × Room (lent (now records) (now bytes)) (next + recordCount (first t))) ⌝ }
+    ensures { λ r. ⌜ ((p : Parent) (t : Run) → Laid (now (file .entry)) at stop p count (first t) → Listed (lent (now (records .entry)) (now (bytes .entry))) at depth parent next (first t) (lent (now (records .exit)) (now (bytes .exit))) r) ⌝ }
 {
-    let id = word_at(file, at) as usize;
-    let row = table::row(id);
+    let id = word_at(file, at);
+    let row = table::row(id as usize);
     if row == 0 {
         return next;
     }
     let own = own_length(file, row, count, at + 6, stop);
-    put_record(records, 6 * next, id, at, stop - at, depth, parent, own);
+    let record = Record {
+        identifier: id,
+        offset: at as u32,
+        len: (stop - at) as u32,
+        depth: depth as u32,
+        parent: parent as u32,
+        own: own as u32,
+    };
+    put_record(records, bytes, next, record);
     let from = at + 6 + own;
     let after = next + 1;
     if from == stop {
         return after;
     }
     let word = own_data::count_of(file, at + 6, from);
-    list_run(file, records, word, from, stop, depth + 1, next, after)
+    list_run(
+        file,
+        records,
+        bytes,
+        word,
+        from,
+        stop,
+        depth + 1,
+        next,
+        after,
+    )
 }
 
 // The run of chunks from at to end.
 fn list_run(
     file: &[u8],
     records: &mut [u32],
+    bytes: &mut [u8],
     count: u32,
     at: usize,
     end: usize,
@@ -99,35 +140,64 @@ fn list_run(
     parent: usize,
     next: usize,
 ) -> usize
-    requires { ⌜ (at ≤ end) × Bounds (now file) at end count depth parent next × ((p : Parent) × (t : Run) × Laid (now file) at end p count t × Room (now records) next t) ⌝ }
-    ensures { λ r. ⌜ ((p : Parent) (t : Run) → Laid (now (file .entry)) at end p count t → Listed (now (records .entry)) at depth parent next t (now (records .exit)) r) ⌝ }
+    requires { ⌜ (at ≤ end) × Bounds (now file) at end count depth parent next × ((p : Parent) × (t : Run) × Laid (now file) at end p count t × Room (lent (now records) (now bytes)) (next + recordCount t)) ⌝ }
+    ensures { λ r. ⌜ ((p : Parent) (t : Run) → Laid (now (file .entry)) at end p count t → Listed (lent (now (records .entry)) (now (bytes .entry))) at depth parent next t (lent (now (records .exit)) (now (bytes .exit))) r) ⌝ }
 {
     let mut from = at;
     let mut number = next;
     while from < end {
         let stop = from + (long_at(file, from + 2) as usize);
-        number = list_chunk(file, records, count, from, stop, depth, parent, number);
+        number = list_chunk(
+            file,
+            records,
+            bytes,
+            count,
+            from,
+            stop,
+            depth,
+            parent,
+            number,
+        );
         from = stop;
     }
     number
 }
 
-// The list of a figure's known chunks, in file order, into a lent row whose room is counted in whole records. Answers
-// what the check answers, or that there is no room; a refusal leaves the row as it was.
+// The list of a figure's known chunks into the rows that are in use, where there is room for so many records.
 // (The file is a run of one chunk. With no other call of `list_chunk`, a chunk without children costs `list_run` no call.)
-pub fn list(file: &[u8], row: &mut [u32]) -> Checked
-    ensures answer { λ r. ⌜ r ≡ listCall flatRecords (now (file .entry)) (now (row .entry)) .answer ⌝ }
-    ensures filled { λ r. ⌜ now (row .exit) ≡ listCall flatRecords (now (file .entry)) (now (row .entry)) .rows ⌝ }
+fn list_rows(file: &[u8], records: &mut [u32], bytes: &mut [u8], room: usize) -> Checked
+    requires { ⌜ Room (lent (now records) (now bytes)) room ⌝ }
+    ensures { λ r. ⌜ leaving r (lent (now (records .exit)) (now (bytes .exit))) ≡ listRows (now (file .entry)) room (lent (now (records .entry)) (now (bytes .entry))) ⌝ }
 {
     match reader::check(file) {
         Checked::Refused(r) => Checked::Refused(r),
         Checked::Accepted(counts) => {
-            let records = counts.records;
-            if row.len() / 6 < records {
-                return Checked::Refused(Refusal::NoRoom(records));
+            if room < counts.records {
+                return Checked::Refused(Refusal::NoRoom(counts.records));
             }
-            list_run(file, row, 0, 0, file.len(), 0, 0, 0);
+            list_run(file, records, bytes, 0, 0, file.len(), 0, 0, 0);
             Checked::Accepted(counts)
         }
     }
+}
+
+// The list of a figure's known chunks, in file order, into a lent row whose room is counted in whole records. Answers
+// what the check answers, or that there is no room; a refusal leaves the row as it was.
+pub fn list(file: &[u8], row: &mut [u32]) -> Checked
+    ensures answer { λ r. ⌜ r ≡ listCall flatRecords (now (file .entry)) (now (row .entry)) .answer ⌝ }
+    ensures filled { λ r. ⌜ now (row .exit) ≡ listCall flatRecords (now (file .entry)) (now (row .entry)) .rows ⌝ }
+{
+    let mut unused = [0u8; 0];
+    let room = row.len() / 6;
+    list_rows(file, row, &mut unused, room)
+}
+
+// The same list as bytes: six numbers a record, four bytes a number.
+pub fn list_bytes(file: &[u8], row: &mut [u8]) -> Checked
+    ensures answer { λ r. ⌜ r ≡ listCall recordBytes (now (file .entry)) (now (row .entry)) .answer ⌝ }
+    ensures filled { λ r. ⌜ now (row .exit) ≡ listCall recordBytes (now (file .entry)) (now (row .entry)) .rows ⌝ }
+{
+    let mut unused = [0u32; 0];
+    let room = row.len() / 24;
+    list_rows(file, &mut unused, row, room)
 }

@@ -7,7 +7,7 @@ use native.Mathlib.Numerals.{add-one}
 use native.Mathlib.Omega.{arith}
 use mathlib.Core.List.{List, [], _∷_, _++_, append-assoc}
 use lib.ListN.{length, take, drop, set, length-append, take-append-drop}
-use lib.Seq.{set-split, length-take-le, take-at, drop-append-add, drop-drop}
+use lib.Seq.{sets, sets-eq, set-split, length-take-le, take-at, drop-append-add, drop-drop}
 use Rattle.rules.specs.Calls.{filled}
 use Rattle.little_endian.specs.Put.{Put}
 
@@ -34,3 +34,7 @@ put-then {o} {a} {o₁} {b} {o₂} {at} {k} {n} h p q =
 -- a piece put at the front
 pub put-front : {o new o₁ : List ℕ} {n : ℕ} → Put o 0 new o₁ n → o₁ ≡ filled new o
 put-front {o} {new} p = p .is ∙ ap (λ (k : ℕ). new ++ drop k o) (zero-add (length new))
+
+-- a piece put is as many stores
+pub put-sets : {o new o₁ : List ℕ} {at n : ℕ} → at + length new ≤ length o → Put o at new o₁ n → o₁ ≡ sets o at new
+put-sets {o} {new} {at = at} h p = p .is ∙ sym (sets-eq new o at h ∙ append-assoc (take at o) new (drop (at + length new) o))

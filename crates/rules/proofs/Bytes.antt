@@ -2,11 +2,11 @@
 use mathlib.Core.Path.{_≡_, refl, ap, _∙_}
 use Prim.Native.Nat.{ℕ, zero, suc, _+_, _*_, _/_, _%_, _^_, _<_, _≤_}
 use native.Mathlib.Omega.{arith}
-use native.Mathlib.Nat.{mod-add-div, div-lt-iff-lt-mul}
-use mathlib.Core.List.{List, [], _∷_, _++_}
-use lib.ListN.{length, take, drop}
+use native.Mathlib.Nat.{mul-zero, mul-suc, mod-add-div, div-lt-iff-lt-mul}
+use mathlib.Core.List.{List, [], _∷_, _++_, append-assoc}
+use lib.ListN.{length, take, drop, length-append}
 use lib.Arith.{digits-div, digits-mod}
-use Rattle.rules.specs.Bytes.{value, le, Bytes}
+use Rattle.rules.specs.Bytes.{value, le, packed, Bytes}
 use Rattle.rules.specs.Layout.{header}
 use Rattle.rules.specs.Walk.{lengthField}
 
@@ -23,6 +23,15 @@ bytes-take (suc n) (b ∷ bs) h = (h .0, bytes-take n bs (h .1))
 pub length-le : (w n : ℕ) → length (le w n) ≡ w
 length-le zero n = refl
 length-le (suc w) n = ap suc (length-le w (n / 256))
+
+-- numbers one after another
+pub length-packed : (w : ℕ) (ns : List ℕ) → length (packed w ns) ≡ w * length ns
+length-packed w [] = omega (arith, mul-zero w)
+length-packed w (n ∷ ns) = length-append (le w n) (packed w ns) ∙ omega (arith, length-le w n, length-packed w ns, mul-suc w (length ns))
+
+pub packed-append : (w : ℕ) (ms ns : List ℕ) → packed w (ms ++ ns) ≡ packed w ms ++ packed w ns
+packed-append w [] ns = refl
+packed-append w (m ∷ ms) ns = rw (packed-append w ms ns, append-assoc (le w m) (packed w ms) (packed w ns))
 
 pub value-le : (w n : ℕ) → n < 256 ^ w → value (le w n) ≡ n
 value-le zero n h = omega arith

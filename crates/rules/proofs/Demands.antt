@@ -45,7 +45,7 @@ in-table (NoRoom place) = refl
 in-table (NoSuchMesh place) = refl
 in-table Empty = refl
 
-numbered : (r : Refusal) → Numbered r (numberOf r)
+pub numbered : (r : Refusal) → Numbered r (numberOf r)
 numbered r = let h = and-parts (leb 1 (numberOf r)) (leb (numberOf r) 17) (in-table r) in record { is = refl; from = leb-true _ _ (h .0); to = leb-true _ _ (h .1) }
 
 pub demand1 : Demand1

@@ -7,8 +7,9 @@ use mathlib.Core.Bool.{Bool, true, false}
 use mathlib.Core.List.{List, [], _∷_, _++_}
 use lib.ListN.{length}
 use lib.Dec.{eqb}
+use Rattle.rules.specs.declared.Record.{Record}
 use Rattle.rules.specs.Layout.{Run, size, child}
-use Rattle.rules.specs.Gives.{Record, recordCount, recordsOf, Mesh, meshOf, oneMesh, meshesOf}
+use Rattle.rules.specs.Gives.{recordCount, recordsOf, Mesh, meshOf, oneMesh, meshesOf}
 use Rattle.rules.specs.Gaps.{Marked, end, put, skip, known, without, with, Piece, pieces, before, Moved, SameMesh, Pairwise}
 use Rattle.rules.proofs.Gaps.{added, size-grows, record-count-same, child-same}
 use Rattle.rules.proofs.Pieces.{Holds, holds-put, holds-skip, holds-kids, holds-rest, before-here, inside-here}

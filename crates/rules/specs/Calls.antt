@@ -6,6 +6,7 @@ use mathlib.Core.List.{List, _++_}
 use mathlib.Core.Option.{Option, none, some}
 use lib.Dec.{eqb, leb}
 use lib.ListN.{length, drop, getElem?}
+use Rattle.rules.specs.declared.Record.{Record}
 use Rattle.rules.specs.declared.Refusal.{Refusal}
 use Rattle.rules.specs.declared.Refusal.the-variants.{NoRoom, NoSuchMesh, Empty}
 use Rattle.rules.specs.declared.Counts.{Counts}
@@ -17,7 +18,7 @@ use Rattle.rules.specs.declared.Named.{Named}
 use Rattle.rules.specs.declared.Boxed.{Boxed}
 use Rattle.rules.specs.Layout.{Run, figure}
 use Rattle.rules.specs.Walk.{Answer, refused, accepted, verdict}
-use Rattle.rules.specs.Gives.{Record, recordCount, list, headers, owned, skipped, Mesh, meshes}
+use Rattle.rules.specs.Gives.{recordCount, list, headers, owned, skipped, Mesh, meshes}
 use Rattle.rules.specs.Box.{boxOf, centreOf}
 use Rattle.rules.specs.Encodings.{Encoding}
 

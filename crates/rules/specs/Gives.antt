@@ -4,19 +4,11 @@ use mathlib.Core.Bool.{Bool, true, false, cond}
 use mathlib.Core.List.{List, [], _∷_, _++_}
 use lib.Dec.{eqb}
 use lib.ListN.{length}
+use Rattle.rules.specs.declared.Record.{Record}
 use Rattle.rules.specs.OwnData.{count, vertexNumbers, faceCorners}
 use Rattle.rules.specs.Layout.{Run, end, skip, known, figure, size, child}
 
--- ---- the list
-
--- six numbers for each known chunk
-pub record Record : Type 0 where
-  pub identifier : ℕ
-  pub offset : ℕ
-  pub len : ℕ
-  pub depth : ℕ
-  pub parent : ℕ
-  pub own : ℕ
+-- ---- the list: a Record of six numbers for each known chunk
 
 -- how many known chunks a run holds, at any depth
 abbrev pub recordCount : Run → ℕ
@@ -37,7 +29,7 @@ recordsOf o depth parent next (known id own kids rest) =
 abbrev pub list : Run → List Record
 list kids = recordsOf 0 0 0 0 (figure kids)
 
--- the list as a flat row
+-- the list as a flat row, six numbers a record
 abbrev pub flat : List Record → List ℕ
 flat [] = []
 flat (r ∷ rs) = r .identifier ∷ r .offset ∷ r .len ∷ r .depth ∷ r .parent ∷ r .own ∷ flat rs

@@ -26,6 +26,16 @@ pub enum Refusal {
     Empty,
 }
 
+// One known chunk in the list.
+pub struct Record {
+    pub identifier: u32,
+    pub offset: u32,
+    pub len: u32,
+    pub depth: u32,
+    pub parent: u32,
+    pub own: u32,
+}
+
 // How many records the list has, and the three byte counts.
 pub struct Counts {
     pub records: usize,

@@ -6,8 +6,9 @@ use native.Mathlib.Omega.{arith}
 use mathlib.Core.List.{List, [], _∷_, _++_}
 use mathlib.Core.Option.{some, Option·some-ne-none}
 use lib.ListN.{length, length-append, getElem?, set}
+use Rattle.rules.specs.declared.Record.{Record}
 use Rattle.rules.specs.Layout.{Run, end, skip, known, size}
-use Rattle.rules.specs.Gives.{Record, recordCount, recordsOf, meshesOf}
+use Rattle.rules.specs.Gives.{recordCount, recordsOf, meshesOf}
 use Rattle.rules.specs.Readings.{_then_}
 use Rattle.rules.proofs.Gaps.{record-count-same}
 use Rattle.turned.specs.Turned.{resized}

@@ -5,11 +5,12 @@ use native.Mathlib.Omega.{arith}
 use mathlib.Core.List.{List, [], _∷_, _++_}
 use mathlib.Core.Option.{some, Option·some-ne-none}
 use lib.ListN.{length, getElem?}
+use Rattle.rules.specs.declared.Record.{Record}
 use Rattle.rules.specs.Bytes.{Bytes}
 use Rattle.rules.specs.Layout.{Run, known, figure, header, size, bytes}
 use Rattle.rules.specs.Rules.{Meets}
 use Rattle.rules.specs.Walk.{verdict, accepted}
-use Rattle.rules.specs.Gives.{Record, list}
+use Rattle.rules.specs.Gives.{list}
 use Rattle.rules.proofs.Verdict.{demand2}
 use Rattle.turned.specs.Turned.{withLength}
 use Rattle.turned.proofs.Context.{fill, bytes-plug}

@@ -6,11 +6,11 @@ use native.Mathlib.Omega.{arith}
 use mathlib.Core.Bool.{Bool, true, false}
 use mathlib.Core.List.{List}
 use lib.ListN.{length}
+use Rattle.rules.specs.declared.Record.{Record}
 use Rattle.rules.specs.Table.{plus}
 use Rattle.rules.specs.Layout.{Run, known, figure, size, bytes}
 use Rattle.rules.specs.Rules.{Parent, file, limit, noChild, Lawful, Meets}
 use Rattle.rules.specs.Walk.{verdict, accepted}
-use Rattle.rules.specs.Gives.{Record}
 use Rattle.rules.proofs.Bools.{or-second}
 use Rattle.rules.proofs.Complete.{no-bytes}
 use Rattle.rules.proofs.Sound.{length-bytes}

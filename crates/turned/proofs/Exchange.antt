@@ -6,8 +6,9 @@ use Prim.Native.Nat.{ℕ, suc, _+_, _-_}
 use native.Mathlib.Omega.{arith}
 use mathlib.Core.List.{List, _++_, append-nil}
 use lib.ListN.{length}
+use Rattle.rules.specs.declared.Record.{Record}
 use Rattle.rules.specs.Layout.{Run, known, size, child}
-use Rattle.rules.specs.Gives.{Record, recordCount, recordsOf, meshOf, meshesOf}
+use Rattle.rules.specs.Gives.{recordCount, recordsOf, meshOf, meshesOf}
 use Rattle.rules.specs.Readings.{_then_}
 use Rattle.rules.proofs.Gaps.{child-same, record-count-same}
 use Rattle.turned.proofs.Then.{size-then, records-then, meshes-then, no-records, no-meshes}

@@ -5,9 +5,10 @@ use Prim.Native.Nat.{ℕ, _+_}
 use native.Mathlib.Omega.{arith}
 use mathlib.Core.Option.{some}
 use lib.ListN.{length, getElem?}
+use Rattle.rules.specs.declared.Record.{Record}
 use Rattle.rules.specs.Layout.{Run, known, figure, size}
 use Rattle.rules.specs.Rules.{file}
-use Rattle.rules.specs.Gives.{Record, recordCount, list, headers, owned, skipped, meshes, meshesOf}
+use Rattle.rules.specs.Gives.{recordCount, list, headers, owned, skipped, meshes, meshesOf}
 use Rattle.rules.specs.Calls.{countsOf}
 use Rattle.rules.proofs.Gaps.{record-count-same, headers-same, owned-same}
 use Rattle.rules.proofs.Demands.{counted-once}

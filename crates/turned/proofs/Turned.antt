@@ -7,13 +7,14 @@ use native.Mathlib.Nat.{mod-lt}
 use mathlib.Core.List.{List, [], _∷_, _++_}
 use mathlib.Core.Option.{some, Option·some-ne-none}
 use lib.ListN.{length, take, drop, getElem?, set}
+use Rattle.rules.specs.declared.Record.{Record}
 use Rattle.rules.specs.declared.Refusal.{Refusal}
 use Rattle.rules.specs.declared.Counts.{Counts}
 use Rattle.rules.specs.Bytes.{le, Bytes}
 use Rattle.rules.specs.Layout.{Run, figure, size}
 use Rattle.rules.specs.Rules.{file, Meets}
 use Rattle.rules.specs.Walk.{Answer, verdict, accepted, refused}
-use Rattle.rules.specs.Gives.{Record, recordsOf, list, skipped}
+use Rattle.rules.specs.Gives.{recordsOf, list, skipped}
 use Rattle.rules.proofs.Bytes.{bytes-take, bytes-drop}
 use Rattle.rules.proofs.Verdict.{demand2, length-figure}
 use Rattle.turned.specs.Turned.{withLength, OtherLength, resized, SameOrRefused, RefusedWithoutUnlisted}

@@ -5,11 +5,12 @@ use Prim.Native.Nat.{ℕ, _+_, _^_, _<_}
 use mathlib.Core.List.{List, _++_}
 use mathlib.Core.Option.{some}
 use lib.ListN.{take, drop, getD, getElem?, set}
+use Rattle.rules.specs.declared.Record.{Record}
 use Rattle.rules.specs.declared.Refusal.{Refusal}
 use Rattle.rules.specs.Bytes.{le, Bytes}
 use Rattle.rules.specs.Layout.{Run, figure}
 use Rattle.rules.specs.Walk.{verdict, accepted, refused}
-use Rattle.rules.specs.Gives.{Record, list, skipped, meshes}
+use Rattle.rules.specs.Gives.{list, skipped, meshes}
 use Rattle.rules.specs.Calls.{countsOf}
 
 -- the file s with n in the length field of the chunk at offset o: four bytes, behind the identifier's two

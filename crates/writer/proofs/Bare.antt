@@ -5,12 +5,13 @@ use native.Mathlib.Omega.{arith}
 use mathlib.Core.List.{List, [], _∷_, _++_, map, append-assoc, append-nil}
 use lib.Ieee.{Float, binary32, toBits}
 use lib.ListN.{length, drop, length-append, length-map}
+use Rattle.rules.proofs.Bytes.{length-packed}
 use Rattle.rules.specs.Bytes.{le, packed}
 use Rattle.rules.specs.Layout.{Run, end, known, figure, size, header, bytes}
 use Rattle.rules.proofs.Sound.{length-bytes}
 use Rattle.writer.specs.Bare.{triples, vertexData, faceWords, faceData, sixChunks, bare}
 use Rattle.writer.specs.Write.{figureSize}
-use Rattle.writer.proofs.Packed.{length-packed, length-face-words}
+use Rattle.writer.proofs.Packed.{length-face-words}
 
 -- ---- the bytes of a chunk that is the last of its run, where n is its length
 

@@ -7,12 +7,13 @@ use mathlib.Core.Bool.{Bool, true, false, not, true≢false, false≢true}
 use mathlib.Core.List.{List, [], _∷_, _++_, map, append-assoc}
 use lib.ListN.{length}
 use borrow.Author.Tests.{eqb-true, not-true}
+use Rattle.rules.specs.declared.Record.{Record}
 use Rattle.rules.specs.Bytes.{every}
 use Rattle.rules.specs.Table.{fixed, rows, under, shape, plus}
 use Rattle.rules.specs.OwnData.{ownSize}
 use Rattle.rules.specs.Layout.{Run, end, skip, known, size, figure}
 use Rattle.rules.specs.Rules.{Parent, file, inside, noChild, Lawful, Obeys}
-use Rattle.rules.specs.Gives.{Record, recordCount, recordsOf, skipped}
+use Rattle.rules.specs.Gives.{recordCount, recordsOf, skipped}
 use Rattle.rules.proofs.Bools.{and-parts}
 use Rattle.rules.proofs.Verdict.{demand2}
 use Rattle.writer.specs.Bare.{sixChunks}

@@ -8,16 +8,8 @@ use mathlib.Core.List.{List, [], _∷_, _++_, append-assoc, append-nil}
 use lib.ListN.{length, take, drop, getD, length-append, length-drop}
 use lib.Seq.{take-suc, drop-cons, drop-drop, length-take-le}
 use Rattle.rules.specs.Bytes.{le, packed}
-use Rattle.rules.proofs.Bytes.{length-le}
+use Rattle.rules.proofs.Bytes.{length-packed, packed-append}
 use Rattle.writer.specs.Bare.{faceWords}
-
-pub length-packed : (w : ℕ) (ns : List ℕ) → length (packed w ns) ≡ w * length ns
-length-packed w [] = omega (arith, mul-zero w)
-length-packed w (n ∷ ns) = length-append (le w n) (packed w ns) ∙ omega (arith, length-le w n, length-packed w ns, mul-suc w (length ns))
-
-pub packed-append : (w : ℕ) (ms ns : List ℕ) → packed w (ms ++ ns) ≡ packed w ms ++ packed w ns
-packed-append w [] ns = refl
-packed-append w (m ∷ ms) ns = rw (packed-append w ms ns, append-assoc (le w m) (packed w ms) (packed w ns))
 
 -- the first i + 1 numbers
 pub packed-more : (w : ℕ) (ns : List ℕ) (i d : ℕ) → i < length ns → packed w (take (i + 1) ns) ≡ packed w (take i ns) ++ le w (getD ns i d)

@@ -7,6 +7,7 @@ use mathlib.Core.List.{List, [], _∷_, map}
 use lib.Dec.{eqb}
 use lib.Ieee.{Float}
 use lib.ListN.{length, take, drop}
+use Rattle.rules.specs.declared.Record.{Record}
 use Rattle.rules.specs.declared.Sizes.{Sizes}
 use Rattle.rules.specs.declared.Tabled.{Tabled}
 use Rattle.rules.specs.declared.Span.{Span}
@@ -15,7 +16,7 @@ use Rattle.rules.specs.Bytes.{value, every, Bytes}
 use Rattle.rules.specs.OwnData.{count}
 use Rattle.rules.specs.Layout.{Run, figure}
 use Rattle.rules.specs.Walk.{accepted, verdict}
-use Rattle.rules.specs.Gives.{Record, list, skipped}
+use Rattle.rules.specs.Gives.{list, skipped}
 use Rattle.rules.specs.Encodings.{floatRow, cornerRow}
 use Rattle.rules.specs.Calls.{leaving, filled, Rows, tablesCall, nameCall}
 use Rattle.writer.specs.declared.Written.the-variants.{Size}

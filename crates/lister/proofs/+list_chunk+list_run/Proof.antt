@@ -10,8 +10,8 @@ use borrow.Fn.Kinds.{In}
 use borrow.Fn.PlainCycle.{Measures, is, falls, and}
 use Rattle.rules.specs.Layout.{Run}
 use Rattle.rules.specs.Rules.{Parent}
-use Rattle.lister.specs.Laid.{first, Laid}
-use Rattle.lister.proofs.Rows.{count-small}
+use Rattle.lister.specs.Laid.{lent, first, Laid}
+use Rattle.lister.proofs.Rows.{count-small, room-less}
 use Rattle.lister.proofs.Runs.{FirstAt, split-count, header-ends, first-at}
 use Rattle.lister.proofs.Chunks.{Entered, skipped-listed, entered, inner-laid, entered-listed, childless-listed}
 use Rattle.lister.proofs.Loop.{Sofar, sofar-start, sofar-next, sofar-ends}
@@ -30,23 +30,23 @@ use Rattle.table.proofs.row.Reads as row-reads
 use Rattle.lister.proofs.+list_chunk+list_run.{statement}
 use Rattle.lister.proofs.+list_chunk+list_run.Tie.{close}
 
-abbrev μ-list-chunk : Measures 2 list-chunk-kinds.ps ℕ
-μ-list-chunk κs a = (a .1 .1 .1 .1 .0 - a .1 .1 .1 .0) * 2
+abbrev μ-list-chunk : Measures 3 list-chunk-kinds.ps ℕ
+μ-list-chunk κs a = (a .1 .1 .1 .1 .1 .0 - a .1 .1 .1 .1 .0) * 2
 
-abbrev μ-list-run : Measures 2 list-run-kinds.ps ℕ
-μ-list-run κs a = (a .1 .1 .1 .1 .0 - a .1 .1 .1 .0) * 2 + 1
+abbrev μ-list-run : Measures 3 list-run-kinds.ps ℕ
+μ-list-run κs a = (a .1 .1 .1 .1 .1 .0 - a .1 .1 .1 .1 .0) * 2 + 1
 
-abbrev list-chunk-at : ℕ → In 2 list-chunk-kinds.ps
-list-chunk-at t = and 2 list-chunk-kinds.ps (is 2 list-chunk-kinds.ps μ-list-chunk t) list-chunk.Pre
+abbrev list-chunk-at : ℕ → In 3 list-chunk-kinds.ps
+list-chunk-at t = and 3 list-chunk-kinds.ps (is 3 list-chunk-kinds.ps μ-list-chunk t) list-chunk.Pre
 
-abbrev list-chunk-below : ℕ → In 2 list-chunk-kinds.ps
-list-chunk-below t = and 2 list-chunk-kinds.ps (falls 2 list-chunk-kinds.ps _<_ μ-list-chunk t) list-chunk.Pre
+abbrev list-chunk-below : ℕ → In 3 list-chunk-kinds.ps
+list-chunk-below t = and 3 list-chunk-kinds.ps (falls 3 list-chunk-kinds.ps _<_ μ-list-chunk t) list-chunk.Pre
 
-abbrev list-run-at : ℕ → In 2 list-run-kinds.ps
-list-run-at t = and 2 list-run-kinds.ps (is 2 list-run-kinds.ps μ-list-run t) list-run.Pre
+abbrev list-run-at : ℕ → In 3 list-run-kinds.ps
+list-run-at t = and 3 list-run-kinds.ps (is 3 list-run-kinds.ps μ-list-run t) list-run.Pre
 
-abbrev list-run-below : ℕ → In 2 list-run-kinds.ps
-list-run-below t = and 2 list-run-kinds.ps (falls 2 list-run-kinds.ps _<_ μ-list-run t) list-run.Pre
+abbrev list-run-below : ℕ → In 3 list-run-kinds.ps
+list-run-below t = and 3 list-run-kinds.ps (falls 3 list-run-kinds.ps _<_ μ-list-run t) list-run.Pre
 
 -- what is known of the functions that each of the two calls
 abbrev chunk-calls : ℕ → list-chunk-lts.Claims
@@ -72,18 +72,18 @@ run-calls t = (long-at-reads.Asked, long-at-reads.Learnt, list-chunk-below t, li
 
 -- where the table has a row for its identifier and own data has been measured, a chunk is a record and its children
 chunk-entered : (t : ℕ) (c : list-chunk-lts.After-own-length (chunk-calls t) (list-chunk-at t) list-chunk.Post) →
-    let x = c .before .before .before .before .before .before .args in
+    let x = c .before .before .before .before .before .before .before .args in
     (p : Parent) (u : Run) → Laid (x .file .now) (x .at) (x .stop) p (x .count) (first u) →
     Entered (x .file .now) (x .at) (x .stop) (c .before .before .before .word-at .result) (c .own-length .result) (first u)
 chunk-entered t c =
-    let q = c .before .before .before .before .before .before .pre .1 in
+    let q = c .before .before .before .before .before .before .before .pre .1 in
     entered (q .0) (q .1) (c .before .before .before .word-at .ensures .is) (c .before .before .row .ensures) (c .own-length .ensures .0) (c .before .if1 .left)
 
 list-chunk-word-at-requires : (t : ℕ) → list-chunk-lts.Need-word-at-requires (chunk-calls t) (list-chunk-at t) list-chunk.Post
 list-chunk-word-at-requires t c κs = omega arith
 
-list-chunk-cast-id : (t : ℕ) → list-chunk-lts.Need-cast-id (chunk-calls t) (list-chunk-at t) list-chunk.Post
-list-chunk-cast-id t c = search needs
+list-chunk-cast-row : (t : ℕ) → list-chunk-lts.Need-cast-row (chunk-calls t) (list-chunk-at t) list-chunk.Post
+list-chunk-cast-row t c = search needs
 
 list-chunk-row-requires : (t : ℕ) → list-chunk-lts.Need-row-requires (chunk-calls t) (list-chunk-at t) list-chunk.Post
 list-chunk-row-requires t c κs = search needs
@@ -91,7 +91,7 @@ list-chunk-row-requires t c κs = search needs
 list-chunk-returns : (t : ℕ) → list-chunk-lts.Need-returns (chunk-calls t) (list-chunk-at t) list-chunk.Post
 list-chunk-returns t c =
     let x = c .before .before .before .before .before in
-    skipped-listed (x .pre .1 .0) (x .pre .1 .1) (c .before .before .word-at .ensures .is) (c .before .row .ensures) (x .args .records .now) (c .if1 .taken)
+    skipped-listed (x .before .pre .1 .0) (x .before .pre .1 .1) (c .before .before .word-at .ensures .is) (c .before .row .ensures) (lent (x .before .args .records .now) (x .before .args .bytes .now)) (c .if1 .taken)
 
 list-chunk-add-own-length : (t : ℕ) → list-chunk-lts.Need-add-own-length (chunk-calls t) (list-chunk-at t) list-chunk.Post
 list-chunk-add-own-length t c = omega arith
@@ -99,20 +99,29 @@ list-chunk-add-own-length t c = omega arith
 list-chunk-own-length-requires : (t : ℕ) → list-chunk-lts.Need-own-length-requires (chunk-calls t) (list-chunk-at t) list-chunk.Post
 list-chunk-own-length-requires t c κs = omega arith
 
-list-chunk-mul-put-record : (t : ℕ) → list-chunk-lts.Need-mul-put-record (chunk-calls t) (list-chunk-at t) list-chunk.Post
-list-chunk-mul-put-record t c = omega arith
+list-chunk-cast-t19 : (t : ℕ) → list-chunk-lts.Need-cast-t19 (chunk-calls t) (list-chunk-at t) list-chunk.Post
+list-chunk-cast-t19 t c = omega arith
 
-list-chunk-sub-put-record : (t : ℕ) → list-chunk-lts.Need-sub-put-record (chunk-calls t) (list-chunk-at t) list-chunk.Post
-list-chunk-sub-put-record t c = omega arith
+list-chunk-sub-t17 : (t : ℕ) → list-chunk-lts.Need-sub-t17 (chunk-calls t) (list-chunk-at t) list-chunk.Post
+list-chunk-sub-t17 t c = omega arith
+
+list-chunk-cast-t20 : (t : ℕ) → list-chunk-lts.Need-cast-t20 (chunk-calls t) (list-chunk-at t) list-chunk.Post
+list-chunk-cast-t20 t c = omega arith
+
+list-chunk-cast-t21 : (t : ℕ) → list-chunk-lts.Need-cast-t21 (chunk-calls t) (list-chunk-at t) list-chunk.Post
+list-chunk-cast-t21 t c = omega arith
+
+list-chunk-cast-t22 : (t : ℕ) → list-chunk-lts.Need-cast-t22 (chunk-calls t) (list-chunk-at t) list-chunk.Post
+list-chunk-cast-t22 t c = omega arith
+
+list-chunk-cast-t23 : (t : ℕ) → list-chunk-lts.Need-cast-t23 (chunk-calls t) (list-chunk-at t) list-chunk.Post
+list-chunk-cast-t23 t c = omega (arith, c .own-length .ensures .1)
 
 list-chunk-put-record-requires : (t : ℕ) → list-chunk-lts.Need-put-record-requires (chunk-calls t) (list-chunk-at t) list-chunk.Post
 list-chunk-put-record-requires t c κs =
-    let x = c .before .before .before .before .before .before .before in
-    let z = chunk-entered t (c .before) (x .pre .1 .2 .0) (x .pre .1 .2 .1) (x .pre .1 .2 .2) .counts in
-    let v = c .before .own-length .ensures .1 in (
-      omega arith,
-      record { id-small = omega (arith, c .before .before .before .before .word-at .ensures .small); at-small = omega arith; len-small = omega arith; depth-small = omega arith; parent-small = omega arith; own-small = omega arith },
-    )
+    let x = c .before .before .before .before .before .before .before .before .before in
+    let z = chunk-entered t (c .before .before) (x .pre .1 .2 .0) (x .pre .1 .2 .1) (x .pre .1 .2 .2) .counts in
+    (omega arith, room-less refl refl (omega arith) (x .pre .1 .2 .3))
 
 list-chunk-add-from : (t : ℕ) → list-chunk-lts.Need-add-from (chunk-calls t) (list-chunk-at t) list-chunk.Post
 list-chunk-add-from t c = omega arith
@@ -124,12 +133,15 @@ list-chunk-add-after : (t : ℕ) → list-chunk-lts.Need-add-after (chunk-calls 
 list-chunk-add-after t c = omega arith
 
 list-chunk-same-length : (t : ℕ) → list-chunk-lts.Need-same-length (chunk-calls t) (list-chunk-at t) list-chunk.Post
-list-chunk-same-length t c = c .before .before .before .put-record .kept .0
+list-chunk-same-length t c = c .before .before .before .before .before .put-record .kept .0
+
+list-chunk-same-length-2 : (t : ℕ) → list-chunk-lts.Need-same-length-2 (chunk-calls t) (list-chunk-at t) list-chunk.Post
+list-chunk-same-length-2 t c = c .before .before .before .before .before .put-record .kept .1 .0
 
 list-chunk-returns-2 : (t : ℕ) → list-chunk-lts.Need-returns-2 (chunk-calls t) (list-chunk-at t) list-chunk.Post
 list-chunk-returns-2 t c =
-    let x = c .before .before .before .before .before .before .before .before .before .before .before in
-    λ p u l. childless-listed (chunk-entered t (c .before .before .before .before .before) p u l) (x .args .records .now) (x .args .depth) (x .args .parent) (x .args .next) (c .before .before .before .put-record .ensures) (c .if2 .taken)
+    let x = c .before .before .before .before .before .before .before .before .before .before .before .before .before .before .before in
+    λ p u l. childless-listed (chunk-entered t (c .before .before .before .before .before .before .before .before) p u l) (lent (x .args .records .now) (x .args .bytes .now)) (x .args .depth) (x .args .parent) (x .args .next) (c .before .before .before .before .before .put-record .ensures) (c .if2 .taken)
 
 list-chunk-add-count-of : (t : ℕ) → list-chunk-lts.Need-add-count-of (chunk-calls t) (list-chunk-at t) list-chunk.Post
 list-chunk-add-count-of t c = omega arith
@@ -142,52 +154,55 @@ list-chunk-add-list-run t c = omega arith
 
 list-chunk-list-run-requires : (t : ℕ) → list-chunk-lts.Need-list-run-requires (chunk-calls t) (list-chunk-at t) list-chunk.Post
 list-chunk-list-run-requires t c κs =
-    let x = c .before .before .before .before .before .before .before .before .before .before .before .before .before in
-    let e = chunk-entered t (c .before .before .before .before .before .before .before) (x .pre .1 .2 .0) (x .pre .1 .2 .1) (x .pre .1 .2 .2) in
+    let x = c .before .before .before .before .before .before .before .before .before .before .before .before .before .before .before .before .before .before in
+    let e = chunk-entered t (c .before .before .before .before .before .before .before .before .before .before .before) (x .pre .1 .2 .0) (x .pre .1 .2 .1) (x .pre .1 .2 .2) in
     let z = e .counts in
-    let v = c .before .before .before .before .before .before .before .own-length .ensures .1 in
-    let k = c .before .before .before .before .before .put-record .kept .0 in
-    let q = c .before .count-of .ensures in (
+    let v = c .before .before .before .before .before .before .before .before .before .before .before .own-length .ensures .1 in
+    let k = c .before .before .before .before .before .before .before .before .put-record .kept in
+    let q = c .before .before .count-of .ensures in (
       omega arith,
       (
         omega arith,
         record { ends = omega arith; short = omega arith; count-small = q .small; deep = omega arith; over = omega arith; before = omega arith },
-        (e .around, e .kids, inner-laid e q, omega arith),
+        (e .around, e .kids, inner-laid e q, room-less (k .0) (k .1 .0) (omega arith) (x .pre .1 .2 .3)),
       ),
     )
 
-list-chunk-same-length-2 : (t : ℕ) → list-chunk-lts.Need-same-length-2 (chunk-calls t) (list-chunk-at t) list-chunk.Post
-list-chunk-same-length-2 t c = c .before .before .list-run .kept .1 .0 ∙ c .before .before .before .before .before .before .before .before .put-record .kept .0
+list-chunk-same-length-3 : (t : ℕ) → list-chunk-lts.Need-same-length-3 (chunk-calls t) (list-chunk-at t) list-chunk.Post
+list-chunk-same-length-3 t c = c .before .before .before .before .list-run .kept .1 .0 ∙ c .before .before .before .before .before .before .before .before .before .before .before .before .before .put-record .kept .0
+
+list-chunk-same-length-4 : (t : ℕ) → list-chunk-lts.Need-same-length-4 (chunk-calls t) (list-chunk-at t) list-chunk.Post
+list-chunk-same-length-4 t c = c .before .before .before .before .list-run .kept .1 .1 .0 ∙ c .before .before .before .before .before .before .before .before .before .before .before .before .before .put-record .kept .1 .0
 
 list-chunk-returns-3 : (t : ℕ) → list-chunk-lts.Need-returns-3 (chunk-calls t) (list-chunk-at t) list-chunk.Post
 list-chunk-returns-3 t c =
-    let x = c .before .before .before .before .before .before .before .before .before .before .before .before .before .before .before .before in
+    let x = c .before .before .before .before .before .before .before .before .before .before .before .before .before .before .before .before .before .before .before .before .before .before .before in
     λ p u l.
-    let e = chunk-entered t (c .before .before .before .before .before .before .before .before .before .before) p u l in
-    entered-listed e (x .args .records .now) (x .args .depth) (x .args .parent) (x .args .next) (c .before .before .before .before .before .before .before .before .put-record .ensures)
-    (c .before .before .list-run .ensures (e .around) (e .kids) (inner-laid e (c .before .before .before .before .count-of .ensures)))
+    let e = chunk-entered t (c .before .before .before .before .before .before .before .before .before .before .before .before .before .before .before .before) p u l in
+    entered-listed e (lent (x .args .records .now) (x .args .bytes .now)) (x .args .depth) (x .args .parent) (x .args .next) (c .before .before .before .before .before .before .before .before .before .before .before .before .before .put-record .ensures)
+    (c .before .before .before .before .list-run .ensures (e .around) (e .kids) (inner-laid e (c .before .before .before .before .before .before .before .count-of .ensures)))
 
 -- ---- a run
 
 abbrev list-run-Inv-loop : list-run-lts.InvT-loop
-list-run-Inv-loop file records₀ count at end depth parent next from₀ number₀ records from number =
-    (at ≤ from) × (from ≤ end) × (6 * number ≤ from) × (length records ≡ length records₀) ×
-    ((p : Parent) (t : Run) → Laid file at end p count t → Sofar file end count depth parent p records₀ at next t records from number)
+list-run-Inv-loop file records₀ bytes₀ count at end depth parent next from₀ number₀ records bytes from number =
+    (at ≤ from) × (from ≤ end) × (6 * number ≤ from) × (length records ≡ length records₀) × (length bytes ≡ length bytes₀) ×
+    ((p : Parent) (t : Run) → Laid file at end p count t → Sofar file end count depth parent p (lent records₀ bytes₀) at next t (lent records bytes) from number)
 
 abbrev list-run-μ-loop : list-run-lts.MeasureT-loop
-list-run-μ-loop file records₀ count at end depth parent next from₀ number₀ records from number = end - from
+list-run-μ-loop file records₀ bytes₀ count at end depth parent next from₀ number₀ records bytes from number = end - from
 
 -- what is left of the run begins with a chunk of the length that was read
 run-first : (t : ℕ) (c : list-run-lts.After-long-at (run-calls t) (list-run-at t) list-run.Post list-run-Inv-loop list-run-μ-loop) →
-    let x = c .before .before .before .before .before .args in
+    let x = c .before .before .before .before .before .before .args in
     (p : Parent) (u : Run) → Laid (x .file .now) (c .before .before .loop .from) (x .end) p (x .count) u →
     FirstAt (x .file .now) (c .before .before .loop .from) (x .end) p (x .count) (c .long-at .result) u
 run-first t c p u l =
-    let q = c .before .before .before .before .before .pre .1 .1 in
+    let q = c .before .before .before .before .before .before .pre .1 .1 in
     first-at (c .before .loop-test .taken) (q .ends) (q .short) u l (c .long-at .result) (c .long-at .ensures .is)
 
 list-run-loop-holds : (t : ℕ) → list-run-lts.Need-loop-holds (run-calls t) (list-run-at t) list-run.Post list-run-Inv-loop list-run-μ-loop
-list-run-loop-holds t c = (omega arith, omega arith, omega arith, refl, λ p u l. sofar-start l)
+list-run-loop-holds t c = (omega arith, omega arith, omega arith, refl, refl, λ p u l. sofar-start l)
 
 list-run-add-long-at : (t : ℕ) → list-run-lts.Need-add-long-at (run-calls t) (list-run-at t) list-run.Post list-run-Inv-loop list-run-μ-loop
 list-run-add-long-at t c = omega arith
@@ -196,8 +211,8 @@ list-run-long-at-requires : (t : ℕ) → list-run-lts.Need-long-at-requires (ru
 list-run-long-at-requires t c κs =
     let x = c .before .before .before .before in
     let i = c .before .loop .inv in
-    let f = i .4 (x .pre .1 .2 .0) (x .pre .1 .2 .1) (x .pre .1 .2 .2) in
-    let h = header-ends (c .loop-test .taken) (x .pre .1 .1 .ends) (x .pre .1 .1 .short) (f .left) (f .laid) in
+    let f = i .5 (x .before .pre .1 .2 .0) (x .before .pre .1 .2 .1) (x .before .pre .1 .2 .2) in
+    let h = header-ends (c .loop-test .taken) (x .before .pre .1 .1 .ends) (x .before .pre .1 .1 .short) (f .left) (f .laid) in
     omega arith
 
 list-run-cast-stop : (t : ℕ) → list-run-lts.Need-cast-stop (run-calls t) (list-run-at t) list-run.Post list-run-Inv-loop list-run-μ-loop
@@ -207,18 +222,18 @@ list-run-add-stop : (t : ℕ) → list-run-lts.Need-add-stop (run-calls t) (list
 list-run-add-stop t c =
     let x = c .before .before .before .before .before in
     let i = c .before .before .loop .inv in
-    let f = i .4 (x .pre .1 .2 .0) (x .pre .1 .2 .1) (x .pre .1 .2 .2) in
-    let a = run-first t c (x .pre .1 .2 .0) (f .left) (f .laid) in
+    let f = i .5 (x .before .pre .1 .2 .0) (x .before .pre .1 .2 .1) (x .before .pre .1 .2 .2) in
+    let a = run-first t c (x .before .pre .1 .2 .0) (f .left) (f .laid) in
     let m = a .ends in
     let g = a .header in
     omega arith
 
 list-run-list-chunk-requires : (t : ℕ) → list-run-lts.Need-list-chunk-requires (run-calls t) (list-run-at t) list-run.Post list-run-Inv-loop list-run-μ-loop
 list-run-list-chunk-requires t c κs =
-    let x = c .before .before .before .before .before .before in
-    let i = c .before .before .before .loop .inv in
-    let f = i .4 (x .pre .1 .2 .0) (x .pre .1 .2 .1) (x .pre .1 .2 .2) in
-    let a = run-first t (c .before) (x .pre .1 .2 .0) (f .left) (f .laid) in
+    let x = c .before .before .before .before .before .before .before .before in
+    let i = c .before .before .before .before .loop .inv in
+    let f = i .5 (x .pre .1 .2 .0) (x .pre .1 .2 .1) (x .pre .1 .2 .2) in
+    let a = run-first t (c .before .before) (x .pre .1 .2 .0) (f .left) (f .laid) in
     let m = a .ends in
     let g = a .header in
     let s = split-count (f .left) in
@@ -227,29 +242,29 @@ list-run-list-chunk-requires t c κs =
       (
         omega arith,
         record { ends = omega arith; short = omega arith; count-small = x .pre .1 .1 .count-small; deep = omega arith; over = omega arith; before = omega arith },
-        (x .pre .1 .2 .0, f .left, a .alone, omega arith),
+        (x .pre .1 .2 .0, f .left, a .alone, room-less (i .3) (i .4) (omega arith) (x .pre .1 .2 .3)),
       ),
     )
 
 list-run-loop-less : (t : ℕ) → list-run-lts.Need-loop-less (run-calls t) (list-run-at t) list-run.Post list-run-Inv-loop list-run-μ-loop
 list-run-loop-less t c =
-    let x = c .before .before .before .before .before .before .before .before .before in
-    let i = c .before .before .before .before .before .before .loop .inv in
-    let f = i .4 (x .pre .1 .2 .0) (x .pre .1 .2 .1) (x .pre .1 .2 .2) in
-    let a = run-first t (c .before .before .before .before) (x .pre .1 .2 .0) (f .left) (f .laid) in
+    let x = c .before .before .before .before .before .before .before .before .before .before .before .before .before in
+    let i = c .before .before .before .before .before .before .before .before .before .loop .inv in
+    let f = i .5 (x .pre .1 .2 .0) (x .pre .1 .2 .1) (x .pre .1 .2 .2) in
+    let a = run-first t (c .before .before .before .before .before .before .before) (x .pre .1 .2 .0) (f .left) (f .laid) in
     let m = a .ends in
     let g = a .header in
     omega arith
 
 list-run-loop-again : (t : ℕ) → list-run-lts.Need-loop-again (run-calls t) (list-run-at t) list-run.Post list-run-Inv-loop list-run-μ-loop
 list-run-loop-again t c =
-    let x = c .before .before .before .before .before .before .before .before .before in
-    let i = c .before .before .before .before .before .before .loop .inv in
-    let f = i .4 (x .pre .1 .2 .0) (x .pre .1 .2 .1) (x .pre .1 .2 .2) in
-    let a = run-first t (c .before .before .before .before) (x .pre .1 .2 .0) (f .left) (f .laid) in
+    let x = c .before .before .before .before .before .before .before .before .before .before .before .before .before in
+    let i = c .before .before .before .before .before .before .before .before .before .loop .inv in
+    let f = i .5 (x .pre .1 .2 .0) (x .pre .1 .2 .1) (x .pre .1 .2 .2) in
+    let a = run-first t (c .before .before .before .before .before .before .before) (x .pre .1 .2 .0) (f .left) (f .laid) in
     let m = a .ends in
     let g = a .header in
-    let d = c .before .before .list-chunk in
+    let d = c .before .before .before .before .list-chunk in
     let h = d .ensures (x .pre .1 .2 .0) (f .left) (a .alone) in
     let z = a .size-is in
     let y = h .counts in
@@ -258,43 +273,53 @@ list-run-loop-again t c =
       omega arith,
       omega arith,
       d .kept .1 .0 ∙ i .3,
+      d .kept .1 .1 .0 ∙ i .4,
       λ p u l.
-          let f₁ = i .4 p u l in
-          let a₁ = run-first t (c .before .before .before .before) p (f₁ .left) (f₁ .laid) in
+          let f₁ = i .5 p u l in
+          let a₁ = run-first t (c .before .before .before .before .before .before .before) p (f₁ .left) (f₁ .laid) in
           sofar-next f₁ a₁ (d .ensures p (f₁ .left) (a₁ .alone)),
     )
 
 list-run-same-length : (t : ℕ) → list-run-lts.Need-same-length (run-calls t) (list-run-at t) list-run.Post list-run-Inv-loop list-run-μ-loop
 list-run-same-length t c = c .before .loop .inv .3
 
+list-run-same-length-2 : (t : ℕ) → list-run-lts.Need-same-length-2 (run-calls t) (list-run-at t) list-run.Post list-run-Inv-loop list-run-μ-loop
+list-run-same-length-2 t c = c .before .loop .inv .4
+
 list-run-returns : (t : ℕ) → list-run-lts.Need-returns (run-calls t) (list-run-at t) list-run.Post list-run-Inv-loop list-run-μ-loop
 list-run-returns t c =
     let x = c .before .before .before .before in
-    λ p u l. sofar-ends (c .before .loop .inv .4 p u l) (x .pre .1 .1 .ends) (c .loop-test .left)
+    λ p u l. sofar-ends (c .before .loop .inv .5 p u l) (x .before .pre .1 .1 .ends) (c .loop-test .left)
 
 pub +list-chunk+list-run-spec : {M : Type 1} → statement M
 +list-chunk+list-run-spec = close μ-list-chunk μ-list-run (λ t. list-chunk-lts.spec (chunk-calls t)
     (list-chunk-at t)
     list-chunk.Post
     (list-chunk-word-at-requires t)
-    (list-chunk-cast-id t)
+    (list-chunk-cast-row t)
     (list-chunk-row-requires t)
     (list-chunk-returns t)
     (list-chunk-add-own-length t)
     (list-chunk-own-length-requires t)
-    (list-chunk-mul-put-record t)
-    (list-chunk-sub-put-record t)
+    (list-chunk-cast-t19 t)
+    (list-chunk-sub-t17 t)
+    (list-chunk-cast-t20 t)
+    (list-chunk-cast-t21 t)
+    (list-chunk-cast-t22 t)
+    (list-chunk-cast-t23 t)
     (list-chunk-put-record-requires t)
     (list-chunk-add-from t)
     (list-chunk-add-from-2 t)
     (list-chunk-add-after t)
     (list-chunk-same-length t)
+    (list-chunk-same-length-2 t)
     (list-chunk-returns-2 t)
     (list-chunk-add-count-of t)
     (list-chunk-count-of-requires t)
     (list-chunk-add-list-run t)
     (list-chunk-list-run-requires t)
-    (list-chunk-same-length-2 t)
+    (list-chunk-same-length-3 t)
+    (list-chunk-same-length-4 t)
     (list-chunk-returns-3 t))
     λ t. list-run-lts.spec
     (run-calls t)
@@ -311,4 +336,5 @@ pub +list-chunk+list-run-spec : {M : Type 1} → statement M
     (list-run-loop-less t)
     (list-run-loop-again t)
     (list-run-same-length t)
+    (list-run-same-length-2 t)
     (list-run-returns t)

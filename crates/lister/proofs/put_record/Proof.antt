@@ -1,114 +1,81 @@
--- Six stores, each within the row.
+-- Into each row that is in use; an empty one stays empty.
+use mathlib.Core.Path.{_≡_, sym, ap, _∙_}
+use mathlib.Core.Logic.{⊎-elim}
+use mathlib.Core.List.{List, [], _∷_}
+use Prim.Native.Nat.{ℕ, _*_}
 use native.Mathlib.Omega.{arith}
-use lib.ListN.{length-set}
+use lib.ListN.{length}
+use lib.Seq.{sets, length-sets}
+use Rattle.rules.specs.Bytes.{packed}
+use Rattle.rules.specs.Gives.{flat}
 use borrow.Author.Needs.{needs}
-use Rattle.lister.proofs.Rows.{six-stores}
+use Rattle.lister.proofs.Rows.{sets-empty}
 use Rattle.lister.proofs.put_record.Statement.{statement}
 use Rattle.lister.proofs.put_record.Tie as tie
+use Rattle.lister.proofs.put_record.Reads as reads
+use Rattle.lister.proofs.put_record.Lts as lts
+use Rattle.lister.proofs.put_bytes.Reads as put-bytes-reads
+use Rattle.lister.proofs.put_numbers.Reads as put-numbers-reads
 
-cast-records : tie.Need-cast-records
-cast-records c = search needs
+abbrev calls : lts.Claims
+calls = (put-numbers-reads.Asked, put-numbers-reads.Learnt, put-bytes-reads.Asked, put-bytes-reads.Learnt)
 
-mul-records : tie.Need-mul-records
-mul-records c = search needs
+empty-stays : (row : List ℕ) (i : ℕ) (xs : List ℕ) → length row ≡ 0 → row ≡ sets row i xs
+empty-stays [] i xs e = sym (sets-empty i xs)
+empty-stays (x ∷ row) i xs e = absurd (omega arith)
 
-slice-write-records : tie.Need-slice-write-records
-slice-write-records c = search needs
+numbers-put : (c : lts.Joined1 calls reads.Pre reads.Post) → let x = c .before .before .before .args in
+    c .if1 .records ≡ sets (x .records .now) (6 * x .next) (flat (x .r ∷ []))
+numbers-put c =
+    let x = c .before .before .before .args in
+    ⊎-elim (λ w. w .5 ∙ w .2 .ensures) (λ w. w .1 ∙ empty-stays (x .records .now) (6 * x .next) (flat (x .r ∷ [])) (w .0 .left)) (c .if1 .came)
 
-cast-records-2 : tie.Need-cast-records-2
-cast-records-2 c = search needs
+numbers-kept : (c : lts.Joined1 calls reads.Pre reads.Post) → length (c .if1 .records) ≡ length (c .before .before .before .args .records .now)
+numbers-kept c =
+    let x = c .before .before .before .args in
+    ap length (numbers-put c) ∙ length-sets (x .records .now) (6 * x .next) (flat (x .r ∷ []))
 
-add-records : tie.Need-add-records
-add-records c = search needs
+mul-put-numbers : tie.Need-mul-put-numbers
+mul-put-numbers c = search needs
 
-mul-records-2 : tie.Need-mul-records-2
-mul-records-2 c = search needs
+put-numbers-requires : tie.Need-put-numbers-requires
+put-numbers-requires c κs = let r = c .before .before .before .before .pre .1 .numbers (omega arith) in omega arith
 
-slice-write-records-2 : tie.Need-slice-write-records-2
-slice-write-records-2 c = simp length-set (omega arith)
+mul-put-bytes : tie.Need-mul-put-bytes
+mul-put-bytes c = search needs
 
-cast-records-3 : tie.Need-cast-records-3
-cast-records-3 c = search needs
-
-add-records-2 : tie.Need-add-records-2
-add-records-2 c = search needs
-
-mul-records-3 : tie.Need-mul-records-3
-mul-records-3 c = search needs
-
-slice-write-records-3 : tie.Need-slice-write-records-3
-slice-write-records-3 c = simp length-set (omega arith)
-
-cast-records-4 : tie.Need-cast-records-4
-cast-records-4 c = search needs
-
-add-records-3 : tie.Need-add-records-3
-add-records-3 c = search needs
-
-mul-records-4 : tie.Need-mul-records-4
-mul-records-4 c = search needs
-
-slice-write-records-4 : tie.Need-slice-write-records-4
-slice-write-records-4 c = simp length-set (omega arith)
-
-cast-records-5 : tie.Need-cast-records-5
-cast-records-5 c = search needs
-
-add-records-4 : tie.Need-add-records-4
-add-records-4 c = search needs
-
-mul-records-5 : tie.Need-mul-records-5
-mul-records-5 c = search needs
-
-slice-write-records-5 : tie.Need-slice-write-records-5
-slice-write-records-5 c = simp length-set (omega arith)
-
-cast-records-6 : tie.Need-cast-records-6
-cast-records-6 c = search needs
-
-add-records-5 : tie.Need-add-records-5
-add-records-5 c = search needs
-
-mul-records-6 : tie.Need-mul-records-6
-mul-records-6 c = search needs
-
-slice-write-records-6 : tie.Need-slice-write-records-6
-slice-write-records-6 c = simp length-set (omega arith)
+put-bytes-requires : tie.Need-put-bytes-requires
+put-bytes-requires c κs = let r = c .before .before .before .before .before .pre .1 .bytes (omega arith) in omega arith
 
 same-length : tie.Need-same-length
-same-length c = search needs
+same-length c = numbers-kept (c .before .before .before .before .before)
+
+same-length-2 : tie.Need-same-length-2
+same-length-2 c = search needs
 
 returns : tie.Need-returns
-returns c =
-    let a = c .args in
-    six-stores (a .records .now) (a .i) (a .id) (a .at) (a .len) (a .depth) (a .parent) (a .own)
+returns c = let n = numbers-put (c .before .before .before .before .before) in let b = c .before .before .put-bytes .ensures in cc
+
+same-length-3 : tie.Need-same-length-3
+same-length-3 c = numbers-kept (c .before)
+
+returns-2 : tie.Need-returns-2
+returns-2 c =
+    let x = c .before .before .before .before .args in
+    let n = numbers-put (c .before) in
+    let b = empty-stays (x .bytes .now) (24 * x .next) (packed 4 (flat (x .r ∷ []))) (c .if2 .left) in
+    cc
 
 pub put-record-spec : {M : Type 1} → statement M
 put-record-spec =
     tie.close
     (tie.spec
-    cast-records
-    mul-records
-    slice-write-records
-    cast-records-2
-    add-records
-    mul-records-2
-    slice-write-records-2
-    cast-records-3
-    add-records-2
-    mul-records-3
-    slice-write-records-3
-    cast-records-4
-    add-records-3
-    mul-records-4
-    slice-write-records-4
-    cast-records-5
-    add-records-4
-    mul-records-5
-    slice-write-records-5
-    cast-records-6
-    add-records-5
-    mul-records-6
-    slice-write-records-6
+    mul-put-numbers
+    put-numbers-requires
+    mul-put-bytes
+    put-bytes-requires
     same-length
-    returns)
+    same-length-2
+    returns
+    same-length-3
+    returns-2)
