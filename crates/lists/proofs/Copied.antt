@@ -1,6 +1,6 @@
 -- Numbers of the file, given out as bytes: they are the bytes that stand there.
-use mathlib.Core.Path.{_≡_, refl, sym, ap, _∙_}
-use mathlib.Core.List.{List, [], _∷_, _++_, append-assoc}
+use mathlib.Core.Path.{_≡_, sym, ap, _∙_}
+use mathlib.Core.List.{List, [], _∷_, _++_}
 use Prim.Native.Nat.{ℕ, zero, suc, _+_, _*_, _<_, _≤_}
 use native.Mathlib.Nat.{mul-zero, mul-suc, add-comm}
 use native.Mathlib.Numerals.{add-one}
@@ -10,7 +10,7 @@ use lib.Seq.{drop-drop, take-add, take-suc, getD-drop, length-take-le}
 use Rattle.rules.specs.Bytes.{value, le, packed, numbers, Bytes}
 use Rattle.rules.specs.OwnData.{corners}
 use Rattle.rules.specs.Calls.{filled}
-use Rattle.rules.proofs.Bytes.{bytes-drop, bytes-take, le-value}
+use Rattle.rules.proofs.Bytes.{bytes-drop, bytes-take, le-value, packed-append}
 use Rattle.little_endian.specs.Numbers.{wordAt, longAt}
 use Rattle.scan.proofs.Lists.{faces-more}
 use Rattle.lists.proofs.Fill.{fill-at}
@@ -40,10 +40,6 @@ byte-more s at i row h l =
     rw (add-one i, take-suc (drop at s) i 0 d, getD-drop at s i 0) (fill-at (take i (drop at s)) row (getD s (at + i) 0) i (length-take-le i (drop at s) (omega arith)) l)
 
 -- ---- corners
-
-packed-append : (w : ℕ) (ms ns : List ℕ) → packed w (ms ++ ns) ≡ packed w ms ++ packed w ns
-packed-append w [] ns = refl
-packed-append w (m ∷ ms) ns = rw (packed-append w ms ns, append-assoc (le w m) (packed w ms) (packed w ns))
 
 -- the corners of a face are its first three words, or a 4-byte number and a word
 corners-are : (s : List ℕ) → corners 1 s ≡ numbers 2 3 s
