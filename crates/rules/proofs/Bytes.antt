@@ -1,10 +1,12 @@
 -- Numbers as bytes and back, and parts of lists of bytes.
 use mathlib.Core.Path.{_≡_, refl, ap, _∙_}
 use Prim.Native.Nat.{ℕ, zero, suc, _+_, _*_, _/_, _%_, _^_, _<_, _≤_}
+use native.Mathlib.Numerals.{add-one}
 use native.Mathlib.Omega.{arith}
 use native.Mathlib.Nat.{mul-zero, mul-suc, mod-add-div, div-lt-iff-lt-mul}
-use mathlib.Core.List.{List, [], _∷_, _++_, append-assoc}
-use lib.ListN.{length, take, drop, length-append}
+use mathlib.Core.List.{List, [], _∷_, _++_, append-assoc, append-nil}
+use lib.ListN.{length, take, drop, getD, length-append}
+use lib.Seq.{take-suc}
 use lib.Arith.{digits-div, digits-mod}
 use Rattle.rules.specs.Bytes.{value, le, packed, Bytes}
 use Rattle.rules.specs.Layout.{header}
@@ -32,6 +34,10 @@ length-packed w (n ∷ ns) = length-append (le w n) (packed w ns) ∙ omega (ari
 pub packed-append : (w : ℕ) (ms ns : List ℕ) → packed w (ms ++ ns) ≡ packed w ms ++ packed w ns
 packed-append w [] ns = refl
 packed-append w (m ∷ ms) ns = rw (packed-append w ms ns, append-assoc (le w m) (packed w ms) (packed w ns))
+
+-- the first i + 1 numbers
+pub packed-more : (w : ℕ) (ns : List ℕ) (i d : ℕ) → i < length ns → packed w (take (i + 1) ns) ≡ packed w (take i ns) ++ le w (getD ns i d)
+packed-more w ns i d h = rw (add-one, take-suc ns i d h, packed-append w (take i ns) (getD ns i d ∷ []), append-nil (le w (getD ns i d)))
 
 pub value-le : (w n : ℕ) → n < 256 ^ w → value (le w n) ≡ n
 value-le zero n h = omega arith

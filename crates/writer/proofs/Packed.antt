@@ -1,4 +1,4 @@
--- Numbers one after another, and the words of faces: how long they are, and one more at the end.
+-- The words of faces: how many they are, and one face more at the end.
 use mathlib.Core.Path.{_≡_, refl, ap, _∙_}
 use Prim.Native.Nat.{ℕ, zero, suc, _+_, _*_, _<_, _≤_}
 use native.Mathlib.Nat.{mul-zero, mul-suc}
@@ -10,12 +10,6 @@ use lib.Seq.{take-suc, drop-cons, drop-drop, length-take-le}
 use Rattle.rules.specs.Bytes.{le, packed}
 use Rattle.rules.proofs.Bytes.{length-packed, packed-append}
 use Rattle.writer.specs.Bare.{faceWords}
-
--- the first i + 1 numbers
-pub packed-more : (w : ℕ) (ns : List ℕ) (i d : ℕ) → i < length ns → packed w (take (i + 1) ns) ≡ packed w (take i ns) ++ le w (getD ns i d)
-packed-more w ns i d h = rw (add-one, take-suc ns i d h, packed-append w (take i ns) (getD ns i d ∷ []), append-nil (le w (getD ns i d)))
-
--- ---- faces
 
 pub length-face-words : (f : ℕ) (corners : List ℕ) → 3 * f ≤ length corners → length (faceWords f corners) ≡ 4 * f
 length-face-words zero corners h = refl

@@ -6,13 +6,13 @@ use mathlib.Core.List.{map}
 use lib.Ieee.{binary32, nan, toBits}
 use lib.ListN.{length, take, length-map, List·getD-map}
 use lib.Seq.{take-all}
+use Rattle.rules.proofs.Bytes.{packed-more}
 use Rattle.rules.specs.Bytes.{packed}
 use Rattle.little_endian.specs.Put.{Put}
 use Rattle.writer.specs.Write.{finiteFloat}
 use Rattle.writer.proofs.FirstFault.{every-at}
 use Rattle.writer.proofs.Floats.{not-nan}
 use Rattle.little_endian.proofs.Put.{put-none, put-then}
-use Rattle.writer.proofs.Packed.{packed-more}
 use Rattle.writer.proofs.put_floats.Statement.{statement}
 use Rattle.writer.proofs.put_floats.Tie as tie
 
