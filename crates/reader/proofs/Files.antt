@@ -115,6 +115,10 @@ top-listed : listed 0x4D4D ≡ true
 unfolding listed rows
 top-listed = refl
 
+pub figure-row : 0x00_1_0_5_004_1 ≡ rowOf 0x4D4D
+unfolding packedRows rowOf
+figure-row = refl
+
 pub top-context : (row : ℕ) → row ≡ rowOf 0x4D4D → Context (inside file 0x4D4D []) [] row 0 noMarks
 top-context row e = context-inside file 0x4D4D [] row 0 top-listed e record { is = refl; small = omega arith }
 
