@@ -4,13 +4,12 @@ use Prim.Native.Nat.{ℕ}
 use mathlib.Core.Bool.{Bool, true, false, _||_, false≢true, true≢false}
 use mathlib.Core.List.{List, [], _∷_, _++_}
 use lib.Dec.{T, eqb}
-use lib.ListN.{take, drop}
 use borrow.Author.Tests.{eqb-true, eqb-false}
 use mir.Val.{hasKey}
 use types.Run.{OneOf, hit}
 use Rattle.rules.specs.Table.{rows, among, listed}
 use Rattle.rules.proofs.Rows.{everyId, listed-every}
-use Rattle.table.specs.Packed.{Packed, packedRows, rowOf}
+use Rattle.table.specs.Packed.{rowOf}
 use Rattle.table.proofs.Facts.{row-of-unlisted}
 
 among-key : (ks : List ℕ) (x : ℕ) → among x ks ≡ true → T (hasKey ks x)
@@ -55,14 +54,19 @@ no-row-by test h x f = row-of-unlisted x (go (listed x) refl)
     go true e = absurd (true≢false (sym (listed-every test h x e) ∙ f))
     go false e = refl
 
--- ---- the arms: those of the rows up to 4D4D, and those of materials beyond it
+-- ---- the arms, by their keys: those of the rows up to 4D4D, and those of materials beyond it
 
-abbrev idsOf : List Packed → List (List ℕ)
-idsOf [] = []
-idsOf (r ∷ rs) = r .ids ∷ idsOf rs
+abbrev alone : List ℕ → List (List ℕ)
+alone [] = []
+alone (k ∷ ks) = (k ∷ []) ∷ alone ks
 
 unfoldable pub arms : List (List ℕ)
-arms = idsOf (take 7 packedRows ++ drop 11 packedRows)
+arms =
+    alone (0x4D4D ∷ 0x0002 ∷ 0x3D3D ∷ []) ++
+    ((0x1400 ∷ 0x1450 ∷ 0x1460 ∷ 0x3D3E ∷ []) ∷ alone (0x1420 ∷ 0x1470 ∷ 0x2100 ∷ [])) ++
+    ((0x0010 ∷ 0x0013 ∷ []) ∷ alone (0x0011 ∷ 0x0012 ∷ 0x0030 ∷ 0x0031 ∷ 0x4000 ∷ [])) ++
+    ((0x4010 ∷ 0x4012 ∷ 0x4015 ∷ []) ∷ (0x4013 ∷ 0x4017 ∷ []) ∷ alone (0x4100 ∷ 0x4110 ∷ 0x4120 ∷ 0x4130 ∷ 0x4150 ∷ 0x4140 ∷ 0x4160 ∷ 0x4165 ∷ [])) ++
+    alone (0x4600 ∷ 0x4610 ∷ 0x4620 ∷ 0x4651 ∷ 0x4653 ∷ 0x4656 ∷ 0x4700 ∷ [])
 
 unfoldable pub materialArms : List (List ℕ)
-materialArms = idsOf (take 4 (drop 7 packedRows))
+materialArms = (0xAFFF ∷ []) ∷ (0xA000 ∷ []) ∷ (0xA010 ∷ 0xA020 ∷ 0xA030 ∷ []) ∷ (0xA040 ∷ []) ∷ []

@@ -1,5 +1,5 @@
-// The chunk table of document 01 as code looks it up. A row is one number, so that looking at it costs nothing; crate
-// rules has the table in words, and proofs/Facts that each number says what its row says there.
+// The chunk table of document 01 as code looks it up. A row is one number, so that looking at it costs nothing: the row
+// of crate rules, packed as specs/Packed says.
 ghost use mathlib.Core.Path.{_≡_};
 ghost use Prim.Native.Nat.{_<_};
 ghost use Rattle.table.specs.Packed.{rowOf, mayHoldIn, plusIn, plainIn, kindIn, Slot, Size};
