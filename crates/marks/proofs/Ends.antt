@@ -23,7 +23,7 @@ use Rattle.rules.proofs.Sound.{length-bytes}
 use Rattle.little_endian.specs.Numbers.{wordAt}
 use Rattle.little_endian.proofs.Slices.{word-slice, drop-slice}
 use Rattle.scan.proofs.Parts.{corners-slice}
-use Rattle.table.specs.Packed.{slotOf, rowOf, packedRows}
+use Rattle.table.specs.Packed.{places, slotOf, rowOf}
 use Rattle.table.proofs.Facts.{SlotTest, groupSlot, same, same-is}
 use Rattle.marks.specs.declared.Shut.{Shut}
 use Rattle.marks.specs.Marks.{tallySlot, Under, marksAfter, noMarks, Kept, ShutIs, Placed, countAt, cornersAt, pairsAt, MeshPlaced, meshBroken}
@@ -102,7 +102,7 @@ pub record Groups (ys : List ℕ) : Type 0 where
   pub pairs : Group 0x4140 2 ys
 
 mesh-groups : (ys : List ℕ) → every (allSlot ys) (limits 0x4100) ≡ true → few 0x4100 ys ≡ true → Groups ys
-unfolding limits atMostOne every packedRows rowOf
+unfolding rows limits atMostOne every places rowOf
 mesh-groups ys a f =
     let a₀ = and-parts (allSlot ys (0x4110 ∷ [])) _ a in
     let a₁ = and-parts (allSlot ys (0x4120 ∷ [])) _ (a₀ .1) in
@@ -261,14 +261,14 @@ module _ (p : Parent) (own : List ℕ) (t : Run) (s : List ℕ) (from stop : ℕ
 
 module _ (p : Parent) (own : List ℕ) (t : Run) (s : List ℕ) (from stop : ℕ) (marks : List ℕ) where
   pub figure-needs : Kept p 0x4D4D own t s from stop marks → eqb (getD marks 1 0) 0 ≡ not (noneMissing p 0x4D4D own t)
-  unfolding rows listed limits atMostOne needs atLeastOne every packedRows rowOf
+  unfolding rows listed limits atMostOne needs atLeastOne every places rowOf
   figure-needs k =
       let a = and-parts (allSlot (identifiers t) (0x0002 ∷ [])) _ (groups-slotted 0x4D4D refl (identifiers t) (under-of (inside p 0x4D4D own) t (k .obeys))) in
       needed p 0x4D4D own t s from stop marks k 0x3D3D (and-parts (allSlot (identifiers t) (0x3D3D ∷ [])) true (a .1) .0) (omega arith) ∙
       ap not (sym (and-true (leb 1 (tally (0x3D3D ∷ []) (identifiers t)))))
 
   pub material-needs : Kept p 0xAFFF own t s from stop marks → eqb (getD marks 0 0) 0 ≡ not (noneMissing p 0xAFFF own t)
-  unfolding rows listed limits atMostOne needs atLeastOne every packedRows rowOf
+  unfolding rows listed limits atMostOne needs atLeastOne every places rowOf
   material-needs k =
       let a = groups-slotted 0xAFFF refl (identifiers t) (under-of (inside p 0xAFFF own) t (k .obeys)) in
       needed p 0xAFFF own t s from stop marks k 0xA000 (and-parts (allSlot (identifiers t) (0xA000 ∷ [])) true a .0) (omega arith) ∙

@@ -14,7 +14,7 @@ use Rattle.rules.specs.declared.Refusal.the-variants.{TooLong, NotAFigure, Shor
 use Rattle.rules.specs.declared.Counts.{Counts}
 use Rattle.rules.specs.declared.Checked.{Checked}
 use Rattle.rules.specs.Bytes.{Bytes, value}
-use Rattle.rules.specs.Table.{rows, listed}
+use Rattle.rules.specs.Table.{rows, listed, limits, atMostOne}
 use Rattle.rules.specs.Layout.{Run, end, skip, known, figure, size}
 use Rattle.rules.specs.Rules.{Parent, file, inside, limit}
 use Rattle.rules.specs.Gives.{recordCount, headers, owned, skipped}
@@ -24,7 +24,7 @@ use Rattle.rules.proofs.Conditions.{met, unbroken, broken-here, broken-later}
 use Rattle.rules.proofs.Sound.{length-bytes}
 use Rattle.rules.proofs.Demands.{counted-once}
 use Rattle.little_endian.specs.Numbers.{wordAt, longAt}
-use Rattle.table.specs.Packed.{rowOf, packedRows}
+use Rattle.table.specs.Packed.{places, rowOf}
 use Rattle.own_data.specs.Own.{CountIs}
 use Rattle.marks.specs.declared.Shut.{Shut}
 use Rattle.marks.specs.Marks.{noMarks, Kept, ShutIs, MeshPlaced}
@@ -114,6 +114,10 @@ module _ (s : List ℕ) where
 top-listed : listed 0x4D4D ≡ true
 unfolding listed rows
 top-listed = refl
+
+pub figure-row : 0x00_1_0_5_004_1 ≡ rowOf 0x4D4D
+unfolding rows limits atMostOne places rowOf
+figure-row = refl
 
 pub top-context : (row : ℕ) → row ≡ rowOf 0x4D4D → Context (inside file 0x4D4D []) [] row 0 noMarks
 top-context row e = context-inside file 0x4D4D [] row 0 top-listed e record { is = refl; small = omega arith }

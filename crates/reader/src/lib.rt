@@ -254,7 +254,7 @@ fn check_figure(file: &[u8]) -> Checked
 {
     let size = file.len();
     let mut marks = [0u32; 5];
-    match run(file, table::row(0x4D4D), 0, 6, size, &mut marks) {
+    match run(file, table::FIGURE, 0, 6, size, &mut marks) {
         Ran::Refused(r) => Checked::Refused(r),
         Ran::Done {
             next: _,

@@ -1,3 +1,4 @@
+pub mod Halves
 pub mod Lists
 pub mod Names
 pub mod Parts

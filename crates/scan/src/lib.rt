@@ -1,7 +1,6 @@
 // Scans of own data in a slice: where a name ends, and whether all numbers of a list pass a test. The loops branch on
 // nothing that they read, so that they run as fast as the bytes come.
 use little_endian::is_finite;
-use little_endian::long_at;
 use little_endian::word_at;
 ghost use mathlib.Core.Path.{_≡_};
 ghost use Prim.Native.Nat.{_+_, _*_, _≤_, max};
@@ -11,6 +10,7 @@ ghost use Rattle.rules.specs.Bytes.{numbers, every};
 ghost use Rattle.rules.specs.OwnData.{nameSize, corners, finite};
 ghost use Rattle.rules.specs.Rules.{allBelow};
 ghost use Rattle.scan.specs.Names.{NoZero, NameOn};
+ghost use Rattle.scan.specs.Halves.{Halves};
 ghost use mathlib.Core.Bool.{true};
 
 // Whether none of the 32 bytes at a position is zero.
@@ -59,6 +59,22 @@ pub fn name_size(s: &[u8], at: usize, end: usize) -> usize
     i + 1 - at
 }
 
+// The 4-byte number that a part begins with. Its bytes stand at fixed places of the part, so that it is one load.
+fn first_long(s: &[u8]) -> u32
+    requires { ⌜ 4 ≤ length (now s) ⌝ }
+    ensures { λ r. ⌜ Halves (now (s .entry)) 0 r ⌝ }
+{
+    (s[0] as u32) + 256 * (s[1] as u32) + 65536 * (s[2] as u32) + 16777216 * (s[3] as u32)
+}
+
+// The 4-byte number at a position, by one load: a loop of such loads becomes vector code.
+fn load_long(s: &[u8], at: usize) -> u32
+    requires { ⌜ at + 4 ≤ length (now s) ⌝ }
+    ensures { λ r. ⌜ Halves (now (s .entry)) at r ⌝ }
+{
+    first_long(&s[at..])
+}
+
 // Whether the n floats at a position are finite.
 pub fn all_finite(s: &[u8], at: usize, n: usize) -> bool
     requires { ⌜ at + 4 * n ≤ length (now s) ⌝ }
@@ -67,7 +83,7 @@ pub fn all_finite(s: &[u8], at: usize, n: usize) -> bool
     let mut good = true;
     let mut i = 0usize;
     while i < n {
-        if !is_finite(long_at(s, at + 4 * i)) {
+        if !is_finite(load_long(s, at + 4 * i)) {
             good = false;
         }
         i += 1;
@@ -102,9 +118,10 @@ fn face_below(s: &[u8], at: usize, limit: u32) -> bool
     requires { ⌜ at + 8 ≤ length (now s) ⌝ }
     ensures { λ r. ⌜ r ≡ allBelow limit (corners 1 (drop at (now (s .entry)))) ⌝ }
 {
-    let a = word_at(s, at);
-    let b = word_at(s, at + 2);
-    let c = word_at(s, at + 4);
+    let ab = load_long(s, at);
+    let a = ab % 65536;
+    let b = ab / 65536;
+    let c = load_long(s, at + 4) % 65536;
     larger(larger(a, b), c) < limit
 }
 

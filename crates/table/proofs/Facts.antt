@@ -1,15 +1,15 @@
 -- What a packed row says, in the words of crate rules: one test for each field, computed over the whole table.
 use mathlib.Core.Path.{_≡_, refl, sym, ap, _∙_}
 use Prim.Native.Nat.{ℕ, _≤_}
-use mathlib.Core.Bool.{Bool, true, false, not, _&&_, _||_, cond, true≢false, false≢true}
+use mathlib.Core.Bool.{Bool, true, false, not, _&&_, _||_, false≢true}
 use mathlib.Core.List.{List, [], _∷_}
 use lib.Dec.{eqb, ltb, leb}
 use borrow.Author.Tests.{eqb-true, not-true, leb-true}
 use Rattle.rules.specs.Bytes.{every}
 use Rattle.rules.specs.Table.{Shape, fixed, name, counted, each, named-words, rows, atMostOne, atLeastOne, among, listed, under, shape, plus, limits, needs}
 use Rattle.rules.proofs.Bools.{and-parts, or-second}
-use Rattle.rules.proofs.Rows.{everyId, among-every, listed-every, under-listed}
-use Rattle.table.specs.Packed.{Packed, packedRows, rowAmong, rowOf, mayHoldIn, plusIn, plainIn, slotOf, kindIn, sizeIn, shapeFrom, shapeIn}
+use Rattle.rules.proofs.Rows.{everyId, listed-every, under-listed}
+use Rattle.table.specs.Packed.{places, kindOf, sizeOf, rowOf, mayHoldIn, plusIn, plainIn, slotOf, kindIn, sizeIn, shapeFrom, shapeIn}
 
 -- ---- tests that two things are the same
 
@@ -25,41 +25,27 @@ same-is false false h = refl
 -- ---- listed or not
 
 listed-test : everyId (λ x. not (eqb (rowOf x) 0)) rows ≡ true
-unfolding rows every packedRows rowOf
+unfolding rows every places limits atMostOne rowOf
 listed-test = refl
 
 pub row-of-listed : (x : ℕ) → listed x ≡ true → eqb (rowOf x) 0 ≡ false
 row-of-listed x l = not-true _ (listed-every (λ x. not (eqb (rowOf x) 0)) listed-test x l)
 
--- every identifier of a packed row is listed
-keys-test : every (λ (r : Packed). every listed (r .ids)) packedRows ≡ true
-unfolding rows every packedRows listed
-keys-test = refl
-
-no-row : (x : ℕ) → listed x ≡ false → (rs : List Packed) → every (λ (r : Packed). every listed (r .ids)) rs ≡ true → rowAmong x rs ≡ 0
-unfolding every
-no-row x l [] h = refl
-no-row x l (r ∷ rs) h = go (among x (r .ids)) refl (no-row x l rs (and-parts (every listed (r .ids)) _ h .1))
-  where
-    go : (b : Bool) → among x (r .ids) ≡ b → rowAmong x rs ≡ 0 → cond b (r .row) (rowAmong x rs) ≡ 0
-    go true e ih = absurd (true≢false (sym (among-every listed x (r .ids) (and-parts (every listed (r .ids)) _ h .0) e) ∙ l))
-    go false e ih = ih
-
 pub row-of-unlisted : (x : ℕ) → listed x ≡ false → rowOf x ≡ 0
-unfolding rowOf
-row-of-unlisted x l = no-row x l packedRows keys-test
+unfolding rowOf listed
+row-of-unlisted x l = rw l
 
 -- ---- the fields
 
 plus-test : everyId (λ x. same (plusIn (rowOf x)) (plus x)) rows ≡ true
-unfolding rows every packedRows rowOf plus
+unfolding rows every places limits atMostOne rowOf plus
 plus-test = refl
 
 pub plus-is : (x : ℕ) → listed x ≡ true → plusIn (rowOf x) ≡ plus x
 plus-is x l = same-is _ _ (listed-every (λ x. same (plusIn (rowOf x)) (plus x)) plus-test x l)
 
 may-hold-test : everyId (λ p. everyId (λ x. same (mayHoldIn (rowOf p) (rowOf x)) (under p x)) rows) rows ≡ true
-unfolding rows every packedRows rowOf under
+unfolding rows every places limits atMostOne rowOf under
 may-hold-test = refl
 
 pub may-hold-is : (p x : ℕ) → listed p ≡ true → listed x ≡ true → mayHoldIn (rowOf p) (rowOf x) ≡ under p x
@@ -69,20 +55,6 @@ may-hold-is p x k l =
     (listed-every (λ p. everyId (λ x. same (mayHoldIn (rowOf p) (rowOf x)) (under p x)) rows) may-hold-test p k) x l)
 
 -- a shape by its kind and its size
-abbrev kindOf : Shape → ℕ
-kindOf (fixed k) = 0
-kindOf name = 1
-kindOf (counted k) = 2
-kindOf (each k) = 3
-kindOf named-words = 4
-
-abbrev sizeOf : Shape → ℕ
-sizeOf (fixed k) = k
-sizeOf name = 0
-sizeOf (counted k) = k
-sizeOf (each k) = k
-sizeOf named-words = 0
-
 shape-back : (sh : Shape) → shapeFrom (kindOf sh) (sizeOf sh) ≡ sh
 shape-back (fixed k) = refl
 shape-back name = refl
@@ -91,7 +63,7 @@ shape-back (each k) = refl
 shape-back named-words = refl
 
 shape-test : everyId (λ x. eqb (kindIn (rowOf x)) (kindOf (shape x)) && eqb (sizeIn (rowOf x)) (sizeOf (shape x))) rows ≡ true
-unfolding rows every packedRows rowOf shape
+unfolding rows every places limits atMostOne rowOf shape
 shape-test = refl
 
 pub shape-is : (x : ℕ) → listed x ≡ true → shapeIn (rowOf x) ≡ shape x
@@ -107,7 +79,7 @@ abbrev unruled : ℕ → Bool
 unruled x = not (eqb x 0x4110) && (not (eqb x 0x4140) && not (eqb x 0x4130))
 
 plain-test : everyId (λ x. not (plainIn (rowOf x)) || (eqb (kindIn (rowOf x)) 0 && (not (plus x) && unruled x))) rows ≡ true
-unfolding rows every packedRows rowOf plus
+unfolding rows every places limits atMostOne rowOf plus
 plain-test = refl
 
 pub record Plain (x : ℕ) : Type 0 where
@@ -147,7 +119,7 @@ abbrev slotted : ℕ → ℕ → Bool
 slotted p x = not (under p x) || (every (SlotTest x) (limits p) && (eqb (slotOf x) 5 || not (every (λ g. not (among x g)) (limits p))))
 
 slot-test : everyId (λ p. everyId (slotted p) rows) rows ≡ true
-unfolding rows every packedRows rowOf under limits atMostOne
+unfolding rows every places limits atMostOne rowOf under
 slot-test = refl
 
 pub slot-is : (p x : ℕ) → listed p ≡ true → under p x ≡ true →
@@ -156,7 +128,7 @@ slot-is p x k u =
     and-parts _ _ (or-second (not (under p x)) _ (listed-every (slotted p) (listed-every (λ p. everyId (slotted p) rows) slot-test p k) x (under-listed p x u)) (rw u))
 
 slot-small-test : everyId (λ x. leb (slotOf x) 5) rows ≡ true
-unfolding rows every packedRows rowOf
+unfolding rows every places limits atMostOne rowOf
 slot-small-test = refl
 
 pub slot-small : (x : ℕ) → listed x ≡ true → slotOf x ≤ 5

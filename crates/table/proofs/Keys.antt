@@ -1,14 +1,16 @@
--- A match on an identifier against the packed rows: what an arm's keys give, and what is left where no arm is taken.
-use mathlib.Core.Path.{_≡_, refl, sym}
+-- A match on an identifier: what is left where no arm is taken.
+use mathlib.Core.Path.{_≡_, refl, sym, _∙_}
 use Prim.Native.Nat.{ℕ}
-use mathlib.Core.Bool.{Bool, true, false, _||_, cond, false≢true}
-use mathlib.Core.List.{List, [], _∷_}
+use mathlib.Core.Bool.{Bool, true, false, _||_, false≢true, true≢false}
+use mathlib.Core.List.{List, [], _∷_, _++_}
 use lib.Dec.{T, eqb}
 use borrow.Author.Tests.{eqb-true, eqb-false}
 use mir.Val.{hasKey}
 use types.Run.{OneOf, hit}
-use Rattle.rules.specs.Table.{among}
-use Rattle.table.specs.Packed.{Packed, rowAmong}
+use Rattle.rules.specs.Table.{rows, among, listed}
+use Rattle.rules.proofs.Rows.{everyId, listed-every}
+use Rattle.table.specs.Packed.{rowOf}
+use Rattle.table.proofs.Facts.{row-of-unlisted}
 
 among-key : (ks : List ℕ) (x : ℕ) → among x ks ≡ true → T (hasKey ks x)
 among-key [] x h = absurd (false≢true h)
@@ -26,13 +28,45 @@ not-among ks x none = go (among x ks) refl
     go true e = absurd (none (hit ks x (among-key ks x e)))
     go false e = refl
 
--- no arm is taken: N holds, and x is none of the keys of any row
-abbrev pub NoArm : ℕ → Type 0 → List Packed → Type 0
-NoArm x N [] = N
-NoArm x N (r ∷ rs) = NoArm x (N × (OneOf (r .ids) x → ⊥)) rs
+-- x is a key of an arm
+abbrev pub armed : ℕ → List (List ℕ) → Bool
+armed x [] = false
+armed x (ks ∷ arms) = among x ks || armed x arms
 
-pub no-arm : (x : ℕ) (N : Type 0) (rs : List Packed) → NoArm x N rs → N × (rowAmong x rs ≡ 0)
+-- no arm is taken: N holds, and x is none of the keys of any arm
+abbrev pub NoArm : ℕ → Type 0 → List (List ℕ) → Type 0
+NoArm x N [] = N
+NoArm x N (ks ∷ arms) = NoArm x (N × (OneOf ks x → ⊥)) arms
+
+pub no-arm : (x : ℕ) (N : Type 0) (arms : List (List ℕ)) → NoArm x N arms → N × (armed x arms ≡ false)
 no-arm x N [] h = (h, refl)
-no-arm x N (r ∷ rs) h =
-    let q = no-arm x (N × (OneOf (r .ids) x → ⊥)) rs h in
-    (q .0 .0, rw (not-among (r .ids) x (q .0 .1)) (q .1))
+no-arm x N (ks ∷ arms) h =
+    let q = no-arm x (N × (OneOf ks x → ⊥)) arms h in
+    (q .0 .0, rw (not-among ks x (q .0 .1)) (q .1))
+
+-- ---- no row
+
+-- a test that each identifier of the table passes: what fails it has no row
+pub no-row-by : (test : ℕ → Bool) → everyId test rows ≡ true → (x : ℕ) → test x ≡ false → rowOf x ≡ 0
+no-row-by test h x f = row-of-unlisted x (go (listed x) refl)
+  where
+    go : (b : Bool) → listed x ≡ b → b ≡ false
+    go true e = absurd (true≢false (sym (listed-every test h x e) ∙ f))
+    go false e = refl
+
+-- ---- the arms, by their keys: those of the rows up to 4D4D, and those of materials beyond it
+
+abbrev alone : List ℕ → List (List ℕ)
+alone [] = []
+alone (k ∷ ks) = (k ∷ []) ∷ alone ks
+
+unfoldable pub arms : List (List ℕ)
+arms =
+    alone (0x4D4D ∷ 0x0002 ∷ 0x3D3D ∷ []) ++
+    ((0x1400 ∷ 0x1450 ∷ 0x1460 ∷ 0x3D3E ∷ []) ∷ alone (0x1420 ∷ 0x1470 ∷ 0x2100 ∷ [])) ++
+    ((0x0010 ∷ 0x0013 ∷ []) ∷ alone (0x0011 ∷ 0x0012 ∷ 0x0030 ∷ 0x0031 ∷ 0x4000 ∷ [])) ++
+    ((0x4010 ∷ 0x4012 ∷ 0x4015 ∷ []) ∷ (0x4013 ∷ 0x4017 ∷ []) ∷ alone (0x4100 ∷ 0x4110 ∷ 0x4120 ∷ 0x4130 ∷ 0x4150 ∷ 0x4140 ∷ 0x4160 ∷ 0x4165 ∷ [])) ++
+    alone (0x4600 ∷ 0x4610 ∷ 0x4620 ∷ 0x4651 ∷ 0x4653 ∷ 0x4656 ∷ 0x4700 ∷ [])
+
+unfoldable pub materialArms : List (List ℕ)
+materialArms = (0xAFFF ∷ []) ∷ (0xA000 ∷ []) ∷ (0xA010 ∷ 0xA020 ∷ 0xA030 ∷ []) ∷ (0xA040 ∷ []) ∷ []

@@ -1,63 +1,83 @@
--- The table as numbers: how a row is packed. (What the numbers mean is said by proofs/Facts, in the words of crate rules.)
+-- The table as numbers: how a row of crate rules is packed into one, and the fields that code reads from it. (That these
+-- say what the row says is proved in proofs/Facts.)
 use mathlib.Core.Path.{_≡_}
-use mathlib.Core.Bool.{Bool, cond}
+use mathlib.Core.Bool.{Bool, true, false, _&&_, cond}
 use mathlib.Core.List.{List, [], _∷_}
-use Prim.Native.Nat.{ℕ, zero, suc, _/_, _%_, _^_, _<_}
+use Prim.Native.Nat.{ℕ, zero, suc, _+_, _*_, _/_, _%_, _^_, _<_}
 use lib.Dec.{eqb}
-use Rattle.rules.specs.Table.{Shape, fixed, name, counted, each, named-words, among}
+use Rattle.rules.specs.Table.{Row, Shape, fixed, name, counted, each, named-words, theFile, rows, among, rowOf as tableRow, limits}
 
-pub record Packed : Type 0 where
-  pub ids : List ℕ
-  pub row : ℕ
+-- ---- place and holds
 
-abbrev pub packed : List ℕ → ℕ → Packed
-packed ids row = record { ids = ids; row = row }
+-- the sets of chunks under which rows stand: the k-th is place k
+unfoldable pub places : List (List ℕ)
+places =
+    (theFile ∷ []) ∷
+    (0x4D4D ∷ []) ∷
+    (0x3D3D ∷ []) ∷
+    (0xAFFF ∷ []) ∷
+    (0x2100 ∷ 0xA010 ∷ 0xA020 ∷ 0xA030 ∷ 0x4600 ∷ []) ∷
+    (0xA040 ∷ []) ∷
+    (0x4000 ∷ []) ∷
+    (0x4100 ∷ []) ∷
+    (0x4120 ∷ []) ∷
+    (0x4600 ∷ []) ∷
+    (0x4610 ∷ []) ∷ []
 
--- size, plus, kind, slot, holds, place
-unfoldable pub packedRows : List Packed
-packedRows =
-    packed (0x4D4D ∷ []) 0x00_1_0_5_004_1 ∷
-    packed (0x0002 ∷ []) 0x04_0_0_0_000_2 ∷
-    packed (0x3D3D ∷ []) 0x00_1_0_1_008_2 ∷
-    packed (0x1400 ∷ 0x1450 ∷ 0x1460 ∷ 0x3D3E ∷ []) 0x04_0_0_5_000_3 ∷
-    packed (0x1420 ∷ []) 0x02_0_0_5_000_3 ∷
-    packed (0x1470 ∷ []) 0x00_0_0_5_000_3 ∷
-    packed (0x2100 ∷ []) 0x00_1_0_5_020_3 ∷
-    packed (0xAFFF ∷ []) 0x00_1_0_5_010_3 ∷
-    packed (0xA000 ∷ []) 0x00_0_1_0_000_4 ∷
-    packed (0xA010 ∷ 0xA020 ∷ 0xA030 ∷ []) 0x00_1_0_5_020_4 ∷
-    packed (0xA040 ∷ []) 0x00_1_0_5_040_4 ∷
-    packed (0x0010 ∷ 0x0013 ∷ []) 0x0C_0_0_5_000_5 ∷
-    packed (0x0011 ∷ []) 0x03_0_0_5_000_5 ∷
-    packed (0x0012 ∷ []) 0x03_0_0_5_000_5 ∷
-    packed (0x0030 ∷ []) 0x02_0_0_5_000_6 ∷
-    packed (0x0031 ∷ []) 0x04_0_0_5_000_6 ∷
-    packed (0x4000 ∷ []) 0x00_1_1_5_080_3 ∷
-    packed (0x4010 ∷ 0x4012 ∷ 0x4015 ∷ []) 0x00_0_0_5_000_7 ∷
-    packed (0x4013 ∷ 0x4017 ∷ []) 0x00_0_0_5_000_7 ∷
-    packed (0x4100 ∷ []) 0x00_1_0_0_100_7 ∷
-    packed (0x4110 ∷ []) 0x0C_0_2_0_000_8 ∷
-    packed (0x4120 ∷ []) 0x08_1_2_1_200_8 ∷
-    packed (0x4130 ∷ []) 0x00_0_4_5_000_9 ∷
-    packed (0x4150 ∷ []) 0x04_0_3_0_000_9 ∷
-    packed (0x4140 ∷ []) 0x08_0_2_2_000_8 ∷
-    packed (0x4160 ∷ []) 0x30_0_0_3_000_8 ∷
-    packed (0x4165 ∷ []) 0x01_0_0_4_000_8 ∷
-    packed (0x4600 ∷ []) 0x0C_1_0_0_420_7 ∷
-    packed (0x4610 ∷ []) 0x14_1_0_0_800_A ∷
-    packed (0x4620 ∷ []) 0x00_0_0_5_000_A ∷
-    packed (0x4651 ∷ []) 0x00_0_0_5_000_B ∷
-    packed (0x4653 ∷ []) 0x00_0_1_5_000_B ∷
-    packed (0x4656 ∷ []) 0x04_0_0_5_000_B ∷
-    packed (0x4700 ∷ []) 0x20_0_0_0_000_7 ∷ []
+abbrev sameSet : List ℕ → List ℕ → Bool
+sameSet [] [] = true
+sameSet [] (y ∷ ys) = false
+sameSet (x ∷ xs) [] = false
+sameSet (x ∷ xs) (y ∷ ys) = eqb x y && sameSet xs ys
 
-abbrev pub rowAmong : ℕ → List Packed → ℕ
-rowAmong x [] = 0
-rowAmong x (r ∷ rs) = cond (among x (r .ids)) (r .row) (rowAmong x rs)
+-- the number of a set among some, of which the first is place k
+abbrev placeFrom : ℕ → List ℕ → List (List ℕ) → ℕ
+placeFrom k parents [] = 0
+placeFrom k parents (s ∷ ss) = cond (sameSet parents s) k (placeFrom (k + 1) parents ss)
+
+-- bit k is set where x is in place k
+abbrev holdsFrom : ℕ → ℕ → List (List ℕ) → ℕ
+holdsFrom k x [] = 0
+holdsFrom k x (s ∷ ss) = cond (among x s) (2 ^ k) 0 + holdsFrom (k + 1) x ss
+
+-- ---- slot
+
+-- the number of x's group among some, of which the first is slot k; 5 for no group
+abbrev slotFrom : ℕ → ℕ → List (List ℕ) → ℕ
+slotFrom k x [] = 5
+slotFrom k x (g ∷ gs) = cond (among x g) k (slotFrom (k + 1) x gs)
+
+-- the groups are those of the container; of several, the first
+abbrev slotUnder : ℕ → List ℕ → ℕ
+slotUnder x [] = 5
+slotUnder x (p ∷ ps) = slotFrom 0 x (limits p)
+
+-- ---- own data
+
+abbrev pub kindOf : Shape → ℕ
+kindOf (fixed k) = 0
+kindOf name = 1
+kindOf (counted k) = 2
+kindOf (each k) = 3
+kindOf named-words = 4
+
+abbrev pub sizeOf : Shape → ℕ
+sizeOf (fixed k) = k
+sizeOf name = 0
+sizeOf (counted k) = k
+sizeOf (each k) = k
+sizeOf named-words = 0
+
+-- ---- a row as one number: place, holds, slot, kind, plus, size
+
+abbrev pub packed : ℕ → Row → ℕ
+packed x r =
+    placeFrom 1 (r .parents) places + 2 ^ 4 * holdsFrom 1 x places + 2 ^ 16 * slotUnder x (r .parents) + 2 ^ 20 * kindOf (r .shape) + 2 ^ 24 * cond (r .plus) 1 0 +
+    2 ^ 28 * sizeOf (r .shape)
 
 -- the packed row of an identifier, 0 where it has none
 unfoldable pub rowOf : ℕ → ℕ
-rowOf x = rowAmong x packedRows
+rowOf x = cond (among x (tableRow x rows .ids)) (packed x (tableRow x rows)) 0
 
 -- ---- the fields of a row
 

@@ -1,6 +1,7 @@
-// The chunk table of document 01 as code looks it up. A row is one number, so that looking at it costs nothing; crate
-// rules has the table in words, and proofs/Facts that each number says what its row says there.
+// The chunk table of document 01 as code looks it up. A row is one number, so that looking at it costs nothing: the row
+// of crate rules, packed as specs/Packed says.
 ghost use mathlib.Core.Path.{_≡_};
+ghost use Prim.Native.Nat.{_<_};
 ghost use Rattle.table.specs.Packed.{rowOf, mayHoldIn, plusIn, plainIn, kindIn, Slot, Size};
 
 // The row of an identifier, 0 where it has none. The columns, from the left:
@@ -13,18 +14,17 @@ ghost use Rattle.table.specs.Packed.{rowOf, mayHoldIn, plusIn, plainIn, 
 pub fn row(id: usize) -> u64
     ensures { λ r. ⌜ r ≡ rowOf id ⌝ }
 {
+    if 0x4D4D < id {
+        return material_row(id);
+    }
     match id {
-        0x4D4D => 0x00_1_0_5_004_1,
+        0x4D4D => FIGURE,
         0x0002 => 0x04_0_0_0_000_2,
         0x3D3D => 0x00_1_0_1_008_2,
         0x1400 | 0x1450 | 0x1460 | 0x3D3E => 0x04_0_0_5_000_3,
         0x1420 => 0x02_0_0_5_000_3,
         0x1470 => 0x00_0_0_5_000_3,
         0x2100 => 0x00_1_0_5_020_3,
-        0xAFFF => 0x00_1_0_5_010_3,
-        0xA000 => 0x00_0_1_0_000_4,
-        0xA010 | 0xA020 | 0xA030 => 0x00_1_0_5_020_4,
-        0xA040 => 0x00_1_0_5_040_4,
         0x0010 | 0x0013 => 0x0C_0_0_5_000_5,
         0x0011 => 0x03_0_0_5_000_5,
         0x0012 => 0x03_0_0_5_000_5,
@@ -52,8 +52,25 @@ pub fn row(id: usize) -> u64
     }
 }
 
-// What 4D4D stands under: the file holds the chunks of place 1.
-pub const FILE: u64 = 0x00_1_0_5_002_0;
+// The row of 4D4D, with which every walk begins.
+pub const FIGURE: u64 = 0x00_1_0_5_004_1;
+
+// The rows beyond 4D4D, of materials. Between 4D4D and A000 nothing is listed, which one comparison tells.
+fn material_row(id: usize) -> u64
+    requires { ⌜ 0x4D4D < id ⌝ }
+    ensures { λ r. ⌜ r ≡ rowOf id ⌝ }
+{
+    if id < 0xA000 {
+        return 0;
+    }
+    match id {
+        0xAFFF => 0x00_1_0_5_010_3,
+        0xA000 => 0x00_0_1_0_000_4,
+        0xA010 | 0xA020 | 0xA030 => 0x00_1_0_5_020_4,
+        0xA040 => 0x00_1_0_5_040_4,
+        _ => 0,
+    }
+}
 
 // Whether a chunk of this row may stand in one of the parent's row.
 pub fn may_hold(parent: u64, row: u64) -> bool

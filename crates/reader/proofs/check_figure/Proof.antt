@@ -11,21 +11,18 @@ use Rattle.marks.specs.Marks.{noMarks}
 use Rattle.reader.specs.declared.Ran.{Ran}
 use Rattle.reader.specs.States.{RunIs, RunWithin}
 use Rattle.reader.proofs.Parts.{bytes-all}
-use Rattle.reader.proofs.Files.{top-context, top-run, figure-refused, figure-shut, figure-accepted}
+use Rattle.reader.proofs.Files.{figure-row, top-context, top-run, figure-refused, figure-shut, figure-accepted}
 use borrow.Author.Needs.{needs}
 use Rattle.reader.proofs.check_figure.Statement.{statement}
 use Rattle.reader.proofs.check_figure.Tie as tie
-
-row-requires : tie.Need-row-requires
-row-requires c κs = search needs
 
 slice-aggregate-run : tie.Need-slice-aggregate-run
 slice-aggregate-run c = search needs
 
 run-requires : tie.Need-run-requires
 run-requires c κs =
-    let x = c .before .before .before in
-    (x .pre .0, omega arith, record { ends = omega arith; short = x .pre .1; word = omega arith; five = refl }, (inside file 0x4D4D [], [], top-context (c .before .row .result) (c .before .row .ensures)))
+    let x = c .before .before in
+    (x .pre .0, omega arith, record { ends = omega arith; short = x .pre .1; word = omega arith; five = refl }, (inside file 0x4D4D [], [], top-context _ figure-row))
 
 enum-known-r : tie.Need-enum-known-r
 enum-known-r c = search needs
@@ -38,7 +35,7 @@ slice-aggregate-at-end c = search needs
 
 at-end-requires : tie.Need-at-end-requires
 at-end-requires c κs =
-    let x = c .before .before .before .before .before .before .before .before .before in
+    let x = c .before .before .before .before .before .before .before .before in
     (c .before .before .before .before .before .run .ensures .1 .0, λ e. absurd (omega arith), omega (arith, x .pre .1))
 
 enum-known-r-2 : tie.Need-enum-known-r-2
@@ -49,7 +46,7 @@ enum-told c = search needs
 
 add-counts : tie.Need-add-counts
 add-counts c =
-    let x = c .before .before .before .before .before .before .before .before .before .before .before .before in
+    let x = c .before .before .before .before .before .before .before .before .before .before .before in
     let y = c .before .before .before .before .before .before .before .before .run in
     let h = c .before .before .before .before .before .records .given in
     let v : RunWithin 6 (length (x .args .file .now)) (Ran.Done (h .0 .0) (h .0 .1 .0) (h .0 .1 .1 .0)) = subst (RunWithin 6 (length (x .args .file .now))) (h .1) (y .ensures .1 .1) in
@@ -57,7 +54,7 @@ add-counts c =
 
 counts-requires : tie.Need-counts-requires
 counts-requires c κs =
-    let x = c .before .before .before .before .before .before .before .before .before .before .before .before in
+    let x = c .before .before .before .before .before .before .before .before .before .before .before in
     let y = c .before .before .before .before .before .before .before .before .run in
     let h = c .before .before .before .before .before .records .given in
     let v : RunWithin 6 (length (x .args .file .now)) (Ran.Done (h .0 .0) (h .0 .1 .0) (h .0 .1 .1 .0)) = subst (RunWithin 6 (length (x .args .file .now))) (h .1) (y .ensures .1 .1) in
@@ -65,34 +62,33 @@ counts-requires c κs =
 
 returns : tie.Need-returns
 returns c =
-    let x = c .before .before .before .before .before .before .before .before in
+    let x = c .before .before .before .before .before .before .before in
     let y = c .before .before .before .before .run in
-    let b = bytes-all (x .args .file .now) (λ i. omega (arith, c .before .before .before .before .before .before .before .shared-slice-known .given i)) in
+    let b = bytes-all (x .args .file .now) (λ i. omega (arith, c .before .before .before .before .before .before .shared-slice-known .given i)) in
     let g = c .before .r .given in
-    figure-refused (x .args .file .now) b (x .pre .0) (x .pre .1) (y .last .1 .1 .1 .1 .1 .0) (g .0 .0) (top-run (x .args .file .now) (c .before .before .before .before .before .before .row .result) (c .before .before .before .before .before .before .row .ensures) (y .result) (y .last .1 .1 .1 .1 .1 .0) (y .ensures .0) (g .1))
+    figure-refused (x .args .file .now) b (x .pre .0) (x .pre .1) (y .last .1 .1 .1 .1 .1 .0) (g .0 .0) (top-run (x .args .file .now) _ figure-row (y .result) (y .last .1 .1 .1 .1 .1 .0) (y .ensures .0) (g .1))
 
 returns-2 : tie.Need-returns-2
 returns-2 c =
-    let x = c .before .before .before .before .before .before .before .before .before .before .before .before .before in
+    let x = c .before .before .before .before .before .before .before .before .before .before .before .before in
     let y = c .before .before .before .before .before .before .before .before .before .run in
     let h = c .before .before .before .before .before .before .records .given in
-    let f = top-run (x .args .file .now) (c .before .before .before .before .before .before .before .before .before .before .before .row .result) (c .before .before .before .before .before .before .before .before .before .before .before .row .ensures) (y .result) (y .last .1 .1 .1 .1 .1 .0) (y .ensures .0) (h .1) in
+    let f = top-run (x .args .file .now) _ figure-row (y .result) (y .last .1 .1 .1 .1 .1 .0) (y .ensures .0) (h .1) in
     let g = c .before .r2 .given in
-    figure-shut (x .args .file .now) (bytes-all (x .args .file .now) (λ i. omega (arith, c .before .before .before .before .before .before .before .before .before .before .before .before .shared-slice-known .given i))) (x .pre .0) (x .pre .1) (y .last .1 .1 .1 .1 .1 .0) (h .0 .0) (h .0 .1 .0) (h .0 .1 .1 .0) f (c .before .before .before .at-end .result) (c .before .before .before .at-end .ensures) (g .0 .0) (g .1)
+    figure-shut (x .args .file .now) (bytes-all (x .args .file .now) (λ i. omega (arith, c .before .before .before .before .before .before .before .before .before .before .before .shared-slice-known .given i))) (x .pre .0) (x .pre .1) (y .last .1 .1 .1 .1 .1 .0) (h .0 .0) (h .0 .1 .0) (h .0 .1 .1 .0) f (c .before .before .before .at-end .result) (c .before .before .before .at-end .ensures) (g .0 .0) (g .1)
 
 returns-3 : tie.Need-returns-3
 returns-3 c =
-    let x = c .before .before .before .before .before .before .before .before .before .before .before .before .before in
+    let x = c .before .before .before .before .before .before .before .before .before .before .before .before in
     let y = c .before .before .before .before .before .before .before .before .before .run in
     let h = c .before .before .before .before .before .before .records .given in
-    let f = top-run (x .args .file .now) (c .before .before .before .before .before .before .before .before .before .before .before .row .result) (c .before .before .before .before .before .before .before .before .before .before .before .row .ensures) (y .result) (y .last .1 .1 .1 .1 .1 .0) (y .ensures .0) (h .1) in
-    figure-accepted (x .args .file .now) (bytes-all (x .args .file .now) (λ i. omega (arith, c .before .before .before .before .before .before .before .before .before .before .before .before .shared-slice-known .given i))) (x .pre .0) (x .pre .1) (y .last .1 .1 .1 .1 .1 .0) (h .0 .0) (h .0 .1 .0) (h .0 .1 .1 .0) f (c .before .before .before .at-end .result) (c .before .before .before .at-end .ensures) (c .before .enum-told .given .1) (c .counts .result) (c .counts .ensures)
+    let f = top-run (x .args .file .now) _ figure-row (y .result) (y .last .1 .1 .1 .1 .1 .0) (y .ensures .0) (h .1) in
+    figure-accepted (x .args .file .now) (bytes-all (x .args .file .now) (λ i. omega (arith, c .before .before .before .before .before .before .before .before .before .before .before .shared-slice-known .given i))) (x .pre .0) (x .pre .1) (y .last .1 .1 .1 .1 .1 .0) (h .0 .0) (h .0 .1 .0) (h .0 .1 .1 .0) f (c .before .before .before .at-end .result) (c .before .before .before .at-end .ensures) (c .before .enum-told .given .1) (c .counts .result) (c .counts .ensures)
 
 pub check-figure-spec : {M : Type 1} → statement M
 check-figure-spec =
     tie.close
     (tie.spec
-    row-requires
     slice-aggregate-run
     run-requires
     enum-known-r

@@ -23,14 +23,14 @@ loop-holds : tie.Need-loop-holds Inv-loop μ-loop
 unfolding every
 loop-holds c = (omega arith, refl)
 
-mul-long-at : tie.Need-mul-long-at Inv-loop μ-loop
-mul-long-at c = omega arith
+mul-load-long : tie.Need-mul-load-long Inv-loop μ-loop
+mul-load-long c = omega arith
 
-add-long-at : tie.Need-add-long-at Inv-loop μ-loop
-add-long-at c = omega arith
+add-load-long : tie.Need-add-load-long Inv-loop μ-loop
+add-load-long c = omega arith
 
-long-at-requires : tie.Need-long-at-requires Inv-loop μ-loop
-long-at-requires c κs = omega arith
+load-long-requires : tie.Need-load-long-requires Inv-loop μ-loop
+load-long-requires c κs = omega arith
 
 is-finite-requires : tie.Need-is-finite-requires Inv-loop μ-loop
 is-finite-requires c κs = search needs
@@ -45,7 +45,7 @@ loop-again : tie.Need-loop-again Inv-loop μ-loop
 loop-again c =
     let l = c .before .before .before .before .loop in
     let a = c .before .before .before .before .before .before .args in
-    let v = every-one finite (longAt (a .s .now) (a .at + 4 * l .i)) ∙ sym (ap finite (c .before .before .long-at .ensures .is)) ∙ sym (c .before .is-finite .ensures) in (
+    let v = every-one finite (longAt (a .s .now) (a .at + 4 * l .i)) ∙ sym (ap finite (c .before .before .load-long .ensures .is)) ∙ sym (c .before .is-finite .ensures) in (
       omega arith,
       one-more finite _ _ _ (longs-more (a .s .now) (a .at) (l .i)) (l .good) (c .if1 .good) (l .inv .1)
           (⊎-elim (λ w. inl (v ∙ not-true _ (w .0 .taken), w .1)) (λ w. inr (v ∙ not-false _ (w .0 .left), w .1)) (c .if1 .came)),
@@ -63,9 +63,9 @@ all-finite-spec =
     Inv-loop
     μ-loop
     loop-holds
-    mul-long-at
-    add-long-at
-    long-at-requires
+    mul-load-long
+    add-load-long
+    load-long-requires
     is-finite-requires
     add-i
     loop-less

@@ -1,155 +1,164 @@
 -- Each arm has the number of its identifiers' row; where no arm is taken there is no row.
-use mathlib.Core.Path.{sym}
+use mathlib.Core.Path.{_≡_, refl, sym}
+use mathlib.Core.Bool.{Bool, true, _||_}
 use mathlib.Core.Logic.{⊎-elim}
-use Rattle.table.specs.Packed.{packedRows, rowOf}
-use Rattle.table.proofs.Keys.{no-arm}
+use Prim.Native.Nat.{ℕ}
+use lib.Dec.{ltb}
+use borrow.Author.Tests.{le-ltb}
+use borrow.Author.Needs.{needs}
+use native.Mathlib.Omega.{arith}
+use Rattle.rules.specs.Bytes.{every}
+use Rattle.rules.specs.Table.{rows, limits, atMostOne}
+use Rattle.rules.proofs.Rows.{everyId}
+use Rattle.table.specs.Packed.{places, rowOf}
+use Rattle.table.proofs.Keys.{armed, no-arm, no-row-by, arms}
 use Rattle.table.proofs.row.Statement.{statement}
 use Rattle.table.proofs.row.Tie as tie
 
+abbrev high-or-armed : ℕ → Bool
+high-or-armed x = ltb 0x4D4D x || armed x arms
+
+armed-test : everyId high-or-armed rows ≡ true
+unfolding rows every arms
+armed-test = refl
+
+material-row-requires : tie.Need-material-row-requires
+material-row-requires c κs = search needs
+
 returns : tie.Need-returns
-unfolding packedRows rowOf
-returns c = rw (c .match .keys1)
+returns c = search needs
 
 returns-2 : tie.Need-returns-2
-unfolding packedRows rowOf
-returns-2 c = rw (c .match .keys2)
+unfolding rows places limits atMostOne rowOf
+returns-2 c = rw (c .match .keys1)
 
 returns-3 : tie.Need-returns-3
-unfolding packedRows rowOf
-returns-3 c = rw (c .match .keys3)
+unfolding rows places limits atMostOne rowOf
+returns-3 c = rw (c .match .keys2)
 
 returns-4 : tie.Need-returns-4
-unfolding packedRows rowOf
-returns-4 c = ⊎-elim (λ e. rw e) (⊎-elim (λ e. rw e) (⊎-elim (λ e. rw e) (λ e. rw e))) (c .match .keys4)
+unfolding rows places limits atMostOne rowOf
+returns-4 c = rw (c .match .keys3)
 
 returns-5 : tie.Need-returns-5
-unfolding packedRows rowOf
-returns-5 c = rw (c .match .keys5)
+unfolding rows places limits atMostOne rowOf
+returns-5 c = ⊎-elim (λ e. rw e) (⊎-elim (λ e. rw e) (⊎-elim (λ e. rw e) (λ e. rw e))) (c .match .keys4)
 
 returns-6 : tie.Need-returns-6
-unfolding packedRows rowOf
-returns-6 c = rw (c .match .keys6)
+unfolding rows places limits atMostOne rowOf
+returns-6 c = rw (c .match .keys5)
 
 returns-7 : tie.Need-returns-7
-unfolding packedRows rowOf
-returns-7 c = rw (c .match .keys7)
+unfolding rows places limits atMostOne rowOf
+returns-7 c = rw (c .match .keys6)
 
 returns-8 : tie.Need-returns-8
-unfolding packedRows rowOf
-returns-8 c = rw (c .match .keys8)
+unfolding rows places limits atMostOne rowOf
+returns-8 c = rw (c .match .keys7)
 
 returns-9 : tie.Need-returns-9
-unfolding packedRows rowOf
-returns-9 c = rw (c .match .keys9)
+unfolding rows places limits atMostOne rowOf
+returns-9 c = ⊎-elim (λ e. rw e) (λ e. rw e) (c .match .keys8)
 
 returns-10 : tie.Need-returns-10
-unfolding packedRows rowOf
-returns-10 c = ⊎-elim (λ e. rw e) (⊎-elim (λ e. rw e) (λ e. rw e)) (c .match .keys10)
+unfolding rows places limits atMostOne rowOf
+returns-10 c = rw (c .match .keys9)
 
 returns-11 : tie.Need-returns-11
-unfolding packedRows rowOf
-returns-11 c = rw (c .match .keys11)
+unfolding rows places limits atMostOne rowOf
+returns-11 c = rw (c .match .keys10)
 
 returns-12 : tie.Need-returns-12
-unfolding packedRows rowOf
-returns-12 c = ⊎-elim (λ e. rw e) (λ e. rw e) (c .match .keys12)
+unfolding rows places limits atMostOne rowOf
+returns-12 c = rw (c .match .keys11)
 
 returns-13 : tie.Need-returns-13
-unfolding packedRows rowOf
-returns-13 c = rw (c .match .keys13)
+unfolding rows places limits atMostOne rowOf
+returns-13 c = rw (c .match .keys12)
 
 returns-14 : tie.Need-returns-14
-unfolding packedRows rowOf
-returns-14 c = rw (c .match .keys14)
+unfolding rows places limits atMostOne rowOf
+returns-14 c = rw (c .match .keys13)
 
 returns-15 : tie.Need-returns-15
-unfolding packedRows rowOf
-returns-15 c = rw (c .match .keys15)
+unfolding rows places limits atMostOne rowOf
+returns-15 c = ⊎-elim (λ e. rw e) (⊎-elim (λ e. rw e) (λ e. rw e)) (c .match .keys14)
 
 returns-16 : tie.Need-returns-16
-unfolding packedRows rowOf
-returns-16 c = rw (c .match .keys16)
+unfolding rows places limits atMostOne rowOf
+returns-16 c = ⊎-elim (λ e. rw e) (λ e. rw e) (c .match .keys15)
 
 returns-17 : tie.Need-returns-17
-unfolding packedRows rowOf
-returns-17 c = rw (c .match .keys17)
+unfolding rows places limits atMostOne rowOf
+returns-17 c = rw (c .match .keys16)
 
 returns-18 : tie.Need-returns-18
-unfolding packedRows rowOf
-returns-18 c = ⊎-elim (λ e. rw e) (⊎-elim (λ e. rw e) (λ e. rw e)) (c .match .keys18)
+unfolding rows places limits atMostOne rowOf
+returns-18 c = rw (c .match .keys17)
 
 returns-19 : tie.Need-returns-19
-unfolding packedRows rowOf
-returns-19 c = ⊎-elim (λ e. rw e) (λ e. rw e) (c .match .keys19)
+unfolding rows places limits atMostOne rowOf
+returns-19 c = rw (c .match .keys18)
 
 returns-20 : tie.Need-returns-20
-unfolding packedRows rowOf
-returns-20 c = rw (c .match .keys20)
+unfolding rows places limits atMostOne rowOf
+returns-20 c = rw (c .match .keys19)
 
 returns-21 : tie.Need-returns-21
-unfolding packedRows rowOf
-returns-21 c = rw (c .match .keys21)
+unfolding rows places limits atMostOne rowOf
+returns-21 c = rw (c .match .keys20)
 
 returns-22 : tie.Need-returns-22
-unfolding packedRows rowOf
-returns-22 c = rw (c .match .keys22)
+unfolding rows places limits atMostOne rowOf
+returns-22 c = rw (c .match .keys21)
 
 returns-23 : tie.Need-returns-23
-unfolding packedRows rowOf
-returns-23 c = rw (c .match .keys23)
+unfolding rows places limits atMostOne rowOf
+returns-23 c = rw (c .match .keys22)
 
 returns-24 : tie.Need-returns-24
-unfolding packedRows rowOf
-returns-24 c = rw (c .match .keys24)
+unfolding rows places limits atMostOne rowOf
+returns-24 c = rw (c .match .keys23)
 
 returns-25 : tie.Need-returns-25
-unfolding packedRows rowOf
-returns-25 c = rw (c .match .keys25)
+unfolding rows places limits atMostOne rowOf
+returns-25 c = rw (c .match .keys24)
 
 returns-26 : tie.Need-returns-26
-unfolding packedRows rowOf
-returns-26 c = rw (c .match .keys26)
+unfolding rows places limits atMostOne rowOf
+returns-26 c = rw (c .match .keys25)
 
 returns-27 : tie.Need-returns-27
-unfolding packedRows rowOf
-returns-27 c = rw (c .match .keys27)
+unfolding rows places limits atMostOne rowOf
+returns-27 c = rw (c .match .keys26)
 
 returns-28 : tie.Need-returns-28
-unfolding packedRows rowOf
-returns-28 c = rw (c .match .keys28)
+unfolding rows places limits atMostOne rowOf
+returns-28 c = rw (c .match .keys27)
 
 returns-29 : tie.Need-returns-29
-unfolding packedRows rowOf
-returns-29 c = rw (c .match .keys29)
+unfolding rows places limits atMostOne rowOf
+returns-29 c = rw (c .match .keys28)
 
 returns-30 : tie.Need-returns-30
-unfolding packedRows rowOf
-returns-30 c = rw (c .match .keys30)
+unfolding rows places limits atMostOne rowOf
+returns-30 c = rw (c .match .keys29)
 
 returns-31 : tie.Need-returns-31
-unfolding packedRows rowOf
-returns-31 c = rw (c .match .keys31)
+unfolding rows places limits atMostOne rowOf
+returns-31 c = rw (c .match .keys30)
 
 returns-32 : tie.Need-returns-32
-unfolding packedRows rowOf
-returns-32 c = rw (c .match .keys32)
-
-returns-33 : tie.Need-returns-33
-unfolding packedRows rowOf
-returns-33 c = rw (c .match .keys33)
-
-returns-34 : tie.Need-returns-34
-unfolding packedRows rowOf
-returns-34 c = rw (c .match .keys34)
-
-returns-35 : tie.Need-returns-35
-unfolding packedRows rowOf
-returns-35 c = sym (no-arm _ Unit packedRows (c .match .rest) .1)
+unfolding arms
+returns-32 c =
+    let x = c .before .before .args .id in
+    sym (no-row-by high-or-armed armed-test x (rw (le-ltb 0x4D4D x (omega arith)) (no-arm x Unit arms (c .match .rest) .1)))
 
 pub row-spec : {M : Type 1} → statement M
 row-spec =
     tie.close
     (tie.spec
+    material-row-requires
     returns
     returns-2
     returns-3
@@ -181,7 +190,4 @@ row-spec =
     returns-29
     returns-30
     returns-31
-    returns-32
-    returns-33
-    returns-34
-    returns-35)
+    returns-32)
