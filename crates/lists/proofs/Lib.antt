@@ -6,3 +6,5 @@ pub mod Numbers
 pub mod Fill
 pub mod Box
 pub mod Theorems
+pub mod Middle
+pub mod FiniteBox
