@@ -7,3 +7,5 @@ pub mod Fill
 pub mod Copied
 pub mod Box
 pub mod Theorems
+pub mod Middle
+pub mod FiniteBox
