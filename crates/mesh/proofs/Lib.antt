@@ -2,3 +2,4 @@ pub mod Asks
 pub mod Calls
 pub mod Room
 pub mod Filled
+pub mod Within

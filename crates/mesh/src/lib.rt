@@ -13,6 +13,7 @@ ghost use mathlib.Core.Path.{_≡_};
 ghost use Rattle.rules.specs.Encodings.{floatRow, cornerRow, numberBytes};
 ghost use Rattle.rules.specs.Calls.{tablesCall, nameCall, boxCall};
 ghost use Rattle.mesh.specs.Choices.{yes, fitting, AskedIs, rows};
+ghost use Rattle.mesh.specs.Within.{NameWithin, SizesWithin, BoxNumbers};
 
 // Where the mesh asked for stands; or the refusal of the file, or of the number.
 pub enum Asked {
@@ -79,6 +80,7 @@ pub fn tables(file: &[u8], mesh: u32, vertices: &mut [f32], corners: &mut [u16])
 pub fn tables_bytes(file: &[u8], mesh: u32, vertices: &mut [u8], corners: &mut [u8]) -> Tabled
     ensures answer { λ r. ⌜ r ≡ tablesCall (numberBytes 4) (numberBytes 2) (now (file .entry)) mesh (rows (now (vertices .entry)) (now (corners .entry))) .answer ⌝ }
     ensures filled { λ r. ⌜ rows (now (vertices .exit)) (now (corners .exit)) ≡ tablesCall (numberBytes 4) (numberBytes 2) (now (file .entry)) mesh (rows (now (vertices .entry)) (now (corners .entry))) .rows ⌝ }
+    ensures within { λ r. ⌜ SizesWithin r ⌝ }
 {
     match ask_with_room(file, mesh, vertices.len() / 4, corners.len() / 2) {
         Asked::Refused(r) => Tabled::Refused(r),
@@ -97,7 +99,8 @@ pub fn tables_bytes(file: &[u8], mesh: u32, vertices: &mut [u8], corners: &mut [
 
 // Where the name of a mesh's object stands in the file.
 pub fn name(file: &[u8], mesh: u32) -> Named
-    ensures { λ r. ⌜ r ≡ nameCall (now (file .entry)) mesh ⌝ }
+    ensures answer { λ r. ⌜ r ≡ nameCall (now (file .entry)) mesh ⌝ }
+    ensures within { λ r. ⌜ NameWithin r ⌝ }
 {
     match ask(file, mesh) {
         Asked::Refused(r) => Named::Refused(r),
@@ -110,7 +113,8 @@ pub fn name(file: &[u8], mesh: u32) -> Named
 
 // The box around a mesh's vertices, and its centre.
 pub fn bounding_box(file: &[u8], mesh: u32) -> Boxed
-    ensures { λ r. ⌜ r ≡ boxCall (now (file .entry)) mesh ⌝ }
+    ensures answer { λ r. ⌜ r ≡ boxCall (now (file .entry)) mesh ⌝ }
+    ensures numbers { λ r. ⌜ BoxNumbers r ⌝ }
 {
     match ask(file, mesh) {
         Asked::Refused(r) => Boxed::Refused(r),

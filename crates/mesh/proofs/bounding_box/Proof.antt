@@ -2,6 +2,7 @@
 use Prim.Native.Nat.{_<_}
 use native.Mathlib.Omega.{arith}
 use Rattle.mesh.proofs.Asks.{asked-no, asked-yes}
+use Rattle.mesh.proofs.Within.{box-numbers}
 use Rattle.mesh.proofs.Calls.{box-refused, box-empty, box-goes-on}
 use borrow.Author.Needs.{needs}
 use Rattle.mesh.proofs.bounding_box.Statement.{statement}
@@ -20,7 +21,7 @@ returns : tie.Need-returns
 returns c =
     let x = c .before .before .before .before .before .before .args in
     let q = asked-yes (c .before .before .before .before .ask .ensures) (c .before .before .place .given .1) in
-    box-empty (x .file .now) (x .mesh) (q .is) (q .placed) (c .if1 .taken)
+    (box-empty (x .file .now) (x .mesh) (q .is) (q .placed) (c .if1 .taken), tt)
 
 box-of-requires : tie.Need-box-of-requires
 box-of-requires c κs =
@@ -36,13 +37,17 @@ returns-2 : tie.Need-returns-2
 returns-2 c =
     let x = c .before .before .before .before .before .args in
     let q = asked-no (c .before .before .before .ask .ensures) (c .before .r .given .1) in
-    box-refused (x .file .now) (x .mesh) q
+    (box-refused (x .file .now) (x .mesh) q, tt)
 
 returns-3 : tie.Need-returns-3
 returns-3 c =
     let x = c .before .before .before .before .before .before .before .before .args in
     let q = asked-yes (c .before .before .before .before .before .before .ask .ensures) (c .before .before .before .before .place .given .1) in
-    box-goes-on (x .file .now) (x .mesh) (q .is) (q .placed) (c .before .before .if1 .left) (c .before .box-of .result) (c .before .box-of .ensures) (c .centre-of .result) (c .centre-of .ensures)
+    let p = q .placed in
+    let b = c .before .box-of in (
+      box-goes-on (x .file .now) (x .mesh) (q .is) p (c .before .before .if1 .left) (b .result) (b .ensures) (c .centre-of .result) (c .centre-of .ensures),
+      box-numbers _ _ (rw (p .vertices-are) at (p .vertices-finite)) (b .ensures) (c .centre-of .ensures),
+    )
 
 pub bounding-box-spec : {M : Type 1} → statement M
 bounding-box-spec =

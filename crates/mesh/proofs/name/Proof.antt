@@ -1,6 +1,9 @@
 -- A refusal, or the name's place.
+use native.Mathlib.Omega.{arith}
+use Rattle.reader.proofs.Parts.{bytes-all}
 use Rattle.mesh.proofs.Asks.{asked-no, asked-yes}
 use Rattle.mesh.proofs.Calls.{name-refused, name-goes-on}
+use Rattle.mesh.proofs.Within.{name-within}
 use borrow.Author.Needs.{needs}
 use Rattle.mesh.proofs.name.Statement.{statement}
 use Rattle.mesh.proofs.name.Tie as tie
@@ -18,13 +21,14 @@ returns : tie.Need-returns
 returns c =
     let x = c .before .before .before .before .before .args in
     let q = asked-no (c .before .before .before .ask .ensures) (c .before .r .given .1) in
-    name-refused (x .file .now) (x .mesh) q
+    (name-refused (x .file .now) (x .mesh) q, tt)
 
 returns-2 : tie.Need-returns-2
 returns-2 c =
     let x = c .before .before .before .before .before .args in
     let q = asked-yes (c .before .before .before .ask .ensures) (c .before .place .given .1) in
-    name-goes-on (x .file .now) (x .mesh) (q .is) (q .placed)
+    let b = bytes-all (x .file .now) (λ i. omega (arith, c .before .before .before .before .shared-slice-known .given i)) in
+    (name-goes-on (x .file .now) (x .mesh) (q .is) (q .placed), omega (arith, name-within (x .file .now) b (x .mesh) (q .is), q .placed .name-at, q .placed .name-size))
 
 pub name-spec : {M : Type 1} → statement M
 name-spec = tie.close (tie.spec ask-requires enum-known-r enum-known-place returns returns-2)

@@ -1,9 +1,14 @@
 -- A refusal, or the mesh's tables as bytes.
 use native.Mathlib.Omega.{arith}
 use Rattle.rules.specs.Encodings.{numberBytes}
+use Prim.Native.Nat.{_/_}
+use lib.ListN.{length}
+use Rattle.reader.proofs.Parts.{bytes-all}
+use Rattle.mesh.specs.Choices.{fitting}
 use Rattle.mesh.proofs.Asks.{asked-no, asked-yes}
 use Rattle.mesh.proofs.Room.{has-room}
 use Rattle.mesh.proofs.Filled.{gives, tables-refused, tables-filled}
+use Rattle.mesh.proofs.Within.{limit-by}
 use borrow.Author.Needs.{needs}
 use Rattle.mesh.proofs.tables_bytes.Statement.{statement}
 use Rattle.mesh.proofs.tables_bytes.Tie as tie
@@ -40,7 +45,8 @@ returns : tie.Need-returns
 returns c =
     let x = c .before .before .before .before .before .before .before .args in
     let q = asked-no (c .before .before .before .ask-with-room .ensures) (c .before .r .given .1) in
-    gives (tables-refused (numberBytes 4) (numberBytes 2) (x .file .now) (x .mesh) (x .vertices .now) (x .corners .now) q)
+    let g = gives (tables-refused (numberBytes 4) (numberBytes 2) (x .file .now) (x .mesh) (x .vertices .now) (x .corners .now) q) in
+    (g .0, (g .1, tt))
 
 same-length : tie.Need-same-length
 same-length c = search needs
@@ -53,7 +59,10 @@ returns-2 c =
     let t = c .before .before .before .before .before .before .before .before .before in
     let x = t .before .before .before .before .before .before .args in
     let q = asked-yes (t .before .before .ask-with-room .ensures) (t .place .given .1) in
-    gives (tables-filled (numberBytes 4) (numberBytes 2) (x .file .now) (x .mesh) (x .vertices .now) (x .corners .now) (q .is) (q .placed) _ (c .before .before .before .before .before .before .fill-float-bytes .ensures) _ (c .before .before .fill-corner-bytes .ensures))
+    let b = bytes-all (x .file .now) (λ i. omega (arith, t .before .before .before .before .before .shared-slice-known .given i)) in
+    let l = limit-by (x .file .now) b (x .mesh) (fitting (length (x .vertices .now) / 4) (length (x .corners .now) / 2)) (q .is) in
+    let g = gives (tables-filled (numberBytes 4) (numberBytes 2) (x .file .now) (x .mesh) (x .vertices .now) (x .corners .now) (q .is) (q .placed) _ (c .before .before .before .before .before .before .fill-float-bytes .ensures) _ (c .before .before .fill-corner-bytes .ensures)) in
+    (g .0, (g .1, (omega (arith, q .placed .vertices-stay), omega (arith, q .placed .faces-stay))))
 
 pub tables-bytes-spec : {M : Type 1} → statement M
 tables-bytes-spec =
