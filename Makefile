@@ -1,8 +1,10 @@
-# make test   the gate: layout, proofs, must-fail edits, programs and tests
+# make run    builds the library and the bench tool, and checks samples/edition (STICK=folder: any other)
+# make test   the gate: layout, proofs, must-fail edits, programs, and all tests
 # make prove  the proofs alone, in seconds where little has changed
-.PHONY: all test prove rust-test c-compile asked clean
-
-all: prove
+# make fuzz   both readers over COUNT files grown from SEED; make real FOLDER=…  over figures from elsewhere
+# make bench  the speed, against the second reader
+.DEFAULT_GOAL := run
+.PHONY: prove test rust-test differ fuzz real turned bench c-check asked clean
 
 prove:
 	rt check
@@ -10,25 +12,46 @@ prove:
 test:
 	bash tests/gate
 
-CARGO_FLAGS = -j1 --offline --release --quiet --manifest-path
-
-# the second reader's own tests, then round trips of the proved writer against it
-rust-test: target/staticlib/libtds.a
-	cargo test $(CARGO_FLAGS) second/Cargo.toml
-	TDS_LIB_DIR=$(CURDIR)/target/staticlib cargo test $(CARGO_FLAGS) second/Cargo.toml --features writer --test round_trips
-	cargo build $(CARGO_FLAGS) bench/Cargo.toml
-
 # rt knows what has changed, so it is always asked
 target/staticlib/libtds.a: asked
 	rt staticlib tds
 
 asked:
 
+# ---- the second reader, over the library
+
+export TDS_LIB_DIR = $(CURDIR)/target/staticlib
+CARGO_FLAGS = -j1 --offline --release --quiet --features tds --manifest-path
+COUNT ?= 10000000
+SEED ?= 1
+
+differ: target/staticlib/libtds.a
+	cargo build $(CARGO_FLAGS) second/Cargo.toml
+
+rust-test: differ
+	cargo test $(CARGO_FLAGS) second/Cargo.toml
+	second/target/release/differ --count 200000 --seed 1
+
+fuzz: differ
+	second/target/release/differ --count $(COUNT) --seed $(SEED)
+
+real: differ
+	@test -n '$(FOLDER)' || { echo 'make real FOLDER=folder-of-3ds-files (docs/REAL_FILES.md says where some are)'; exit 2; }
+	second/target/release/differ --real $(FOLDER)
+
+turned: differ samples
+	second/target/release/differ --turned samples/edition/*.3ds
+
+bench: target/staticlib/libtds.a
+	cargo run $(CARGO_FLAGS) bench/Cargo.toml
+
+# ---- the C side: run, c-test, c-memcheck, samples, install
+
 include stick/Makefile.inc
 
-c-compile: $(C_OBJECTS)
-	$(CC) -std=c89 -pedantic -Wall -Wextra -Werror -fsyntax-only -x c include/tds.h
-	$(CXX) -Wall -Wextra -Werror -fsyntax-only -x c++ include/tds.h
+# under valgrind too, where it is on the machine
+c-check: c-test
+	@if command -v valgrind > /dev/null; then $(MAKE) --no-print-directory c-memcheck; else echo 'valgrind is not here: memory was not checked'; fi
 
 clean:
 	rm -rf target build second/target bench/target

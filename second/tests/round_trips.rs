@@ -5,23 +5,8 @@
 mod bare;
 mod common;
 use bare::{Figure, Seed, EDGES, FAULTS, MOST, SIGNALLING};
-use second::boundary::{refused, Boundary, Second};
+use second::boundary::{refused, Boundary, Second, Tds};
 use second::{list, name, tables, LIMIT, RECORD};
-use std::ptr::{null, null_mut};
-
-extern "C" {
-    fn tds_check(file: *const u8, file_len: usize) -> u64;
-    fn tds_write(
-        name: *const u8,
-        name_len: usize,
-        vertices: *const f32,
-        vertices_len: usize,
-        corners: *const u16,
-        corners_len: usize,
-        out: *mut u8,
-        out_len: usize,
-    ) -> u64;
-}
 
 /// Canaries on each side of the room; odd, so that the room is not aligned.
 const GUARD: usize = 37;
@@ -37,12 +22,8 @@ impl Figure {
     fn written(&self, room: usize) -> Result<Vec<u8>, u64> {
         let canary = |at: usize| (at * 151 + room) as u8;
         let mut bytes: Vec<u8> = (0..room + 2 * GUARD).map(canary).collect();
-        let to = bytes[GUARD..GUARD + room].as_mut_ptr();
-        let a = (self.name.as_ptr(), self.name.len());
-        let b = (self.vertices.as_ptr(), self.vertices.len());
-        let c = (self.corners.as_ptr(), self.corners.len());
-        // Each address comes with the count behind it, and the room is held alone.
-        let answer = unsafe { tds_write(a.0, a.1, b.0, b.1, c.0, c.1, to, room) };
+        let lent = &mut bytes[GUARD..GUARD + room];
+        let answer = Tds.write(&self.name, &self.vertices, &self.corners, lent);
         let size = size_of(answer).unwrap_or(0);
         let mut kept = (0..GUARD).chain(GUARD + size..bytes.len());
         assert!(size <= room && kept.all(|at| bytes[at] == canary(at)));
@@ -85,7 +66,7 @@ impl Figure {
         let size = self.size();
         let file = self.written(size + 99).unwrap();
         assert_eq!(file.len(), size);
-        assert_eq!(unsafe { tds_check(file.as_ptr(), size) }, 6);
+        assert_eq!(Tds.check(&file), 6);
         assert!(self.by_second(size).as_ref() == Ok(&file));
         let again = Figure::read(&file, self.name.len());
         assert!(again.name == self.name && again.corners == self.corners);
@@ -175,13 +156,4 @@ fn faults_at_the_ends_of_rows() {
     figure.refuses(9, 2 * LIMIT, &[0, 2 * LIMIT]);
     (figure.name, figure.vertices) = (vec![], vec![]);
     figure.refuses(12, 0, &[0, 2 * LIMIT]);
-}
-
-#[test]
-fn nothing_may_be_lent_without_an_address() {
-    let (bytes, floats, words) = (null(), null(), null());
-    let room = null_mut();
-    assert_eq!(unsafe { tds_check(bytes, 0) }, refused(2, 0));
-    let answer = unsafe { tds_write(bytes, 0, floats, 0, words, 0, room, 0) };
-    assert_eq!(answer, refused(15, 41));
 }
