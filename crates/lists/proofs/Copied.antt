@@ -10,27 +10,11 @@ use lib.Seq.{drop-drop, take-add, take-suc, getD-drop, length-take-le}
 use Rattle.rules.specs.Bytes.{value, le, packed, numbers, Bytes}
 use Rattle.rules.specs.OwnData.{corners}
 use Rattle.rules.specs.Calls.{filled}
-use Rattle.rules.proofs.Bytes.{bytes-drop, bytes-take, le-value, packed-append}
+use Rattle.rules.proofs.Bytes.{bytes-drop, packed-append}
+use Rattle.rules.proofs.Numbers.{front, numbers-bytes}
 use Rattle.little_endian.specs.Numbers.{wordAt, longAt}
 use Rattle.scan.proofs.Lists.{faces-more}
 use Rattle.lists.proofs.Fill.{fill-at}
-
--- every number of a slice is a byte
-pub bytes-all : (s : List ℕ) → ((i : ℕ) → getD s i 0 < 256) → Bytes s
-bytes-all [] h = tt
-bytes-all (b ∷ s) h = (h 0, bytes-all s (λ i. h (suc i)))
-
--- the w bytes at the front, as a number and back
-front : (w : ℕ) (s : List ℕ) → Bytes s → w ≤ length s → le w (value (take w s)) ≡ take w s
-front w s b h = ap (λ (k : ℕ). le k (value (take w s))) (sym (length-take-le w s h)) ∙ le-value (take w s) (bytes-take w s b)
-
--- n numbers of w bytes
-pub numbers-bytes : (w n : ℕ) (s : List ℕ) → Bytes s → w * n ≤ length s → packed w (numbers w n s) ≡ take (w * n) s
-numbers-bytes w zero s b h = rw (mul-zero w)
-numbers-bytes w (suc n) s b h =
-    let m : w * suc n ≡ w + w * n = mul-suc w n ∙ add-comm (w * n) w in
-    let d : w * n ≤ length (drop w s) = omega (arith, length-drop w s) in
-    rw (front w s b (omega arith), numbers-bytes w n (drop w s) (bytes-drop w s b) d, m, take-add w (w * n) s)
 
 -- one byte more in a row
 pub byte-more : (s : List ℕ) (at i : ℕ) (row : List ℕ) → at + i < length s → i < length row →

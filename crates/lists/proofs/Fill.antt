@@ -6,13 +6,13 @@ use native.Mathlib.Omega.{arith}
 use lib.Ieee.{Float}
 use lib.Seq.{drop-drop}
 use lib.ListN.{length, set, drop, length-append, length-map}
+use Rattle.rules.proofs.Numbers.{length-numbers, length-corners}
 use Rattle.rules.specs.Bytes.{numbers}
 use Rattle.rules.specs.OwnData.{corners}
 use Rattle.rules.specs.Box.{float}
 use Rattle.rules.specs.Calls.{filled}
 use Rattle.little_endian.specs.Numbers.{wordAt, longAt}
 use Rattle.scan.proofs.Lists.{longs-more, faces-more}
-use Rattle.lists.proofs.Numbers.{numbers-length, corners-length}
 
 module _ {A : Type 0} where
   -- a store behind what is filled
@@ -31,7 +31,7 @@ map-snoc f (y ∷ xs) x = ap (λ (l : List _). f y ∷ l) (map-snoc f xs x)
 -- one float more
 pub float-more : (s : List ℕ) (at i : ℕ) (row : List Float) → i < length row →
     set (filled (map float (numbers 4 i (drop at s))) row) i (float (longAt s (at + 4 * i))) ≡ filled (map float (numbers 4 (i + 1) (drop at s))) row
-float-more s at i row l = rw (longs-more s at i, map-snoc float (numbers 4 i (drop at s)) (longAt s (at + 4 * i))) (fill-at (map float (numbers 4 i (drop at s))) row _ i (length-map (numbers 4 i (drop at s)) float ∙ numbers-length 4 i (drop at s)) l)
+float-more s at i row l = rw (longs-more s at i, map-snoc float (numbers 4 i (drop at s)) (longAt s (at + 4 * i))) (fill-at (map float (numbers 4 i (drop at s))) row _ i (length-map (numbers 4 i (drop at s)) float ∙ length-numbers 4 i (drop at s)) l)
 
 -- one face more: its three corners
 face-is : (s : List ℕ) (f : ℕ) → corners 1 (drop f s) ≡ wordAt s f ∷ wordAt s (f + 2) ∷ wordAt s (f + 4) ∷ []
@@ -42,7 +42,7 @@ pub face-more : (s : List ℕ) (at i : ℕ) (row : List ℕ) → 3 * i + 2 < len
     set (set (set (filled (corners i (drop at s)) row) (3 * i) a) (3 * i + 1) b) (3 * i + 2) c ≡ filled (corners (i + 1) (drop at s)) row
 face-more s at i row l a b c e f g =
     let k = corners i (drop at s) in
-    let n = corners-length i (drop at s) in
+    let n = length-corners i (drop at s) in
     let n1 : length (k ++ (a ∷ [])) ≡ 3 * i + 1 = length-append k (a ∷ []) ∙ omega arith in
     let n2 : length ((k ++ (a ∷ [])) ++ (b ∷ [])) ≡ 3 * i + 2 = length-append (k ++ (a ∷ [])) (b ∷ []) ∙ omega arith in
     let z : corners (i + 1) (drop at s) ≡ k ++ (a ∷ b ∷ c ∷ []) = faces-more s at i ∙ ap (λ (l : List ℕ). k ++ l) (face-is s (at + 8 * i) ∙ rw (e, f, g)) in

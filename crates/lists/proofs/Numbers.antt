@@ -1,4 +1,4 @@
--- The numbers of a list in the file: how many, and which stands where.
+-- The numbers of a list in the file: which stands where.
 use mathlib.Core.Path.{_≡_, refl, sym, ap, _∙_}
 use mathlib.Core.Bool.{Bool, true}
 use mathlib.Core.List.{List, [], _∷_}
@@ -10,15 +10,8 @@ use lib.Seq.{drop-drop}
 use Rattle.rules.specs.Bytes.{value, numbers, every}
 use Rattle.rules.specs.OwnData.{corners}
 use Rattle.rules.proofs.Bools.{and-parts}
+use Rattle.rules.proofs.Numbers.{length-numbers}
 use Rattle.little_endian.specs.Numbers.{longAt}
-
-pub numbers-length : (w n : ℕ) (s : List ℕ) → length (numbers w n s) ≡ n
-numbers-length w zero s = refl
-numbers-length w (suc n) s = ap suc (numbers-length w n (drop w s))
-
-pub corners-length : (n : ℕ) (s : List ℕ) → length (corners n s) ≡ 3 * n
-corners-length zero s = refl
-corners-length (suc n) s = omega (arith, corners-length n (drop 8 s))
 
 numbers-at : (w n j : ℕ) (s : List ℕ) → j < n → getD (numbers w n s) j 0 ≡ value (take w (drop (w * j) s))
 numbers-at w zero j s h = absurd (omega arith)
@@ -39,4 +32,4 @@ every-at p (x ∷ xs) zero h l = and-parts (p x) (every p xs) h .0
 every-at p (x ∷ xs) (suc j) h l = every-at p xs j (and-parts (p x) (every p xs) h .1) (omega arith)
 
 pub long-passes : (p : ℕ → Bool) (s : List ℕ) (at n : ℕ) → every p (numbers 4 n (drop at s)) ≡ true → (j : ℕ) → j < n → p (longAt s (at + 4 * j)) ≡ true
-long-passes p s at n h j l = rw (← (long-number s at n j l)) (every-at p (numbers 4 n (drop at s)) j h (omega (arith, numbers-length 4 n (drop at s))))
+long-passes p s at n h j l = rw (← (long-number s at n j l)) (every-at p (numbers 4 n (drop at s)) j h (omega (arith, length-numbers 4 n (drop at s))))

@@ -8,6 +8,7 @@ use native.Mathlib.Omega.{arith}
 use lib.Dec.{leb}
 use lib.ListN.{length, drop, getElem?}
 use borrow.Author.Tests.{le-leb, lt-leb, leb-true}
+use Rattle.rules.proofs.Numbers.{length-numbers, length-corners}
 use Rattle.rules.specs.declared.Refusal.{Refusal}
 use Rattle.rules.specs.declared.Refusal.the-variants.{NoRoom}
 use Rattle.rules.specs.Walk.{Answer, refused, accepted, verdict}
@@ -15,7 +16,6 @@ use Rattle.rules.specs.Gives.{Mesh, meshes}
 use Rattle.rules.specs.Calls.{pickMesh}
 use Rattle.find.specs.declared.Place.{Place}
 use Rattle.find.specs.Places.{PlaceIs}
-use Rattle.lists.proofs.Numbers.{numbers-length, corners-length}
 use Rattle.mesh.specs.declared.Asked.{Asked}
 use Rattle.mesh.specs.Choices.{no, yes, fitting, choose, AskedIs}
 use Rattle.mesh.proofs.Asks.{is-no, is-yes, asked-yes}
@@ -23,10 +23,10 @@ use Rattle.mesh.proofs.Calls.{any-refused, any-goes-on}
 
 module _ {s : List ℕ} {m : Mesh} {place : Place} (p : PlaceIs s m place) where
   vertex-numbers : length (m .vertices) ≡ 3 * place .vertices .count
-  vertex-numbers = ap length (p .vertices-are) ∙ numbers-length 4 (3 * place .vertices .count) (drop (place .vertices .at) s)
+  vertex-numbers = ap length (p .vertices-are) ∙ length-numbers 4 (3 * place .vertices .count) (drop (place .vertices .at) s)
 
   corner-numbers : length (m .corners) ≡ 3 * place .faces .count
-  corner-numbers = ap length (p .corners-are) ∙ corners-length (place .faces .count) (drop (place .faces .at) s)
+  corner-numbers = ap length (p .corners-are) ∙ length-corners (place .faces .count) (drop (place .faces .at) s)
 
 module _ (s : List ℕ) (mesh v c : ℕ) where
   pub room-refused : {r : Refusal} → choose yes mesh (verdict s) ≡ no r → AskedIs s (fitting v c) mesh (Asked.Refused r)

@@ -14,11 +14,6 @@ use Rattle.rules.proofs.Steps.{Says, Passed, Entered, step-says}
 use Rattle.rules.proofs.Fuel.{walk-cons}
 use Rattle.little_endian.proofs.Slices.{drop-slice, take-slice}
 
--- every number of a slice is a byte
-pub bytes-all : (s : List ℕ) → ((i : ℕ) → getD s i 0 < 256) → Bytes s
-bytes-all [] h = tt
-bytes-all (b ∷ s) h = (h 0, bytes-all s (λ i. h (suc i)))
-
 pub bytes-slice : (s : List ℕ) (at end : ℕ) → Bytes s → Bytes (slice at end s)
 bytes-slice s at end b = bytes-drop at (take end s) (bytes-take end s b)
 

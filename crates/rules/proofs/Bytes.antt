@@ -12,6 +12,11 @@ use Rattle.rules.specs.Bytes.{value, le, packed, Bytes}
 use Rattle.rules.specs.Layout.{header}
 use Rattle.rules.specs.Walk.{lengthField}
 
+-- every number of a slice is a byte
+pub bytes-all : (s : List ℕ) → ((i : ℕ) → getD s i 0 < 256) → Bytes s
+bytes-all [] h = tt
+bytes-all (b ∷ s) h = (h 0, bytes-all s (λ i. h (suc i)))
+
 pub bytes-drop : (n : ℕ) (s : List ℕ) → Bytes s → Bytes (drop n s)
 bytes-drop zero s h = h
 bytes-drop (suc n) [] h = h

@@ -1,5 +1,6 @@
 pub mod Bools
 pub mod Bytes
+pub mod Numbers
 pub mod Rows
 pub mod Apart
 pub mod Conditions

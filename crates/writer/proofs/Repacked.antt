@@ -14,33 +14,12 @@ use Rattle.rules.specs.OwnData.{nameSize, corners}
 use Rattle.rules.specs.Rules.{allBelow}
 use Rattle.rules.proofs.Bools.{both, and-parts}
 use Rattle.rules.proofs.Bytes.{bytes-drop, bytes-take, le-value}
+use Rattle.rules.proofs.Numbers.{front}
 use Rattle.writer.specs.Bare.{nameData, faceWords}
 use Rattle.writer.specs.Write.{notZero}
 use Rattle.writer.specs.WritesAgain.{flags}
 
--- ---- lengths
-
-pub length-numbers : (w k : ℕ) (s : List ℕ) → length (numbers w k s) ≡ k
-length-numbers w zero s = refl
-length-numbers w (suc k) s = ap suc (length-numbers w k (drop w s))
-
-pub length-corners : (f : ℕ) (s : List ℕ) → length (corners f s) ≡ 3 * f
-length-corners zero s = refl
-length-corners (suc f) s = omega (arith, length-corners f (drop 8 s))
-
 -- ---- numbers
-
--- the w bytes at the front, as a number and back
-pub front : (w : ℕ) (s : List ℕ) → Bytes s → w ≤ length s → le w (value (take w s)) ≡ take w s
-front w s b h = ap (λ (k : ℕ). le k (value (take w s))) (sym (length-take-le w s h)) ∙ le-value (take w s) (bytes-take w s b)
-
-pub packed-numbers : (w k : ℕ) (s : List ℕ) → Bytes s → length s ≡ w * k → packed w (numbers w k s) ≡ s
-packed-numbers w zero [] b l = refl
-packed-numbers w zero (x ∷ s) b l = absurd (omega (arith, mul-zero w))
-packed-numbers w (suc k) s b l =
-    let m = mul-suc w k in
-    let d : length (drop w s) ≡ w * k = omega (arith, length-drop w s) in
-    rw (front w s b (omega arith), packed-numbers w k (drop w s) (bytes-drop w s b) d) (take-append-drop w s)
 
 value-small : (s : List ℕ) → Bytes s → value s < 256 ^ length s
 value-small [] b = omega arith

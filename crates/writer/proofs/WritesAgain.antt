@@ -10,6 +10,7 @@ use lib.Ieee.{Float}
 use lib.ListN.{length, take, drop, length-append, length-drop, length-map, take-append-drop}
 use lib.Seq.{take-at}
 use borrow.Author.Tests.{eq-eqb, le-leb}
+use Rattle.rules.proofs.Numbers.{length-numbers, length-corners, front, packed-numbers}
 use Rattle.rules.specs.declared.Refusal.the-variants.{NoRoom}
 use Rattle.rules.specs.declared.Sizes.{Sizes}
 use Rattle.rules.specs.declared.Tabled.{Tabled}
@@ -35,7 +36,7 @@ use Rattle.writer.specs.WritesAgain.{faceFlags, WritesAgain}
 use Rattle.writer.proofs.Bare.{leaf-bytes, behind, name-place, length-bare}
 use Rattle.writer.proofs.Floats.{patterns-finite, patterns-back}
 use Rattle.writer.proofs.Judged.{sized, called}
-use Rattle.writer.proofs.Repacked.{length-numbers, length-corners, front, packed-numbers, numbers-small, packed-corners, name-parts}
+use Rattle.writer.proofs.Repacked.{numbers-small, packed-corners, name-parts}
 use Rattle.writer.proofs.Six.{Exact, exact, mesh, name-call, tables-call}
 
 -- ---- own data again

@@ -1,9 +1,9 @@
 -- A refused file stays refused; an accepted one has its layout in it, whose records are written where there is room.
 use mathlib.Core.Path.{sym, _∙_}
 use native.Mathlib.Omega.{arith}
+use Rattle.rules.proofs.Bytes.{bytes-all}
 use Rattle.rules.specs.Layout.{figure}
 use Rattle.rules.specs.Rules.{file}
-use Rattle.reader.proofs.Parts.{bytes-all}
 use Rattle.reader.proofs.Accepted.{accepted-by}
 use Rattle.lister.specs.Laid.{lent}
 use Rattle.lister.proofs.Whole.{rows-refused, whole-laid, whole-bounds, whole-room, rows-no-room, rows-filled}

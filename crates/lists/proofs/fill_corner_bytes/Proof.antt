@@ -6,10 +6,10 @@ use lib.ListN.{length, drop}
 use borrow.Author.Needs.{needs}
 use Rattle.rules.specs.Bytes.{packed}
 use Rattle.rules.specs.OwnData.{corners}
-use Rattle.rules.proofs.Bytes.{length-le}
+use Rattle.rules.proofs.Bytes.{length-le, bytes-all}
 use Rattle.little_endian.specs.Put.{Put}
 use Rattle.little_endian.proofs.Put.{put-none, put-then, put-front}
-use Rattle.lists.proofs.Copied.{bytes-all, face-bytes-more}
+use Rattle.lists.proofs.Copied.{face-bytes-more}
 use Rattle.lists.proofs.fill_corner_bytes.Statement.{statement}
 use Rattle.lists.proofs.fill_corner_bytes.Tie as tie
 

@@ -3,8 +3,8 @@ use Prim.Native.Nat.{_*_, _≤_}
 use native.Mathlib.Omega.{arith}
 use lib.ListN.{length, drop, length-drop}
 use borrow.Author.Needs.{needs}
-use Rattle.rules.proofs.Bytes.{bytes-drop}
-use Rattle.lists.proofs.Copied.{bytes-all, numbers-bytes}
+use Rattle.rules.proofs.Numbers.{numbers-bytes}
+use Rattle.rules.proofs.Bytes.{bytes-drop, bytes-all}
 use Rattle.lists.proofs.fill_float_bytes.Statement.{statement}
 use Rattle.lists.proofs.fill_float_bytes.Tie as tie
 

@@ -1,7 +1,7 @@
 -- The check's answer, and then the mesh that is found.
 use mathlib.Core.Path.{sym, _∙_}
 use native.Mathlib.Omega.{arith}
-use Rattle.reader.proofs.Parts.{bytes-all}
+use Rattle.rules.proofs.Bytes.{bytes-all}
 use Rattle.reader.proofs.Accepted.{accepted-by, meets-by}
 use Rattle.mesh.proofs.Asks.{file-refused, mesh-there, mesh-nowhere}
 use borrow.Author.Needs.{needs}

@@ -1,9 +1,9 @@
 -- A refusal, or the mesh's tables as bytes.
 use native.Mathlib.Omega.{arith}
+use Rattle.rules.proofs.Bytes.{bytes-all}
 use Rattle.rules.specs.Encodings.{numberBytes}
 use Prim.Native.Nat.{_/_}
 use lib.ListN.{length}
-use Rattle.reader.proofs.Parts.{bytes-all}
 use Rattle.mesh.specs.Choices.{fitting}
 use Rattle.mesh.proofs.Asks.{asked-no, asked-yes}
 use Rattle.mesh.proofs.Room.{has-room}

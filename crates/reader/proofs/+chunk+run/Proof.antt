@@ -7,6 +7,7 @@ use native.Mathlib.Omega.{arith}
 use borrow.Author.Needs.{needs}
 use lib.ListN.{length}
 use lib.Seq.{slice}
+use Rattle.rules.proofs.Bytes.{bytes-all}
 use Rattle.rules.specs.Rules.{inside}
 use Rattle.rules.specs.Walk.{step, walk}
 use Rattle.rules.proofs.Steps.{step-says}
@@ -14,7 +15,7 @@ use Rattle.marks.specs.Marks.{noMarks}
 use Rattle.reader.specs.declared.Head.{Head}
 use Rattle.reader.specs.declared.Ran.{Ran}
 use Rattle.reader.specs.States.{HeadIs, HeadWithin, ChunkIs, ChunkWithin, RunIs, RunWithin}
-use Rattle.reader.proofs.Parts.{bytes-all, bytes-slice, step-parts, walk-part}
+use Rattle.reader.proofs.Parts.{bytes-slice, step-parts, walk-part}
 use Rattle.reader.proofs.Chunks.{chunk-fault, chunk-skip, chunk-leaf}
 use Rattle.reader.proofs.Entering.{ent, inner-context, enter-refused, enter-placed, enter-shut, enter-done}
 use Rattle.reader.proofs.Runs.{run-stops, run-goes-on, run-ends}

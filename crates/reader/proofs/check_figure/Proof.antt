@@ -5,12 +5,12 @@ use borrow.Author.Needs.{needs}
 use mathlib.Core.List.{[]}
 use lib.ListN.{length}
 use lib.Seq.{slice}
+use Rattle.rules.proofs.Bytes.{bytes-all}
 use Rattle.rules.specs.Rules.{file, inside}
 use Rattle.rules.specs.Walk.{walk}
 use Rattle.marks.specs.Marks.{noMarks}
 use Rattle.reader.specs.declared.Ran.{Ran}
 use Rattle.reader.specs.States.{RunIs, RunWithin}
-use Rattle.reader.proofs.Parts.{bytes-all}
 use Rattle.reader.proofs.Files.{figure-row, top-context, top-run, figure-refused, figure-shut, figure-accepted}
 use borrow.Author.Needs.{needs}
 use Rattle.reader.proofs.check_figure.Statement.{statement}

@@ -1,7 +1,7 @@
 -- A refusal, or the three counts: they add to the length of a file within the limit, so each fits.
 use mathlib.Core.Path.{sym, ap, _∙_}
 use native.Mathlib.Omega.{arith}
-use Rattle.reader.proofs.Parts.{bytes-all}
+use Rattle.rules.proofs.Bytes.{bytes-all}
 use Rattle.tds.proofs.Small.{counts-small}
 use Rattle.tds.proofs.Gives.{parts, counts-given, counts-refused}
 use borrow.Author.Needs.{needs}
