@@ -1,5 +1,5 @@
 -- The numbers of a list in the file: which stands where.
-use mathlib.Core.Path.{_≡_, refl, sym, ap, _∙_}
+use mathlib.Core.Path.{_≡_, sym, ap, _∙_}
 use mathlib.Core.Bool.{Bool, true}
 use mathlib.Core.List.{List, [], _∷_}
 use Prim.Native.Nat.{ℕ, zero, suc, _+_, _*_, _<_}
@@ -8,7 +8,6 @@ use native.Mathlib.Omega.{arith}
 use lib.ListN.{length, take, drop, getD}
 use lib.Seq.{drop-drop}
 use Rattle.rules.specs.Bytes.{value, numbers, every}
-use Rattle.rules.specs.OwnData.{corners}
 use Rattle.rules.proofs.Bools.{and-parts}
 use Rattle.rules.proofs.Numbers.{length-numbers}
 use Rattle.little_endian.specs.Numbers.{longAt}

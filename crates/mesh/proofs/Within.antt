@@ -16,7 +16,7 @@ use Rattle.rules.specs.Bytes.{Bytes, every}
 use Rattle.rules.specs.OwnData.{finite}
 use Rattle.rules.specs.Box.{boxOf, centreOf}
 use Rattle.rules.specs.Layout.{Run, end, skip, known, figure, size}
-use Rattle.rules.specs.Rules.{limit, Meets}
+use Rattle.rules.specs.Rules.{limit}
 use Rattle.rules.specs.Walk.{Answer, refused, accepted, verdict}
 use Rattle.rules.specs.Gives.{Mesh, oneMesh, meshOf, meshesOf, meshes}
 use Rattle.rules.specs.Calls.{pickMesh}

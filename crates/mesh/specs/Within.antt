@@ -1,6 +1,6 @@
 -- What holds of the numbers in an answer besides what they are: they fit 32 bits, and floats are numbers. (It follows from
 -- the answers' definitions; a caller that gives the numbers out needs it.)
-use Prim.Native.Nat.{ℕ, _+_, _≤_}
+use Prim.Native.Nat.{_+_, _≤_}
 use Rattle.rules.specs.declared.Named.{Named}
 use Rattle.rules.specs.declared.Tabled.{Tabled}
 use Rattle.rules.specs.declared.Boxed.{Boxed}

@@ -15,7 +15,7 @@ use Rattle.rules.specs.Table.{plus, listed, shape}
 use Rattle.rules.specs.OwnData.{ownSize}
 use Rattle.rules.specs.Layout.{Run, end, skip, known, header, size, bytes, identifiers}
 use Rattle.rules.specs.Rules.{Parent, inside, few, noChild, unlisted, Lawful, Obeys}
-use Rattle.rules.specs.Walk.{Step, pass, enter, broken, headerConditions, childConditions, endConditions, sorted, lengthField, step, Answer, refused, accepted, unless, ended, withSkip, withKnown, taken, run}
+use Rattle.rules.specs.Walk.{pass, enter, broken, headerConditions, childConditions, endConditions, sorted, lengthField, step, accepted, ended, withSkip, taken, run}
 use Rattle.rules.proofs.Bools.{and-parts, or-else, or-second}
 use Rattle.rules.proofs.Bytes.{value-le}
 use Rattle.rules.proofs.Conditions.{unbroken}

@@ -1,9 +1,8 @@
 -- The demands, proved.
 use mathlib.Core.Path.{_≡_, refl, sym, ap, _∙_}
-use Prim.Native.Nat.{ℕ, _+_, _≤_}
+use Prim.Native.Nat.{_+_}
 use native.Mathlib.Omega.{arith}
 use mathlib.Core.Bool.{true, _&&_}
-use mathlib.Core.List.{List}
 use mathlib.Core.Logic.{_⊎_, inl, inr}
 use lib.Dec.{leb}
 use lib.ListN.{length}
@@ -15,8 +14,8 @@ use Rattle.rules.specs.Layout.{Run, end, skip, known, figure, size, byte
 use Rattle.rules.specs.Rules.{file}
 use Rattle.rules.specs.Walk.{Answer, refused, accepted, verdict}
 use Rattle.rules.specs.Gives.{headers, owned, skipped}
-use Rattle.rules.specs.Gaps.{Marked, figureOf, without, with}
-use Rattle.rules.specs.Demands.{Demand1, CountsAdd, Demand3, PutInOrTakenOut, putIn}
+use Rattle.rules.specs.Gaps.{figureOf, without, with}
+use Rattle.rules.specs.Demands.{Demand1, CountsAdd, Demand3, putIn}
 use Rattle.rules.proofs.Bools.{and-parts}
 use Rattle.rules.proofs.Sound.{length-bytes}
 use Rattle.rules.proofs.Verdict.{demand2, verdict-good, length-figure}

@@ -1,16 +1,15 @@
 -- Demand 3 over lists: each record of the file with the chunks is the old one, moved; each mesh is the same.
 -- By the layout, which both files share: where the run begins before and after, and what was put in before it.
-use mathlib.Core.Path.{_≡_, refl, sym, ap, _∙_, subst}
+use mathlib.Core.Path.{_≡_, refl, ap}
 use Prim.Native.Nat.{ℕ, suc, _+_, _-_}
 use native.Mathlib.Omega.{arith}
 use mathlib.Core.Bool.{Bool, true, false}
 use mathlib.Core.List.{List, [], _∷_, _++_}
 use lib.ListN.{length}
 use lib.Dec.{eqb}
-use Rattle.rules.specs.declared.Record.{Record}
-use Rattle.rules.specs.Layout.{Run, size, child}
+use Rattle.rules.specs.Layout.{size, child}
 use Rattle.rules.specs.Gives.{recordCount, recordsOf, Mesh, meshOf, oneMesh, meshesOf}
-use Rattle.rules.specs.Gaps.{Marked, end, put, skip, known, without, with, Piece, pieces, before, Moved, SameMesh, Pairwise}
+use Rattle.rules.specs.Gaps.{Marked, end, put, skip, known, without, with, Piece, before, Moved, SameMesh, Pairwise}
 use Rattle.rules.proofs.Gaps.{added, size-grows, record-count-same, child-same}
 use Rattle.rules.proofs.Pieces.{Holds, holds-put, holds-skip, holds-kids, holds-rest, before-here, inside-here}
 

@@ -1,18 +1,17 @@
 -- Demand 2: the verdict accepts a file, with a layout, exactly when the file meets the rules with it.
 use mathlib.Core.Path.{_≡_, refl, sym, ap, _∙_, subst}
-use mathlib.Core.Logic.{_↔_}
 use Prim.Native.Nat.{ℕ, suc, _+_, _≤_}
 use native.Mathlib.Omega.{arith}
-use mathlib.Core.Bool.{true, _||_}
-use mathlib.Core.List.{List, [], _∷_, _++_, append-nil}
+use mathlib.Core.Bool.{true}
+use mathlib.Core.List.{List, [], append-nil}
 use mathlib.Core.Option.{Option, none, some}
-use lib.ListN.{length, take, drop, length-drop, length-append}
+use lib.ListN.{length, take, drop, length-drop}
 use borrow.Author.Tests.{leb-true, le-leb, eqb-true, eq-eqb}
 use Rattle.rules.specs.declared.Refusal.{Refusal}
-use Rattle.rules.specs.Bytes.{value, every, Bytes}
-use Rattle.rules.specs.Table.{theFile, under, plus, shape, limits, needs, rows, among}
+use Rattle.rules.specs.Bytes.{value, Bytes}
+use Rattle.rules.specs.Table.{under, plus, shape, rows}
 use Rattle.rules.specs.Layout.{Run, end, figure, size, bytes}
-use Rattle.rules.specs.Rules.{Parent, file, inside, limit, noChild, Lawful, Obeys, Meets}
+use Rattle.rules.specs.Rules.{Parent, file, inside, limit, Lawful, Obeys, Meets}
 use Rattle.rules.specs.Walk.{broken, fileConditions, lengthField, Answer, refused, accepted, unless, ended, walk, verdict}
 use Rattle.rules.proofs.Bytes.{bytes-drop, value-le, header-is}
 use Rattle.rules.proofs.Conditions.{met, unbroken}

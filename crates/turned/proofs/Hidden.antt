@@ -5,7 +5,6 @@ use Prim.Native.Nat.{_+_, _*_, _≤_, _<_}
 use native.Mathlib.Omega.{arith}
 use mathlib.Core.Bool.{true, false, false≢true}
 use mathlib.Core.List.{[]}
-use lib.ListN.{length}
 use Rattle.rules.specs.Bytes.{every}
 use Rattle.rules.specs.Table.{rows, atMostOne, atLeastOne, listed, under, shape, plus, limits, needs}
 use Rattle.rules.specs.OwnData.{finite}
