@@ -1,0 +1,36 @@
+-- The lines of a flat row: one more at the end, and those of the records that it holds.
+use mathlib.Core.Path.{_≡_, refl, sym, ap, _∙_}
+use mathlib.Core.List.{List, [], _∷_, _++_, append-assoc, append-nil}
+use Prim.Native.Nat.{ℕ, zero, suc, _+_, _*_}
+use native.Mathlib.Numerals.{add-one}
+use native.Mathlib.Omega.{arith}
+use lib.ListN.{length, drop, getD}
+use lib.Seq.{getD-drop}
+use Rattle.rules.specs.declared.Record.{Record}
+use Rattle.rules.specs.Gives.{flat}
+use Rattle.listing_text.specs.Lines.{chunkLine, lines, lineAt, rowLines}
+
+-- the record after the first stands six numbers further on
+at-drop : (row : List ℕ) (j k : ℕ) → getD (drop 6 row) (j + k) 0 ≡ getD row (6 + j + k) 0
+at-drop row j k =
+    let e : 6 + j + k ≡ 6 + (j + k) = omega arith in
+    rw e (getD-drop 6 row (j + k) 0)
+
+line-drop : (row : List ℕ) (j : ℕ) → lineAt (drop 6 row) j ≡ lineAt row (6 + j)
+line-drop row j = rw (at-drop row j 3, getD-drop 6 row j 0, at-drop row j 1, at-drop row j 2)
+
+lines-suc : (row : List ℕ) (i : ℕ) → rowLines (suc i) row ≡ rowLines i row ++ lineAt row (6 * i)
+lines-suc row zero = append-nil (lineAt row 0)
+lines-suc row (suc i) =
+    let j : 6 * suc i ≡ 6 + 6 * i = omega arith in
+    ap (λ (l : List ℕ). lineAt row 0 ++ l) (lines-suc (drop 6 row) i) ∙
+    rw (j, line-drop row (6 * i)) (sym (append-assoc (lineAt row 0) (rowLines i (drop 6 row)) (lineAt row (6 + 6 * i))))
+
+-- the lines of the first i + 1 records
+pub lines-more : (row : List ℕ) (i : ℕ) → rowLines (i + 1) row ≡ rowLines i row ++ lineAt row (6 * i)
+lines-more row i = rw (add-one i) (lines-suc row i)
+
+-- a row that begins with records has their lines
+pub lines-flat : (rs : List Record) (rest : List ℕ) → rowLines (length rs) (flat rs ++ rest) ≡ lines rs
+lines-flat [] rest = refl
+lines-flat (r ∷ rs) rest = ap (λ (l : List ℕ). chunkLine (r .depth) (r .identifier) (r .offset) (r .len) ++ l) (lines-flat rs rest)

@@ -1,0 +1,145 @@
+// What the listing program prints, as bytes in a lent buffer, and the reading of its input. Each `put_` function puts text
+// at a position of out and answers the position behind it; the bytes around the text stay.
+use printing::put_byte;
+use printing::put_decimal;
+use printing::put_four_digits;
+use printing::put_text;
+use rules::Checked;
+use rules::Counts;
+use rules::Refusal;
+ghost use mathlib.Core.Path.{_≡_};
+ghost use Prim.Native.Nat.{_+_, _*_, _<_, _≤_};
+ghost use lib.ListN.{length};
+ghost use Rattle.io.specs.Counts.{Counts as Io·Counts};
+ghost use Rattle.little_endian.specs.Put.{Put};
+ghost use Rattle.listing_text.specs.Lines.{field, refusalLine, countsLine, chunkLine, rowLines};
+ghost use Rattle.listing_text.specs.Listing.{listing, printed, Within};
+
+// The numbers of the program's row of 1,024 records.
+const ROW: usize = 6144;
+
+// Room for any listing: a first line of at most 87 bytes, and 1,024 lines of at most 68.
+pub const ROOM: usize = 69719;
+
+// What was read: a whole input of so many bytes; the start of a longer one; or a read failed.
+pub enum Input {
+    Whole(usize),
+    Longer,
+    Failed,
+}
+
+// ---- the lines
+
+// A number behind a space.
+fn put_field(n: usize, at: usize, out: &mut [u8]) -> usize
+    requires { ⌜ at + 21 ≤ length (now out) ⌝ }
+    ensures text { λ r. ⌜ Put (now (out .entry)) at (field n) (now (out .exit)) r ⌝ }
+    ensures within { λ r. ⌜ r ≤ at + 21 ⌝ }
+{
+    put_decimal(n, put_byte(b' ', at, out), out)
+}
+
+// A refusal's line.
+fn put_refusal(r: Refusal, at: usize, out: &mut [u8]) -> usize
+    requires { ⌜ at + 50 ≤ length (now out) ⌝ }
+    ensures text { λ e. ⌜ Put (now (out .entry)) at (refusalLine r) (now (out .exit)) e ⌝ }
+    ensures within { λ e. ⌜ e ≤ at + 50 ⌝ }
+{
+    let number = put_text(b"refused", at, out);
+    let place = put_field(rules::refusal_number(r) as usize, number, out);
+    let end = put_field(rules::refusal_place(r), place, out);
+    put_byte(b'\n', end, out)
+}
+
+// The first line of an accepted file of a size.
+fn put_counts(size: usize, c: Counts, at: usize, out: &mut [u8]) -> usize
+    requires { ⌜ at + 87 ≤ length (now out) ⌝ }
+    ensures text { λ r. ⌜ Put (now (out .entry)) at (countsLine size c) (now (out .exit)) r ⌝ }
+    ensures within { λ r. ⌜ r ≤ at + 87 ⌝ }
+{
+    let first = put_text(b"ok", at, out);
+    let headers = put_field(size, first, out);
+    let own = put_field(c.headers, headers, out);
+    let skipped = put_field(c.own, own, out);
+    let end = put_field(c.skipped, skipped, out);
+    put_byte(b'\n', end, out)
+}
+
+// The line of one chunk.
+fn put_chunk(depth: u32, id: u32, offset: u32, len: u32, at: usize, out: &mut [u8]) -> usize
+    requires { ⌜ at + 68 ≤ length (now out) ⌝ }
+    ensures text { λ r. ⌜ Put (now (out .entry)) at (chunkLine depth id offset len) (now (out .exit)) r ⌝ }
+    ensures within { λ r. ⌜ r ≤ at + 68 ⌝ }
+{
+    let space = put_decimal(depth as usize, at, out);
+    let digits = put_byte(b' ', space, out);
+    let first = put_four_digits(id as usize, digits, out);
+    let second = put_field(offset as usize, first, out);
+    let end = put_field(len as usize, second, out);
+    put_byte(b'\n', end, out)
+}
+
+// The lines of the first n records of a flat row.
+fn put_chunks(row: &[u32], n: usize, at: usize, out: &mut [u8]) -> usize
+    requires { ⌜ (6 * n ≤ length (now row)) × (at + 68 * n ≤ length (now out)) ⌝ }
+    ensures text { λ r. ⌜ Put (now (out .entry)) at (rowLines n (now (row .entry))) (now (out .exit)) r ⌝ }
+    ensures within { λ r. ⌜ r ≤ at + 68 * n ⌝ }
+{
+    let mut next = at;
+    let mut i = 0usize;
+    while i < n {
+        let j = 6 * i;
+        next = put_chunk(row[j + 3], row[j], row[j + 1], row[j + 2], next, out);
+        i += 1;
+    }
+    next
+}
+
+// ---- the listing
+
+// The listing of a file.
+fn put_listing(file: &[u8], out: &mut [u8; ROOM]) -> usize
+    ensures text { λ r. ⌜ Put (now (out .entry)) 0 (listing (now (file .entry))) (now (out .exit)) r ⌝ }
+    ensures within { λ r. ⌜ r ≤ length (now (out .exit)) ⌝ }
+{
+    let mut row = [0u32; ROW];
+    match lister::list(file, &mut row) {
+        Checked::Refused(r) => put_refusal(r, 0, out),
+        Checked::Accepted(counts) => {
+            let first = put_counts(file.len(), counts, 0, out);
+            put_chunks(&row, counts.records, first, out)
+        }
+    }
+}
+
+// What is printed of an input, of which the buffer has the front: put at the front of out. Answers how many bytes it has.
+pub fn answer(buffer: &[u8], input: Input, out: &mut [u8; ROOM]) -> usize
+    requires { ⌜ Within (now buffer) input ⌝ }
+    ensures text { λ r. ⌜ Put (now (out .entry)) 0 (printed (now (buffer .entry)) input) (now (out .exit)) r ⌝ }
+    ensures within { λ r. ⌜ Io·Counts r (now (out .exit)) ⌝ }
+{
+    match input {
+        Input::Whole(size) => put_listing(&buffer[..size], out),
+        Input::Longer => put_refusal(Refusal::TooLong, 0, out),
+        Input::Failed => 0,
+    }
+}
+
+// ---- the input
+
+// Reads an input until it ends or the buffer is full, and then asks for one byte more, which tells an end from a failure.
+// No contract can say which bytes are read, nor which answer is given; the bytes of a whole input are in the buffer.
+pub fn read_input(fd: i32, buffer: &mut [u8]) -> Input
+    ensures { λ r. ⌜ Within (now (buffer .exit)) r ⌝ }
+{
+    let n = io::read_full(fd, buffer);
+    let mut next = [0u8; 1];
+    let got = libc::read(fd, &mut next);
+    if got == 0 {
+        return Input::Whole(n);
+    }
+    if got > 0 && n == buffer.len() {
+        return Input::Longer;
+    }
+    Input::Failed
+}
