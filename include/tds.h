@@ -25,6 +25,7 @@
  * bytes. Floats are the 4 bytes of an IEEE 754 single, bit for bit as in the file. tds_get2,
  * tds_get4 and tds_get_float read them back. Where the machine itself is little-endian and the
  * memory suitably aligned, you may lend a table of float (uint16_t for corners) cast to uint8_t *.
+ * tds_records alone fills the machine's own numbers, and is lent those.
  *   A part of a record or of a number at the end of a slice is no room, and is left alone; so is
  * all room beyond what the answer says was filled. A call that refuses changes no lent memory.
  *
@@ -122,6 +123,30 @@ enum tds_record {
     TDS_RECORD_PARENT = 4, /* the record number, from 0, of the chunk around it; 0 for 4D4D */
     TDS_RECORD_OWN = 5     /* bytes of its own data: no header, no chunks inside it */
 };
+
+/* One record of the list as a struct: the same six numbers, in the same order. */
+struct tds_chunk {
+    uint32_t identifier;
+    uint32_t offset;
+    uint32_t length;
+    uint32_t depth;
+    uint32_t parent;
+    uint32_t own;
+};
+
+/*
+ * The same list as a table of structs, for a caller who would rather have those than bytes.
+ *
+ * Takes a row of numbers to work in beside the table, since nothing is allocated. Here row_len and
+ * table_len are in elements, and both are the machine's own numbers, aligned as the language wants
+ * them; file_len is bytes. Room is what both have room for: the smaller of row_len /
+ * TDS_RECORD_NUMBERS and table_len records. Answers the count of records and fills as many from the
+ * start of the table, and the same numbers, six a record, from the start of the row; what is behind
+ * keeps its contents. Or refuses with 1 to 14, or 15 with the records needed (place), and changes
+ * neither.
+ */
+uint64_t tds_records(const uint8_t *file, size_t file_len, uint32_t *row, size_t row_len,
+                     struct tds_chunk *table, size_t table_len);
 
 /*
  * The identifiers that lead to a mesh, for reading the list. A mesh is a 4100; meshes are numbered

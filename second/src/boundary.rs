@@ -1,10 +1,50 @@
-//! The boundary to C: seven calls on numbers and byte slices, each of which
-//! answers one 64-bit number; this library behind it, and the one under test.
+//! The boundary to C: eight calls on numbers and slices, each of which answers
+//! one 64-bit number; this library behind it, and the one under test.
 
-use crate::{bounding_box, check, list, name, tables, write, Refusal};
+use crate::{bounding_box, check, list, name, tables, write, Refusal, RECORD};
 
 /// The bytes of one record on the boundary.
 pub const RECORD_BYTES: usize = 24;
+
+/// One record of the list as a struct, as C lays it out.
+#[repr(C)]
+#[derive(Clone, Copy, Debug, Default, PartialEq, Eq)]
+pub struct Chunk {
+    pub identifier: u32,
+    pub offset: u32,
+    pub length: u32,
+    pub depth: u32,
+    pub parent: u32,
+    pub own: u32,
+}
+
+impl From<[u32; RECORD]> for Chunk {
+    /// The six numbers in the list's order.
+    fn from([identifier, offset, length, depth, parent, own]: [u32; RECORD]) -> Chunk {
+        Chunk {
+            identifier,
+            offset,
+            length,
+            depth,
+            parent,
+            own,
+        }
+    }
+}
+
+impl From<Chunk> for [u32; RECORD] {
+    /// The six numbers in the list's order.
+    fn from(chunk: Chunk) -> [u32; RECORD] {
+        [
+            chunk.identifier,
+            chunk.offset,
+            chunk.length,
+            chunk.depth,
+            chunk.parent,
+            chunk.own,
+        ]
+    }
+}
 
 /// The calls of the boundary, over slices.
 pub trait Boundary {
@@ -12,6 +52,8 @@ pub trait Boundary {
     fn check(&self, file: &[u8]) -> u64;
     /// The count of records, now in the slice.
     fn list(&self, file: &[u8], records: &mut [u8]) -> u64;
+    /// The count of records, now in the table, and their numbers in the row.
+    fn records(&self, file: &[u8], row: &mut [u32], table: &mut [Chunk]) -> u64;
     /// Vertices plus 65,536 times faces, now in the slices.
     fn tables(&self, file: &[u8], mesh: u32, vertices: &mut [u8], corners: &mut [u8]) -> u64;
     /// 3: headers, own data, skipped.
@@ -50,6 +92,18 @@ impl Boundary for Second {
         let listed = list(file, &mut row);
         if listed.is_ok() {
             put(records, row.iter().map(|number| number.to_le_bytes()));
+        }
+        answer(listed.map(|counts| counts.records))
+    }
+
+    fn records(&self, file: &[u8], row: &mut [u32], table: &mut [Chunk]) -> u64 {
+        let room = table.len().min(row.len() / RECORD);
+        let listed = list(file, &mut row[..RECORD * room]);
+        if let Ok(counts) = &listed {
+            let records = row.as_chunks().0[..counts.records].iter();
+            for (slot, record) in table.iter_mut().zip(records) {
+                *slot = Chunk::from(*record);
+            }
         }
         answer(listed.map(|counts| counts.records))
     }
@@ -131,14 +185,22 @@ pub use linked::Tds;
 
 #[cfg(feature = "tds")]
 mod linked {
-    //! The library under test, called as C calls it; slices without bytes
+    //! The library under test, called as C calls it; slices without elements
     //! are handed over with the address of something that is there.
 
-    use super::Boundary;
+    use super::{Boundary, Chunk};
 
     extern "C" {
         fn tds_check(file: *const u8, file_len: usize) -> u64;
         fn tds_list(file: *const u8, file_len: usize, records: *mut u8, records_len: usize) -> u64;
+        fn tds_records(
+            file: *const u8,
+            file_len: usize,
+            row: *mut u32,
+            row_len: usize,
+            table: *mut Chunk,
+            table_len: usize,
+        ) -> u64;
         fn tds_tables(
             file: *const u8,
             file_len: usize,
@@ -184,7 +246,7 @@ mod linked {
     }
 
     /// The address of a slice that is lent; of a stand-in if it is empty.
-    fn lend(slice: &mut [u8], stand_in: &mut [u8; 8]) -> *mut u8 {
+    fn lend<T, const N: usize>(slice: &mut [T], stand_in: &mut [T; N]) -> *mut T {
         match slice {
             [] => stand_in.as_mut_ptr(),
             _ => slice.as_mut_ptr(),
@@ -206,6 +268,14 @@ mod linked {
             let (len, mut some) = (records.len(), [0; 8]);
             let records = lend(records, &mut some);
             unsafe { tds_list(read(file, &[0]), file.len(), records, len) }
+        }
+
+        fn records(&self, file: &[u8], row: &mut [u32], table: &mut [Chunk]) -> u64 {
+            let (n, m) = (row.len(), table.len());
+            let (mut some, mut more) = ([0], [Chunk::default()]);
+            let row = lend(row, &mut some);
+            let table = lend(table, &mut more);
+            unsafe { tds_records(read(file, &[0]), file.len(), row, n, table, m) }
         }
 
         fn tables(&self, file: &[u8], mesh: u32, vertices: &mut [u8], corners: &mut [u8]) -> u64 {

@@ -3,7 +3,7 @@
 
 mod common;
 use common::triangle;
-use second::boundary::{refusal, refused, Boundary, Second};
+use second::boundary::{refusal, refused, Boundary, Chunk, Second};
 
 #[test]
 fn answers_are_numbers() {
@@ -35,6 +35,24 @@ fn a_part_is_no_room() {
     assert_eq!(records[..8], [0x4D, 0x4D, 0, 0, 0, 0, 0, 0]);
     assert_eq!(records[120..128], [0x20, 0x41, 0, 0, 70, 0, 0, 0]);
     assert_eq!(records[144..], [7; 6]);
+}
+
+#[test]
+fn the_row_and_the_table_both_have_room() {
+    let file = triangle();
+    let mut row = [7; 40];
+    let mut table = [Chunk::from([7; 6]); 7];
+    for (n, m) in [(35, 7), (40, 5), (0, 7), (40, 0)] {
+        let answer = Second.records(&file, &mut row[..n], &mut table[..m]);
+        assert_eq!(answer, (15 << 32) + 6);
+    }
+    assert_eq!(Second.records(&[], &mut row, &mut table), 2 << 32);
+    assert_eq!((row, table), ([7; 40], [Chunk::from([7; 6]); 7]));
+    assert_eq!(Second.records(&file, &mut row, &mut table), 6);
+    assert_eq!(row[30..], [0x4120, 70, 16, 4, 3, 10, 7, 7, 7, 7]);
+    assert_eq!(table[0], Chunk::from([0x4D4D, 0, 86, 0, 0, 0]));
+    assert_eq!(<[u32; 6]>::from(table[5]), row[30..36]);
+    assert_eq!(table[6], Chunk::from([7; 6]));
 }
 
 #[test]

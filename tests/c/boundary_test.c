@@ -84,6 +84,72 @@ static void try_list(const struct held *held, size_t room, enum where where) {
     }
 }
 
+/* Lends numbers, or structs of them: aligned also in the middle. */
+static void *lend_numbers(struct lent *lent, const struct arena *arena, size_t bytes,
+                          enum where where) {
+    lend(lent, arena, bytes, where);
+    lent->at -= (uintptr_t)lent->at % sizeof(uint32_t);
+    return lent->at;
+}
+
+/* What the row and the table should begin with: the machine's own numbers. */
+static void hold_records(struct lent *row, struct lent *table, const struct file_case *file) {
+    for (size_t i = 0; i < file->records; i++) {
+        const uint32_t *n = file->list[i];
+        const struct tds_chunk chunk = {n[TDS_RECORD_ID],     n[TDS_RECORD_OFFSET],
+                                        n[TDS_RECORD_LENGTH], n[TDS_RECORD_DEPTH],
+                                        n[TDS_RECORD_PARENT], n[TDS_RECORD_OWN]};
+        memcpy(row->right + row->filled, n, sizeof file->list[i]);
+        memcpy(table->right + table->filled, &chunk, sizeof chunk);
+        row->filled += sizeof file->list[i];
+        table->filled += sizeof chunk;
+    }
+}
+
+/* The rooms are in numbers and in structs. */
+static void try_records(const struct held *held, size_t row_room, size_t table_room,
+                        enum where where) {
+    static struct lent row, table;
+    const struct file_case *file = held->file;
+    size_t row_records = row_room / TDS_RECORD_NUMBERS;
+    size_t room = row_records < table_room ? row_records : table_room;
+    uint64_t right = file->refusal != 0     ? file->refusal
+                     : room < file->records ? REFUSAL(15, file->records)
+                                            : file->records;
+    uint32_t *numbers = lend_numbers(&row, &first_arena, 4 * row_room, where);
+    struct tds_chunk *chunks =
+        lend_numbers(&table, &second_arena, sizeof(struct tds_chunk) * table_room, where);
+    hold_records(&row, &table, file);
+    trying("tds_records of %s into %zu numbers and %zu structs (%d)", file->what, row_room,
+           table_room, where);
+    judge_answer(tds_records(held->at, held->length, numbers, row_room, chunks, table_room), right);
+    judge_slice(&row, right);
+    judge_slice(&table, right);
+    if (row_room == 0 || table_room == 0) {
+        trying("tds_records of %s into %zu numbers and %zu structs, (NULL, 0) for none (%d)",
+               file->what, row_room, table_room, where);
+        judge_answer(tds_records(held->at, held->length, row_room == 0 ? NULL : numbers, row_room,
+                                 table_room == 0 ? NULL : chunks, table_room),
+                     right);
+        judge_slice(&row, right);
+        judge_slice(&table, right);
+    }
+}
+
+/* The row's room and the table's, each below, at and above what is needed. */
+static void try_all_records(const struct held *held, enum where where) {
+    size_t needed = held->file->records, numbers = needed * TDS_RECORD_NUMBERS;
+    const size_t row_rooms[] = {
+        0,       1,           5,           6,           numbers - (numbers > 0),
+        numbers, numbers + 1, numbers + 5, numbers + 6, numbers + 40};
+    const size_t table_rooms[] = {0, 1, needed - (needed > 0), needed, needed + 1, needed + 9};
+    EACH(i, row_rooms) {
+        EACH(j, table_rooms) {
+            try_records(held, row_rooms[i], table_rooms[j], where);
+        }
+    }
+}
+
 /* What a call about one mesh is to answer, before room is judged. */
 static uint64_t mesh_refusal(const struct file_case *file, uint32_t mesh) {
     return file->refusal != 0     ? file->refusal
@@ -211,6 +277,7 @@ static void try_held(const struct held *held, enum where where) {
     EACH(i, list_rooms) {
         try_list(held, list_rooms[i], where);
     }
+    try_all_records(held, where);
     EACH(i, counts_rooms) {
         try_counts(held, counts_rooms[i], where);
     }

@@ -11,11 +11,14 @@ cat >"$T/use.c" <<'END'
 #include "tds.h"
 int main(void) {
     static unsigned char slice[TDS_RECORD_BYTES];
+    static uint32_t row[TDS_RECORD_NUMBERS];
+    static struct tds_chunk table[1];
     uint64_t answer = tds_list(NULL, 0, slice, sizeof slice);
     float number = tds_get_float(slice);
     if (TDS_REFUSED(answer) && TDS_REFUSAL(answer) == TDS_NOT_A_FIGURE && TDS_PLACE(answer) == 0) {
         return 0;
     }
+    answer = tds_records(NULL, 0, row, TDS_RECORD_NUMBERS, table, 1);
     return number > 0 || TDS_VERTICES(answer) + TDS_FACES(answer) > 0 || tds_get2(slice) > 0 ||
            tds_get_record(slice, 0, TDS_RECORD_OWN) > 0;
 }
@@ -57,4 +60,16 @@ int main(void) { return 0; }
 END
 if "$CC" -Iinclude -c "$T/names.c" -o "$T/names.o" >"$T/out" 2>"$T/err"
 then pass; else fail 'they are not those of document 01'; fi
+
+try 'the struct of a record has its six numbers where the list has them'
+cat >"$T/chunk.c" <<'END'
+#include "tds.h"
+#define AT(field, number) typedef char field[offsetof(struct tds_chunk, field) == 4 * (number) ? 1 : -1];
+AT(identifier, TDS_RECORD_ID) AT(offset, TDS_RECORD_OFFSET) AT(length, TDS_RECORD_LENGTH)
+AT(depth, TDS_RECORD_DEPTH) AT(parent, TDS_RECORD_PARENT) AT(own, TDS_RECORD_OWN)
+typedef char whole[sizeof(struct tds_chunk) == TDS_RECORD_BYTES ? 1 : -1];
+int main(void) { return 0; }
+END
+if "$CC" -Iinclude -c "$T/chunk.c" -o "$T/chunk.o" >"$T/out" 2>"$T/err"
+then pass; else fail 'they stand elsewhere'; fi
 finish header_test

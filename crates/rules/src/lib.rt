@@ -27,6 +27,7 @@ pub enum Refusal {
 }
 
 // One known chunk in the list.
+#[repr(C)]
 pub struct Record {
     pub identifier: u32,
     pub offset: u32,

@@ -3,14 +3,15 @@ use little_endian::put_long;
 use rules::Boxed;
 use rules::Checked;
 use rules::Named;
+use rules::Record;
 use rules::Refusal;
 use rules::Tabled;
 use writer::Written;
 ghost use mathlib.Core.Path.{_≡_};
-ghost use Prim.Native.Nat.{_+_, _*_, _<_, _≤_, min};
+ghost use Prim.Native.Nat.{_+_, _*_, _/_, _<_, _≤_, min};
 ghost use lib.ListN.{length};
 ghost use Rattle.rules.specs.Bytes.{packed};
-ghost use Rattle.rules.specs.Encodings.{recordBytes, numberBytes};
+ghost use Rattle.rules.specs.Encodings.{beside, flatRecords, recordTable, recordBytes, numberBytes};
 ghost use Rattle.rules.specs.Calls.{filled, listCall, tablesCall};
 ghost use Rattle.mesh.specs.Choices.{rows};
 ghost use Rattle.writer.specs.Write.{writeCall};
@@ -54,6 +55,16 @@ pub extern "C" fn tds_list(file: &[u8], records: &mut [u8]) -> u64
     ensures records { λ _. ⌜ now (records .exit) ≡ listCall recordBytes (now (file .entry)) (now (records .entry)) .rows ⌝ }
 {
     checked_code(lister::list_bytes(file, records))
+}
+
+// The count of records that now stand in the front of the table, and their numbers in the front of the row, or a refusal.
+#[no_mangle]
+pub extern "C" fn tds_records(file: &[u8], row: &mut [u32], table: &mut [Record]) -> u64
+    ensures answer { λ n. ⌜ n ≡ recordsOr (listCall (beside (length (now (row .entry)) / 6) recordTable) (now (file .entry)) (now (table .entry)) .answer) ⌝ }
+    ensures table { λ _. ⌜ now (table .exit) ≡ listCall (beside (length (now (row .entry)) / 6) recordTable) (now (file .entry)) (now (table .entry)) .rows ⌝ }
+    ensures row { λ _. ⌜ now (row .exit) ≡ listCall (beside (length (now (table .entry))) flatRecords) (now (file .entry)) (now (row .entry)) .rows ⌝ }
+{
+    checked_code(records::list_records(file, row, table))
 }
 
 // The vertices plus 65,536 times the faces of a mesh, whose tables now stand in the front of the slices, or a refusal.

@@ -2,17 +2,20 @@
 //! and all lent bytes compared, those around the lent ones too.
 
 use super::random::Random;
-use crate::boundary::{refusal, Boundary, RECORD_BYTES};
+use crate::boundary::{refusal, Boundary, Chunk, RECORD_BYTES};
+use crate::RECORD;
 use std::fmt;
 
-/// The bytes kept on each side of a lent slice, to see writing outside it.
-const GUARD: usize = 16;
+/// The bytes kept on each side of a lent slice, to see writing outside it: a
+/// whole record, and one byte more, so that the slice lies at an odd address.
+const GUARD: usize = RECORD_BYTES + 1;
 
-/// One call, with the bytes it lends.
+/// One call, with the bytes it lends; of a row and a table, the elements.
 #[derive(Clone, Copy, Debug, PartialEq, Eq)]
 pub enum Call {
     Check,
     List(usize),
+    Records(usize, usize),
     Counts(usize),
     Tables(u32, usize, usize),
     Name(u32, usize),
@@ -135,10 +138,39 @@ fn make(side: &impl Boundary, file: &[u8], call: Call, buffers: &mut [Vec<u8>; 2
     match call {
         Call::Check => side.check(file),
         Call::List(_) => side.list(file, first),
+        Call::Records(..) => records(side, file, buffers),
         Call::Counts(_) => side.counts(file, first),
         Call::Tables(mesh, ..) => side.tables(file, mesh, first, second),
         Call::Name(mesh, _) => side.name(file, mesh, first),
         Call::Box(mesh, _) => side.bounding_box(file, mesh, first),
+    }
+}
+
+/// Makes the call that is lent a row and a table: the same buffers, guards and
+/// all but their odd bytes, as the machine's own numbers and structs.
+fn records(side: &impl Boundary, file: &[u8], buffers: &mut [Vec<u8>; 2]) -> u64 {
+    let [mut row, numbers] = buffers.each_ref().map(|buffer| {
+        let words = buffer[1..buffer.len() - 1].as_chunks().0.iter();
+        words
+            .map(|word| u32::from_ne_bytes(*word))
+            .collect::<Vec<u32>>()
+    });
+    let records = numbers.as_chunks::<RECORD>().0.iter();
+    let mut table: Vec<Chunk> = records.map(|record| Chunk::from(*record)).collect();
+    let (row_end, table_end) = (row.len() - RECORD, table.len() - 1);
+    let answer = side.records(file, &mut row[RECORD..row_end], &mut table[1..table_end]);
+    put_back(&mut buffers[0], row.into_iter());
+    put_back(
+        &mut buffers[1],
+        table.into_iter().flat_map(<[u32; RECORD]>::from),
+    );
+    answer
+}
+
+/// The numbers of a buffer, behind its odd byte.
+fn put_back(buffer: &mut [u8], numbers: impl Iterator<Item = u32>) {
+    for (slot, number) in buffer[1..].as_chunks_mut().0.iter_mut().zip(numbers) {
+        *slot = number.to_ne_bytes();
     }
 }
 
@@ -148,6 +180,7 @@ impl Call {
         match self {
             Call::Check => [0, 0],
             Call::List(bytes) | Call::Counts(bytes) => [bytes, 0],
+            Call::Records(row, table) => [4 * row, RECORD_BYTES * table],
             Call::Name(_, bytes) | Call::Box(_, bytes) => [bytes, 0],
             Call::Tables(_, vertices, corners) => [vertices, corners],
         }
@@ -160,6 +193,7 @@ impl Call {
             _ if refusal(answer).is_some() => [0, 0],
             Call::Check => [0, 0],
             Call::List(_) => [RECORD_BYTES * count, 0],
+            Call::Records(..) => [RECORD_BYTES * count; 2],
             Call::Tables(..) => [12 * (count & 0xFFFF), 6 * (count >> 16)],
             Call::Counts(_) | Call::Name(..) | Call::Box(..) => [4 * count, 0],
         }
@@ -179,6 +213,7 @@ impl<L: Boundary, R: Boundary> Pair<L, R> {
         self.ask(file, Call::List(needed + random.below(30)))?;
         self.ask(file, Call::List(needed - 1 - random.below(24)))?;
         self.ask(file, Call::List(random.below(needed + 40)))?;
+        self.records(file, answer as usize, random)?;
         self.ask(file, Call::Counts(12 + random.below(6)))?;
         self.ask(file, Call::Counts(random.below(12)))?;
         let count = self.ask(file, Call::Name(u32::MAX, 8))? as u32;
@@ -186,11 +221,31 @@ impl<L: Boundary, R: Boundary> Pair<L, R> {
         Ok(answer)
     }
 
+    /// The list as a table, with rooms around those needed, of the row and of
+    /// the table apart.
+    fn records(&mut self, file: &[u8], n: usize, random: &mut Random) -> Result<(), Difference> {
+        let row = RECORD * n;
+        let rooms = [
+            (row, n),
+            (row - 1, n),
+            (row, n - 1),
+            (row + 1, n),
+            (row, n + 1),
+            (row + random.below(9), n + random.below(3)),
+            (random.below(row + 9), random.below(n + 3)),
+        ];
+        for (row, table) in rooms {
+            self.ask(file, Call::Records(row, table))?;
+        }
+        Ok(())
+    }
+
     /// All other calls over a file that is refused answer the same.
     fn refused(&mut self, file: &[u8], answer: u64, random: &mut Random) -> Result<(), Difference> {
         let mesh = random.pick(&[0, 1, 2, u32::MAX]);
         let calls = [
             Call::List(random.below(200)),
+            Call::Records(random.below(50), random.below(9)),
             Call::Counts(random.below(16)),
             Call::Tables(mesh, random.below(50), random.below(30)),
             Call::Name(mesh, random.below(12)),

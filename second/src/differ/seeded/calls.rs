@@ -3,7 +3,7 @@
 
 use super::reader::{read, Read};
 use super::{writer, Error, Seeded};
-use crate::boundary::{refused, Boundary};
+use crate::boundary::{refused, Boundary, Chunk};
 use crate::differ::facts::Mesh;
 use crate::{Number, Refusal};
 
@@ -14,6 +14,10 @@ impl Boundary for Seeded {
 
     fn list(&self, file: &[u8], records: &mut [u8]) -> u64 {
         answer(self.listed(file, records))
+    }
+
+    fn records(&self, file: &[u8], row: &mut [u32], table: &mut [Chunk]) -> u64 {
+        answer(self.recorded(file, row, table))
     }
 
     fn tables(&self, file: &[u8], mesh: u32, vertices: &mut [u8], corners: &mut [u8]) -> u64 {
@@ -97,6 +101,35 @@ impl Seeded {
             records.fill(0);
         }
         put(records, &bytes);
+        Ok(needed)
+    }
+
+    fn recorded(self, file: &[u8], row: &mut [u32], table: &mut [Chunk]) -> Result<usize, Refusal> {
+        let read = read(self, file)?;
+        let needed = read.records.len();
+        let (of_row, of_table) = (row.len() / 6, table.len());
+        let room = match self.error {
+            Some(Error::RecordsRoomOfRow) => of_row,
+            Some(Error::RecordsRoomOfTable) => of_table,
+            _ => of_row.min(of_table),
+        };
+        let early = self.makes(Error::RecordsRowBeforeRoom);
+        if needed <= room || early && needed <= of_row {
+            let numbers = read.records.iter().flatten();
+            row.iter_mut().zip(numbers).for_each(|(slot, n)| *slot = *n);
+        }
+        if room < needed {
+            return Err(Number::NoRoom.at(needed));
+        }
+        let left_out = usize::from(self.makes(Error::RecordsOneFewer));
+        let records = read.records.iter().take(needed - left_out);
+        for (slot, record) in table.iter_mut().zip(records) {
+            let mut record = *record;
+            if self.makes(Error::RecordsExchanged) {
+                record.swap(3, 4);
+            }
+            *slot = Chunk::from(record);
+        }
         Ok(needed)
     }
 

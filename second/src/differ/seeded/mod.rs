@@ -29,6 +29,7 @@ errors! {
     NoVerticesNoJudging MappingAloneUnjudged TwiceBeforeOverrun IndexBeforeLength
     ParentOff DepthOff LengthWithoutHeader OwnOfGroupWithoutName SkippedInvented HeadersOfAll
     RoomOffByOne RoomOfPart RoomPlace RoomBeforeFault WritesBeforeRefusing RestCleared
+    RecordsRoomOfRow RecordsRoomOfTable RecordsRowBeforeRoom RecordsOneFewer RecordsExchanged
     FlagWordInCorners MinusZeroLost RoomOfCornersFirst RoomInVertices VerticesBeforeCornersRoom
     MeshesAreObjects NoSuchMeshPlace RoomBeforeMesh NameWithZero NameOfFirst
     LastOfEquals MinusZeroLess BoxByBits CentreOfSum HighStartsAtZero EmptyBoxIsZero
