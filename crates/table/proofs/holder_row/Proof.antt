@@ -1,5 +1,5 @@
 -- Each arm has the number of its identifier's row, in which children may follow; where no arm is taken they may not.
-use mathlib.Core.Path.{_≡_, refl, sym, _∙_}
+use mathlib.Core.Path.{_≡_, refl, sym}
 use mathlib.Core.Bool.{Bool, true, _||_, not}
 use Prim.Native.Nat.{ℕ}
 use lib.Dec.{ltb}

@@ -1,12 +1,11 @@
 -- Each key of an arm has a row without children; where no arm is taken there is no such row.
-use mathlib.Core.Path.{_≡_, refl, sym, _∙_}
+use mathlib.Core.Path.{_≡_, refl, sym}
 use mathlib.Core.Bool.{Bool, true, false, _||_, not}
-use mathlib.Core.List.{List, [], _∷_}
+use mathlib.Core.List.{[], _∷_}
 use Prim.Native.Nat.{ℕ}
 use lib.Dec.{ltb}
 use borrow.Author.Tests.{le-ltb}
 use native.Mathlib.Omega.{arith}
-use types.Run.{OneOf}
 use Rattle.rules.specs.Bytes.{every}
 use Rattle.rules.specs.Table.{rows, limits, atMostOne}
 use Rattle.rules.proofs.Rows.{everyId}

@@ -1,5 +1,5 @@
 -- A material by its row; up to 4D4D a row with children, one without, or none.
-use mathlib.Core.Path.{_≡_, refl, sym, ap, _∙_}
+use mathlib.Core.Path.{sym, ap, _∙_}
 use borrow.Author.Needs.{needs}
 use Rattle.table.specs.Packed.{rowOf, outlineIn}
 use Rattle.table.proofs.Outlines.{outline-held, outline-leaf, outline-none}
