@@ -11,20 +11,20 @@ use Rattle.lister.specs.Laid.{Lent, first, Laid, Listed}
 use Rattle.lister.proofs.Runs.{rest, split-count, laid-size, FirstAt, listed-end, listed-on}
 
 -- The run t from `at` to stop has been listed up to `from`: the next record has this number, and the rows are l₁.
-pub record Sofar (s : List ℕ) (stop word depth parent : ℕ) (p : Parent) (l : Lent) (at next : ℕ) (t : Run) (l₁ : Lent) (from number : ℕ) : Type 0 where
+pub record Sofar (s : List ℕ) (stop depth parent : ℕ) (p : Parent) (l : Lent) (at next : ℕ) (t : Run) (l₁ : Lent) (from number : ℕ) : Type 0 where
   pub left : Run
-  pub laid : Laid s from stop p word left
+  pub laid : Laid s from stop p left
   pub counts : number + recordCount left ≡ next + recordCount t
   pub goes-on : (l₂ : Lent) (r : ℕ) → Listed l₁ from depth parent number left l₂ r → Listed l at depth parent next t l₂ r
 
-module _ {s : List ℕ} {stop word depth parent : ℕ} {p : Parent} {l : Lent} {at next : ℕ} {t : Run} where
-  pub sofar-start : Laid s at stop p word t → Sofar s stop word depth parent p l at next t l at next
+module _ {s : List ℕ} {stop depth parent : ℕ} {p : Parent} {l : Lent} {at next : ℕ} {t : Run} where
+  pub sofar-start : Laid s at stop p t → Sofar s stop depth parent p l at next t l at next
   sofar-start l = record { left = t; laid = l; counts = refl; goes-on = λ l₂ r h. h }
 
-  module _ {l₁ : Lent} {from number : ℕ} (f : Sofar s stop word depth parent p l at next t l₁ from number) where
+  module _ {l₁ : Lent} {from number : ℕ} (f : Sofar s stop depth parent p l at next t l₁ from number) where
     -- one chunk on
-    pub sofar-next : {n : ℕ} {l₂ : Lent} {number₂ : ℕ} → FirstAt s from stop p word n (f .left) → Listed l₁ from depth parent number (first (f .left)) l₂ number₂ →
-        Sofar s stop word depth parent p l at next t l₂ (from + n) number₂
+    pub sofar-next : {n : ℕ} {l₂ : Lent} {number₂ : ℕ} → FirstAt s from stop p n (f .left) → Listed l₁ from depth parent number (first (f .left)) l₂ number₂ →
+        Sofar s stop depth parent p l at next t l₂ (from + n) number₂
     sofar-next {n} {l₂} {number₂} a h = record {
       left = rest (f .left);
       laid = a .follows;

@@ -1,26 +1,19 @@
 -- How long own data is that begins a body: what its shape says fits, and where no children may follow it is all there is.
 use mathlib.Core.Path.{_≡_, sym, ap, _∙_}
-use mathlib.Core.Bool.{false, true≢false}
-use mathlib.Core.List.{List, _++_}
-use Prim.Native.Nat.{ℕ, _+_, _-_, _≤_, _<_, _^_}
+use mathlib.Core.Bool.{true, false, true≢false}
+use mathlib.Core.List.{List, [], _++_}
+use Prim.Native.Nat.{ℕ, _+_, _-_, _≤_}
 use native.Mathlib.Omega.{arith}
 use lib.ListN.{length, length-append}
 use lib.Seq.{slice, length-slice}
-use Rattle.rules.specs.Bytes.{le}
 use Rattle.rules.specs.Table.{Shape}
 use Rattle.rules.specs.OwnData.{ownSize}
 use Rattle.rules.proofs.OwnSize.{own-size-more, has-name}
 use Rattle.table.specs.Packed.{plusIn, shapeIn}
 use Rattle.own_data.specs.declared.Own.{Own}
 use Rattle.own_data.specs.declared.Own.the-variants.{NoName, TooLong, Size}
-use Rattle.own_data.specs.Own.{CountIs, OwnIs}
-use Rattle.own_data.proofs.Conditions.{some-around}
-use Rattle.lister.specs.Laid.{Begins}
-
-abbrev pub sizeOf : Own → ℕ
-sizeOf NoName = 0
-sizeOf TooLong = 0
-sizeOf (Size k) = k
+use Rattle.own_data.specs.Own.{OwnIs}
+use Rattle.lister.specs.Laid.{Begins, sizeOf}
 
 own-answer : (sh : Shape) (around own more body : List ℕ) → ownSize sh around own ≡ length own → own ++ more ≡ body → (r : Own) → OwnIs sh around body r → sizeOf r ≡ length own
 own-answer sh around own more body h e r q =
@@ -38,23 +31,22 @@ within-answer sh around body NoName q = omega arith
 within-answer sh around body TooLong q = omega arith
 within-answer sh around body (Size k) q = q .within
 
--- so many bytes of own data, where `around` has this count word and the body stands from `at` to stop
-abbrev Found : List ℕ → ℕ → ℕ → ℕ → ℕ → ℕ → Type 0
-Found s row word at stop k =
-    ((around own more : List ℕ) → CountIs around word → Begins row around own more → own ++ more ≡ slice at stop s → k ≡ length own) × (at + k ≤ stop)
+-- so many bytes of own data, where the body stands from `at` to stop
+abbrev Found : List ℕ → ℕ → ℕ → ℕ → ℕ → Type 0
+Found s row at stop k = ((around own more : List ℕ) → Begins row around own more → own ++ more ≡ slice at stop s → k ≡ length own) × (at + k ≤ stop)
 
-module _ (s : List ℕ) (row word : ℕ) {at stop : ℕ} (order : at ≤ stop) (stays : stop ≤ length s) where
+module _ (s : List ℕ) (row : ℕ) {at stop : ℕ} (order : at ≤ stop) (stays : stop ≤ length s) where
   -- by the row's shape
-  pub found-shape : word < 2 ^ 16 → (r : Own) → ((around : List ℕ) → CountIs around word → OwnIs (shapeIn row) around (slice at stop s) r) → (k : ℕ) → sizeOf r ≡ k → Found s row word at stop k
-  found-shape small r h k e =
-      let v = within-answer (shapeIn row) (le 2 word) (slice at stop s) r (h (le 2 word) (some-around word small)) in (
-        λ around own more c b q. sym e ∙ own-answer (shapeIn row) around own more (slice at stop s) (b .exact) q r (h around c),
+  pub found-shape : plusIn row ≡ true → (r : Own) → ((around : List ℕ) → OwnIs (shapeIn row) around (slice at stop s) r) → (k : ℕ) → k ≡ sizeOf r → Found s row at stop k
+  found-shape holder r h k e =
+      let v = within-answer (shapeIn row) [] (slice at stop s) r (h []) in (
+        λ around own more b q. e ∙ own-answer (shapeIn row) around own more (slice at stop s) (b .exact holder) q r (h around),
         omega (arith, length-slice at stop s stays),
       )
 
   -- a leaf's body is its own data
-  pub found-leaf : plusIn row ≡ false → Found s row word at stop (stop - at)
+  pub found-leaf : plusIn row ≡ false → Found s row at stop (stop - at)
   found-leaf leaf = (
-    λ around own more c b q. omega (arith, length-append own more, ap length q, length-slice at stop s stays, ap length (b .whole leaf)),
+    λ around own more b q. omega (arith, length-append own more, ap length q, length-slice at stop s stays, ap length (b .whole leaf)),
     omega arith,
   )

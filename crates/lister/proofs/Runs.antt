@@ -78,20 +78,20 @@ lawful-small p id own kids l = ltb-true id 0x1_0000 (listed-small id (lawful-lis
 
 -- ---- a run in the file
 
-pub laid-size : {s : List ℕ} {at stop word : ℕ} {p : Parent} {t : Run} → stop ≤ length s → Laid s at stop p word t → size t ≡ stop - at
+pub laid-size : {s : List ℕ} {at stop : ℕ} {p : Parent} {t : Run} → stop ≤ length s → Laid s at stop p t → size t ≡ stop - at
 laid-size {s} {at} {stop} {t = t} stays l = sym (length-bytes t) ∙ ap length (l .is) ∙ length-slice at stop s stays
 
 -- The first chunk of a run from `at` to stop, where n is its length field: what it is alone, and what follows it.
-pub record FirstAt (s : List ℕ) (at stop : ℕ) (p : Parent) (word n : ℕ) (t : Run) : Type 0 where
+pub record FirstAt (s : List ℕ) (at stop : ℕ) (p : Parent) (n : ℕ) (t : Run) : Type 0 where
   pub size-is : n ≡ size (first t)
   pub header : 6 ≤ n
   pub ends : at + n ≤ stop
-  pub alone : Laid s at (at + n) p word (first t)
-  pub follows : Laid s (at + n) stop p word (rest t)
+  pub alone : Laid s at (at + n) p (first t)
+  pub follows : Laid s (at + n) stop p (rest t)
 
-module _ {s : List ℕ} {at stop word : ℕ} {p : Parent} (more : at < stop) (stays : stop ≤ length s) (short : length s ≤ limit) where
+module _ {s : List ℕ} {at stop : ℕ} {p : Parent} (more : at < stop) (stays : stop ≤ length s) (short : length s ≤ limit) where
   -- the length field of its first chunk counts that chunk's bytes
-  first-length : (t : Run) → Laid s at stop p word t → (longAt s (at + 2) ≡ size (first t)) × (6 ≤ size (first t))
+  first-length : (t : Run) → Laid s at stop p t → (longAt s (at + 2) ≡ size (first t)) × (6 ≤ size (first t))
   first-length end l = absurd (omega (arith, laid-size stays l))
   first-length (skip id body r) l =
       let z = laid-size stays l in
@@ -100,14 +100,14 @@ module _ {s : List ℕ} {at stop word : ℕ} {p : Parent} (more : at < stop) (st
       let z = laid-size stays l in
       (known-stands s at stop stays id own kids r (l .is) (lawful-small p id own kids (l .obeys .0)) (omega arith) .length-is ∙ omega arith, omega arith)
 
-  module _ (t : Run) (l : Laid s at stop p word t) where
+  module _ (t : Run) (l : Laid s at stop p t) where
     first-ends : at + size (first t) ≤ stop
     first-ends = omega (arith, laid-size stays l, split-size t)
 
     pub header-ends : at + 6 ≤ stop
     header-ends = omega (arith, first-ends, first-length t l .1)
 
-    pub first-at : (n : ℕ) → n ≡ longAt s (at + 2) → FirstAt s at stop p word n t
+    pub first-at : (n : ℕ) → n ≡ longAt s (at + 2) → FirstAt s at stop p n t
     first-at n e =
         let z : n ≡ size (first t) = e ∙ first-length t l .0 in
         record {
@@ -117,12 +117,10 @@ module _ {s : List ℕ} {at stop word : ℕ} {p : Parent} (more : at < stop) (st
           alone = record {
             is = sym (take-at (bytes (first t)) (bytes (rest t)) n (length-bytes (first t) ∙ sym z)) ∙ ap (take n) (split-bytes t ∙ l .is) ∙ take-slice n at stop s (omega (arith, first-ends));
             obeys = obeys-first p t (l .obeys);
-            count-is = l .count-is;
           };
           follows = record {
             is = sym (drop-at (bytes (first t)) (bytes (rest t)) n (length-bytes (first t) ∙ sym z)) ∙ ap (drop n) (split-bytes t ∙ l .is) ∙ drop-slice n at stop s;
             obeys = obeys-rest p t (l .obeys);
-            count-is = l .count-is;
           };
         }
 

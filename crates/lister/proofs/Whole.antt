@@ -42,11 +42,11 @@ module _ {s : List ℕ} {counts : Counts} (a : Accepted s counts) where
   records-are = ap (λ (x : Counts). x .records) (a .counts-are)
 
   module _ (b : Bytes s) where
-    pub whole-laid : Laid s 0 (length s) file 0 (figure (a .kids))
-    whole-laid = record { is = meets-by b a .is ∙ sym (take-length s); obeys = meets-by b a .chunks; count-is = record { is = refl; small = omega arith } }
+    pub whole-laid : Laid s 0 (length s) file (figure (a .kids))
+    whole-laid = record { is = meets-by b a .is ∙ sym (take-length s); obeys = meets-by b a .chunks }
 
-    pub whole-bounds : Bounds s 0 (length s) 0 0 0 0
-    whole-bounds = record { ends = omega arith; short = meets-by b a .within-limit; count-small = omega arith; deep = omega arith; over = omega arith; before = omega arith }
+    pub whole-bounds : Bounds s 0 (length s) 0 0 0
+    whole-bounds = record { ends = omega arith; short = meets-by b a .within-limit; deep = omega arith; over = omega arith; before = omega arith }
 
   module _ {room : ℕ} (l : Lent) where
     pub rows-no-room : room < counts .records → leaving (Checked.Refused (NoRoom (counts .records))) l ≡ listRows s room l

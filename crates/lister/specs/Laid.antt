@@ -1,9 +1,9 @@
 -- What the functions of this crate say, of a layout that stands in the file. Nothing here is a meaning of its own: the
 -- layout, its rules and its records are those of crate rules.
 use mathlib.Core.Path.{_≡_}
-use mathlib.Core.Bool.{false, cond}
+use mathlib.Core.Bool.{true, false, cond}
 use mathlib.Core.List.{List, []}
-use Prim.Native.Nat.{ℕ, _+_, _*_, _≤_, _<_, _^_}
+use Prim.Native.Nat.{ℕ, _+_, _*_, _≤_, _<_}
 use lib.Dec.{leb}
 use lib.ListN.{length}
 use lib.Seq.{slice, sets}
@@ -18,7 +18,8 @@ use Rattle.rules.specs.Walk.{Answer, refused, accepted, verdict}
 use Rattle.rules.specs.Gives.{recordCount, recordsOf, list, flat}
 use Rattle.rules.specs.Calls.{Effect, leaving, countsOf}
 use Rattle.table.specs.Packed.{shapeIn, plusIn}
-use Rattle.own_data.specs.Own.{CountIs}
+use Rattle.own_data.specs.declared.Own.{Own}
+use Rattle.own_data.specs.declared.Own.the-variants.{NoName, TooLong, Size}
 
 -- the first chunk of a run, alone
 abbrev pub first : Run → Run
@@ -26,17 +27,15 @@ first end = end
 first (skip id body rest) = skip id body end
 first (known id own kids rest) = known id own kids end
 
--- the run t stands in the part of the file s from `at` to stop, in a chunk p with this count word, and obeys the rules
-pub record Laid (s : List ℕ) (at stop : ℕ) (p : Parent) (word : ℕ) (t : Run) : Type 0 where
+-- the run t stands in the part of the file s from `at` to stop, in a chunk p, and obeys the rules
+pub record Laid (s : List ℕ) (at stop : ℕ) (p : Parent) (t : Run) : Type 0 where
   pub is : bytes t ≡ slice at stop s
   pub obeys : Obeys p t
-  pub count-is : CountIs (p .own) word
 
 -- a file within the limit; every record before this place took six bytes, and so every number of a record is small
-pub record Bounds (s : List ℕ) (at stop word depth parent next : ℕ) : Type 0 where
+pub record Bounds (s : List ℕ) (at stop depth parent next : ℕ) : Type 0 where
   pub ends : stop ≤ length s
   pub short : length s ≤ limit
-  pub count-small : word < 2 ^ 16
   pub deep : depth ≤ at
   pub over : parent ≤ at
   pub before : 6 * next ≤ at
@@ -78,7 +77,13 @@ listRows s room l = rowsOf room l (verdict s)
 
 -- ---- one chunk
 
--- own data as its row has it, in a body: just as long as its shape says, and the whole body where no children may follow
+-- own data as its row has it, in a body: just as long as its shape says where children may follow, else the whole body
 pub record Begins (row : ℕ) (around own more : List ℕ) : Type 0 where
-  pub exact : ownSize (shapeIn row) around own ≡ length own
+  pub exact : plusIn row ≡ true → ownSize (shapeIn row) around own ≡ length own
   pub whole : plusIn row ≡ false → more ≡ []
+
+-- the bytes of own data, where it has its name and fits
+abbrev pub sizeOf : Own → ℕ
+sizeOf NoName = 0
+sizeOf TooLong = 0
+sizeOf (Size k) = k

@@ -9,6 +9,7 @@ use rules::Checked;
 use rules::Record;
 use rules::Refusal;
 ghost use mathlib.Core.Path.{_≡_};
+ghost use mathlib.Core.Bool.{true};
 ghost use mathlib.Core.List.{List, [], _∷_, _++_};
 ghost use Prim.Native.Nat.{ℕ, _+_, _*_, _≤_, _<_};
 ghost use lib.ListN.{length};
@@ -19,8 +20,8 @@ ghost use Rattle.rules.specs.Rules.{Parent, limit};
 ghost use Rattle.rules.specs.Gives.{recordCount, flat};
 ghost use Rattle.rules.specs.Encodings.{flatRecords, recordBytes};
 ghost use Rattle.rules.specs.Calls.{leaving, listCall};
-ghost use Rattle.own_data.specs.Own.{CountIs};
-ghost use Rattle.lister.specs.Laid.{Lent, lent, written, listRows, first, Laid, Bounds, Room, Listed, Begins};
+ghost use Rattle.table.specs.Packed.{plusIn, kindIn};
+ghost use Rattle.lister.specs.Laid.{Lent, lent, written, listRows, first, Laid, Bounds, Room, Listed, Begins, sizeOf};
 
 // A record as six numbers, from i on.
 fn put_numbers(records: &mut [u32], i: usize, r: Record)
@@ -61,45 +62,56 @@ fn put_record(records: &mut [u32], bytes: &mut [u8], next: usize, r: Record)
     }
 }
 
-// How long the own data is with which a chunk's body, from at to stop, begins; count is the count word of the chunk
-// around. A row without children has nothing else in its body.
-fn own_length(file: &[u8], row: u64, count: u32, at: usize, stop: usize) -> usize
-    requires { ⌜ (at ≤ stop) × (stop ≤ length (now file)) × (count < 65536) ⌝ }
-    ensures is { λ r. ⌜ ((around own more : List ℕ) → CountIs around count → Begins row around own more → own ++ more ≡ slice at stop (now (file .entry)) → r ≡ length own) ⌝ }
-    ensures within { λ r. ⌜ at + r ≤ stop ⌝ }
+fn size_of(own: Own) -> usize
+    ensures { λ r. ⌜ r ≡ sizeOf own ⌝ }
 {
-    if !table::may_have_children(row) {
-        return stop - at;
-    }
-    match own_data::own_size(file, row, count, at, stop) {
+    match own {
         Own::NoName => 0,
         Own::TooLong => 0,
         Own::Size(size) => size,
     }
 }
 
-// The chunk from at to stop, whose record, if it is known, has the number next; count is the count word of the chunk
-// around. Answers the number of the record after its last.
+// How long the own data is with which a chunk's body, from at to stop, begins. A row without children has nothing else in
+// its body; before children stand so many bytes, a name or counted elements.
+fn own_length(file: &[u8], row: u64, at: usize, stop: usize) -> usize
+    requires { ⌜ (at ≤ stop) × (stop ≤ length (now file)) × (plusIn row ≡ true → kindIn row < 3) ⌝ }
+    ensures is { λ r. ⌜ ((around own more : List ℕ) → Begins row around own more → own ++ more ≡ slice at stop (now (file .entry)) → r ≡ length own) ⌝ }
+    ensures within { λ r. ⌜ at + r ≤ stop ⌝ }
+{
+    if !table::may_have_children(row) {
+        return stop - at;
+    }
+    let size = table::size(row);
+    let kind = table::kind(row);
+    match kind {
+        0 => size_of(own_data::fitting(size, stop - at)),
+        1 => size_of(own_data::name_size(file, at, stop)),
+        _ => size_of(own_data::counted_size(file, size, at, stop)),
+    }
+}
+
+// The chunk from at to stop, whose record, if it is known, has the number next. Answers the number of the record after
+// its last.
 fn list_chunk(
     file: &[u8],
     records: &mut [u32],
     bytes: &mut [u8],
-    count: u32,
     at: usize,
     stop: usize,
     depth: usize,
     parent: usize,
     next: usize,
 ) -> usize
-    requires { ⌜ (at + 6 ≤ stop) × Bounds (now file) at stop count depth parent next × ((p : Parent) × (t : Run) × Laid (now file) at stop p count (first t) × Room (lent (now records) (now bytes)) (next + recordCount (first t))) ⌝ }
-    ensures { λ r. ⌜ ((p : Parent) (t : Run) → Laid (now (file .entry)) at stop p count (first t) → Listed (lent (now (records .entry)) (now (bytes .entry))) at depth parent next (first t) (lent (now (records .exit)) (now (bytes .exit))) r) ⌝ }
+    requires { ⌜ (at + 6 ≤ stop) × Bounds (now file) at stop depth parent next × ((p : Parent) × (t : Run) × Laid (now file) at stop p (first t) × Room (lent (now records) (now bytes)) (next + recordCount (first t))) ⌝ }
+    ensures { λ r. ⌜ ((p : Parent) (t : Run) → Laid (now (file .entry)) at stop p (first t) → Listed (lent (now (records .entry)) (now (bytes .entry))) at depth parent next (first t) (lent (now (records .exit)) (now (bytes .exit))) r) ⌝ }
 {
     let id = word_at(file, at);
-    let row = table::row(id as usize);
+    let row = table::outline(id as usize);
     if row == 0 {
         return next;
     }
-    let own = own_length(file, row, count, at + 6, stop);
+    let own = own_length(file, row, at + 6, stop);
     let record = Record {
         identifier: id,
         offset: at as u32,
@@ -114,18 +126,7 @@ fn list_chunk(
     if from == stop {
         return after;
     }
-    let word = own_data::count_of(file, at + 6, from);
-    list_run(
-        file,
-        records,
-        bytes,
-        word,
-        from,
-        stop,
-        depth + 1,
-        next,
-        after,
-    )
+    list_run(file, records, bytes, from, stop, depth + 1, next, after)
 }
 
 // The run of chunks from at to end.
@@ -133,31 +134,20 @@ fn list_run(
     file: &[u8],
     records: &mut [u32],
     bytes: &mut [u8],
-    count: u32,
     at: usize,
     end: usize,
     depth: usize,
     parent: usize,
     next: usize,
 ) -> usize
-    requires { ⌜ (at ≤ end) × Bounds (now file) at end count depth parent next × ((p : Parent) × (t : Run) × Laid (now file) at end p count t × Room (lent (now records) (now bytes)) (next + recordCount t)) ⌝ }
-    ensures { λ r. ⌜ ((p : Parent) (t : Run) → Laid (now (file .entry)) at end p count t → Listed (lent (now (records .entry)) (now (bytes .entry))) at depth parent next t (lent (now (records .exit)) (now (bytes .exit))) r) ⌝ }
+    requires { ⌜ (at ≤ end) × Bounds (now file) at end depth parent next × ((p : Parent) × (t : Run) × Laid (now file) at end p t × Room (lent (now records) (now bytes)) (next + recordCount t)) ⌝ }
+    ensures { λ r. ⌜ ((p : Parent) (t : Run) → Laid (now (file .entry)) at end p t → Listed (lent (now (records .entry)) (now (bytes .entry))) at depth parent next t (lent (now (records .exit)) (now (bytes .exit))) r) ⌝ }
 {
     let mut from = at;
     let mut number = next;
     while from < end {
         let stop = from + (long_at(file, from + 2) as usize);
-        number = list_chunk(
-            file,
-            records,
-            bytes,
-            count,
-            from,
-            stop,
-            depth,
-            parent,
-            number,
-        );
+        number = list_chunk(file, records, bytes, from, stop, depth, parent, number);
         from = stop;
     }
     number
@@ -175,7 +165,7 @@ fn list_rows(file: &[u8], records: &mut [u32], bytes: &mut [u8], room: usize) ->
             if room < counts.records {
                 return Checked::Refused(Refusal::NoRoom(counts.records));
             }
-            list_run(file, records, bytes, 0, 0, file.len(), 0, 0, 0);
+            list_run(file, records, bytes, 0, file.len(), 0, 0, 0);
             Checked::Accepted(counts)
         }
     }

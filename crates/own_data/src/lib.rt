@@ -22,7 +22,7 @@ pub enum Own {
     Size(usize),
 }
 
-fn fitting(size: usize, room: usize) -> Own
+pub fn fitting(size: usize, room: usize) -> Own
     ensures { λ r. ⌜ Fitted size room r ⌝ }
 {
     if size <= room {
@@ -33,7 +33,7 @@ fn fitting(size: usize, room: usize) -> Own
 }
 
 // A count word, and so many bytes for each.
-fn counted_size(file: &[u8], each: usize, at: usize, stop: usize) -> Own
+pub fn counted_size(file: &[u8], each: usize, at: usize, stop: usize) -> Own
     requires { ⌜ (at ≤ stop) × (stop ≤ length (now file)) × (each < 256) ⌝ }
     ensures { λ r. ⌜ OwnIs (counted each) [] (slice at stop (now (file .entry))) r ⌝ }
 {
@@ -44,7 +44,7 @@ fn counted_size(file: &[u8], each: usize, at: usize, stop: usize) -> Own
     fitting(2 + each * (word_at(file, at) as usize), room)
 }
 
-fn name_size(file: &[u8], at: usize, stop: usize) -> Own
+pub fn name_size(file: &[u8], at: usize, stop: usize) -> Own
     requires { ⌜ (at ≤ stop) × (stop ≤ length (now file)) ⌝ }
     ensures { λ r. ⌜ OwnIs name [] (slice at stop (now (file .entry))) r ⌝ }
 {

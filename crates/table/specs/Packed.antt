@@ -1,7 +1,7 @@
 -- The table as numbers: how a row of crate rules is packed into one, and the fields that code reads from it. (That these
 -- say what the row says is proved in proofs/Facts.)
 use mathlib.Core.Path.{_≡_}
-use mathlib.Core.Bool.{Bool, true, false, _&&_, cond}
+use mathlib.Core.Bool.{Bool, true, false, not, _&&_, cond}
 use mathlib.Core.List.{List, [], _∷_}
 use Prim.Native.Nat.{ℕ, zero, suc, _+_, _*_, _/_, _%_, _^_, _<_}
 use lib.Dec.{eqb}
@@ -99,6 +99,18 @@ plainIn row = eqb (row / 2 ^ 20 % 256) 0
 
 abbrev pub sizeIn : ℕ → ℕ
 sizeIn row = row / 2 ^ 28 % 256
+
+-- a row that may have children; 0 for any other
+unfoldable pub holderIn : ℕ → ℕ
+holderIn row = cond (plusIn row) row 0
+
+-- a row, and no children
+unfoldable pub leafIn : ℕ → Bool
+leafIn row = not (plusIn row) && not (eqb row 0)
+
+-- what the list asks of a row: all of it where children may follow, else only whether there is one
+unfoldable pub outlineIn : ℕ → ℕ
+outlineIn row = cond (plusIn row) row (cond (eqb row 0) 0 1)
 
 -- the slot of an identifier
 abbrev pub slotOf : ℕ → ℕ

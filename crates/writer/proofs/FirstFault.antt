@@ -1,6 +1,6 @@
 -- Looking for the first fault of a row, by a loop: one law for every kind of row and test.
 -- What the loop has passed holds no fault, so that the first fault is the first of what is left.
-use mathlib.Core.Path.{_≡_, refl, ap}
+use mathlib.Core.Path.{_≡_, refl, sym, ap, _∙_}
 use Prim.Native.Nat.{ℕ, zero, suc, _+_, _<_, _≤_}
 use native.Mathlib.Numerals.{add-one}
 use native.Mathlib.Omega.{arith}
@@ -64,3 +64,42 @@ module _ {A : Type 0} (good : A → Bool) where
   every-at [] i d h e = absurd (omega arith)
   every-at (x ∷ xs) zero d h e = and-parts (good x) (every good xs) e .0
   every-at (x ∷ xs) (suc i) d h e = every-at xs i d (omega arith) (and-parts (good x) (every good xs) e .1)
+
+-- ---- whether each passes, by a loop that goes on past a fault
+
+-- `so` says whether the elements before i pass the test
+abbrev pub Told : {A : Type 0} → (A → Bool) → List A → Bool → ℕ → Type 0
+Told good xs so i = (i ≤ length xs) × (every good xs ≡ (so && every good (drop i xs)))
+
+module _ {A : Type 0} (good : A → Bool) (xs : List A) where
+  pub told-none : Told good xs true 0
+  told-none = (omega arith, refl)
+
+  module _ (i : ℕ) (d : A) (h : i < length xs) where
+    left-every : every good (drop i xs) ≡ (good (getD xs i d) && every good (drop (i + 1) xs))
+    unfolding every
+    left-every = ap (every good) (drop-cons xs i d h) ∙ ap (λ (k : ℕ). good (getD xs i d) && every good (drop k xs)) (sym (add-one i))
+
+    pub told-good : (so : Bool) → Told good xs so i → good (getD xs i d) ≡ true → Told good xs so (i + 1)
+    told-good so p g =
+        let e : every good (drop i xs) ≡ every good (drop (i + 1) xs) = rw g at left-every in
+        (omega arith, p .1 ∙ ap (λ (b : Bool). so && b) e)
+
+    pub told-bad : (so : Bool) → Told good xs so i → good (getD xs i d) ≡ false → Told good xs false (i + 1)
+    told-bad so p g =
+        let e : every good (drop i xs) ≡ false = rw g at left-every in
+        (omega arith, p .1 ∙ ap (λ (b : Bool). so && b) e ∙ none so)
+      where
+        none : (so : Bool) → (so && false) ≡ false
+        none true = refl
+        none false = refl
+
+  pub told-all : (so : Bool) (i : ℕ) → length xs ≤ i → Told good xs so i → so ≡ every good xs
+  unfolding every
+  told-all so i h p =
+      let e : every good (drop i xs) ≡ true = ap (every good) (drop-of-length-le xs h) in
+      sym (p .1 ∙ ap (λ (b : Bool). so && b) e ∙ so-true so)
+    where
+      so-true : (so : Bool) → (so && true) ≡ so
+      so-true true = refl
+      so-true false = refl

@@ -57,6 +57,36 @@ fn is_finite(x: f32) -> bool
     -infinity < x && x < infinity
 }
 
+// Whether all floats are finite. The loop branches on nothing that it reads, and becomes vector code.
+fn all_finite(vertices: &[f32]) -> bool
+    ensures { λ r. ⌜ r ≡ every finiteFloat (now (vertices .entry)) ⌝ }
+{
+    let mut good = true;
+    let mut i = 0usize;
+    while i < vertices.len() {
+        if !is_finite(vertices[i]) {
+            good = false;
+        }
+        i += 1;
+    }
+    good
+}
+
+// Whether all corners are below n. The two are as wide as each other, so that vector code compares eight at a time.
+fn all_below(n: u16, corners: &[u16]) -> bool
+    ensures { λ r. ⌜ r ≡ every (λ c. ltb c n) (now (corners .entry)) ⌝ }
+{
+    let mut good = true;
+    let mut i = 0usize;
+    while i < corners.len() {
+        if n <= corners[i] {
+            good = false;
+        }
+        i += 1;
+    }
+    good
+}
+
 // The position of the first float that is not finite; where there is none, the length.
 fn first_not_finite(vertices: &[f32]) -> usize
     ensures { λ r. ⌜ r ≡ firstFault finiteFloat (now (vertices .entry)) ⌝ }
@@ -99,14 +129,12 @@ fn judge(name: &[u8], vertices: &[f32], corners: &[u16], room: usize) -> Written
     if !whole_row(corners.len()) {
         return Written::Refused(Refusal::Count(corners.len()));
     }
-    let not_finite = first_not_finite(vertices);
-    if not_finite < vertices.len() {
-        return Written::Refused(Refusal::Number(not_finite));
+    if !all_finite(vertices) {
+        return Written::Refused(Refusal::Number(first_not_finite(vertices)));
     }
     let n = vertices.len() / 3;
-    let not_below = first_not_below(n, corners);
-    if not_below < corners.len() {
-        return Written::Refused(Refusal::Index(not_below));
+    if !all_below(n as u16, corners) {
+        return Written::Refused(Refusal::Index(first_not_below(n, corners)));
     }
     let size = 41 + name.len() + 12 * n + 8 * (corners.len() / 3);
     if LIMIT < size {

@@ -10,6 +10,7 @@ use borrow.Fn.Kinds.{In}
 use borrow.Fn.PlainCycle.{Measures, is, falls, and}
 use Rattle.rules.specs.Layout.{Run}
 use Rattle.rules.specs.Rules.{Parent}
+use Rattle.table.proofs.Outlines.{outline-kind}
 use Rattle.lister.specs.Laid.{lent, first, Laid}
 use Rattle.lister.proofs.Rows.{count-small, room-less}
 use Rattle.lister.proofs.Runs.{FirstAt, split-count, header-ends, first-at}
@@ -25,16 +26,15 @@ use Rattle.lister.proofs.own_length.Reads as own-length-reads
 use Rattle.lister.proofs.put_record.Reads as put-record-reads
 use Rattle.little_endian.proofs.long_at.Reads as long-at-reads
 use Rattle.little_endian.proofs.word_at.Reads as word-at-reads
-use Rattle.own_data.proofs.count_of.Reads as count-of-reads
-use Rattle.table.proofs.row.Reads as row-reads
+use Rattle.table.proofs.outline.Reads as outline-reads
 use Rattle.lister.proofs.+list_chunk+list_run.{statement}
 use Rattle.lister.proofs.+list_chunk+list_run.Tie.{close}
 
 abbrev μ-list-chunk : Measures 3 list-chunk-kinds.ps ℕ
-μ-list-chunk κs a = (a .1 .1 .1 .1 .1 .0 - a .1 .1 .1 .1 .0) * 2
+μ-list-chunk κs a = (a .1 .1 .1 .1 .0 - a .1 .1 .1 .0) * 2
 
 abbrev μ-list-run : Measures 3 list-run-kinds.ps ℕ
-μ-list-run κs a = (a .1 .1 .1 .1 .1 .0 - a .1 .1 .1 .1 .0) * 2 + 1
+μ-list-run κs a = (a .1 .1 .1 .1 .0 - a .1 .1 .1 .0) * 2 + 1
 
 abbrev list-chunk-at : ℕ → In 3 list-chunk-kinds.ps
 list-chunk-at t = and 3 list-chunk-kinds.ps (is 3 list-chunk-kinds.ps μ-list-chunk t) list-chunk.Pre
@@ -53,14 +53,12 @@ abbrev chunk-calls : ℕ → list-chunk-lts.Claims
 chunk-calls t = (
   word-at-reads.Asked,
   word-at-reads.Learnt,
-  row-reads.Asked,
-  row-reads.Learnt,
+  outline-reads.Asked,
+  outline-reads.Learnt,
   own-length-reads.Asked,
   own-length-reads.Learnt,
   put-record-reads.Asked,
   put-record-reads.Learnt,
-  count-of-reads.Asked,
-  count-of-reads.Learnt,
   list-run-below t,
   list-run.Post,
 )
@@ -73,49 +71,50 @@ run-calls t = (long-at-reads.Asked, long-at-reads.Learnt, list-chunk-below t, li
 -- where the table has a row for its identifier and own data has been measured, a chunk is a record and its children
 chunk-entered : (t : ℕ) (c : list-chunk-lts.After-own-length (chunk-calls t) (list-chunk-at t) list-chunk.Post) →
     let x = c .before .before .before .before .before .before .before .args in
-    (p : Parent) (u : Run) → Laid (x .file .now) (x .at) (x .stop) p (x .count) (first u) →
+    (p : Parent) (u : Run) → Laid (x .file .now) (x .at) (x .stop) p (first u) →
     Entered (x .file .now) (x .at) (x .stop) (c .before .before .before .word-at .result) (c .own-length .result) (first u)
 chunk-entered t c =
     let q = c .before .before .before .before .before .before .before .pre .1 in
-    entered (q .0) (q .1) (c .before .before .before .word-at .ensures .is) (c .before .before .row .ensures) (c .own-length .ensures .0) (c .before .if1 .left)
+    entered (q .0) (q .1) (c .before .before .before .word-at .ensures .is) (c .before .before .outline .ensures) (c .own-length .ensures .0) (c .before .if1 .left)
 
 list-chunk-word-at-requires : (t : ℕ) → list-chunk-lts.Need-word-at-requires (chunk-calls t) (list-chunk-at t) list-chunk.Post
 list-chunk-word-at-requires t c κs = omega arith
 
-list-chunk-cast-row : (t : ℕ) → list-chunk-lts.Need-cast-row (chunk-calls t) (list-chunk-at t) list-chunk.Post
-list-chunk-cast-row t c = search needs
+list-chunk-cast-outline : (t : ℕ) → list-chunk-lts.Need-cast-outline (chunk-calls t) (list-chunk-at t) list-chunk.Post
+list-chunk-cast-outline t c = search needs
 
-list-chunk-row-requires : (t : ℕ) → list-chunk-lts.Need-row-requires (chunk-calls t) (list-chunk-at t) list-chunk.Post
-list-chunk-row-requires t c κs = search needs
+list-chunk-outline-requires : (t : ℕ) → list-chunk-lts.Need-outline-requires (chunk-calls t) (list-chunk-at t) list-chunk.Post
+list-chunk-outline-requires t c κs = search needs
 
 list-chunk-returns : (t : ℕ) → list-chunk-lts.Need-returns (chunk-calls t) (list-chunk-at t) list-chunk.Post
 list-chunk-returns t c =
     let x = c .before .before .before .before .before in
-    skipped-listed (x .before .pre .1 .0) (x .before .pre .1 .1) (c .before .before .word-at .ensures .is) (c .before .row .ensures) (lent (x .before .args .records .now) (x .before .args .bytes .now)) (c .if1 .taken)
+    skipped-listed (x .before .pre .1 .0) (x .before .pre .1 .1) (c .before .before .word-at .ensures .is) (c .before .outline .ensures) (lent (x .before .args .records .now) (x .before .args .bytes .now)) (c .if1 .taken)
 
 list-chunk-add-own-length : (t : ℕ) → list-chunk-lts.Need-add-own-length (chunk-calls t) (list-chunk-at t) list-chunk.Post
 list-chunk-add-own-length t c = omega arith
 
 list-chunk-own-length-requires : (t : ℕ) → list-chunk-lts.Need-own-length-requires (chunk-calls t) (list-chunk-at t) list-chunk.Post
-list-chunk-own-length-requires t c κs = omega arith
+list-chunk-own-length-requires t c κs =
+    (omega arith, omega arith, λ h. rw (c .before .outline .ensures) (outline-kind _ (rw (c .before .outline .ensures) at h)))
+
+list-chunk-cast-t17 : (t : ℕ) → list-chunk-lts.Need-cast-t17 (chunk-calls t) (list-chunk-at t) list-chunk.Post
+list-chunk-cast-t17 t c = omega arith
+
+list-chunk-sub-t15 : (t : ℕ) → list-chunk-lts.Need-sub-t15 (chunk-calls t) (list-chunk-at t) list-chunk.Post
+list-chunk-sub-t15 t c = omega arith
+
+list-chunk-cast-t18 : (t : ℕ) → list-chunk-lts.Need-cast-t18 (chunk-calls t) (list-chunk-at t) list-chunk.Post
+list-chunk-cast-t18 t c = omega arith
 
 list-chunk-cast-t19 : (t : ℕ) → list-chunk-lts.Need-cast-t19 (chunk-calls t) (list-chunk-at t) list-chunk.Post
 list-chunk-cast-t19 t c = omega arith
-
-list-chunk-sub-t17 : (t : ℕ) → list-chunk-lts.Need-sub-t17 (chunk-calls t) (list-chunk-at t) list-chunk.Post
-list-chunk-sub-t17 t c = omega arith
 
 list-chunk-cast-t20 : (t : ℕ) → list-chunk-lts.Need-cast-t20 (chunk-calls t) (list-chunk-at t) list-chunk.Post
 list-chunk-cast-t20 t c = omega arith
 
 list-chunk-cast-t21 : (t : ℕ) → list-chunk-lts.Need-cast-t21 (chunk-calls t) (list-chunk-at t) list-chunk.Post
-list-chunk-cast-t21 t c = omega arith
-
-list-chunk-cast-t22 : (t : ℕ) → list-chunk-lts.Need-cast-t22 (chunk-calls t) (list-chunk-at t) list-chunk.Post
-list-chunk-cast-t22 t c = omega arith
-
-list-chunk-cast-t23 : (t : ℕ) → list-chunk-lts.Need-cast-t23 (chunk-calls t) (list-chunk-at t) list-chunk.Post
-list-chunk-cast-t23 t c = omega (arith, c .own-length .ensures .1)
+list-chunk-cast-t21 t c = omega (arith, c .own-length .ensures .1)
 
 list-chunk-put-record-requires : (t : ℕ) → list-chunk-lts.Need-put-record-requires (chunk-calls t) (list-chunk-at t) list-chunk.Post
 list-chunk-put-record-requires t c κs =
@@ -143,60 +142,53 @@ list-chunk-returns-2 t c =
     let x = c .before .before .before .before .before .before .before .before .before .before .before .before .before .before .before in
     λ p u l. childless-listed (chunk-entered t (c .before .before .before .before .before .before .before .before) p u l) (lent (x .args .records .now) (x .args .bytes .now)) (x .args .depth) (x .args .parent) (x .args .next) (c .before .before .before .before .before .put-record .ensures) (c .if2 .taken)
 
-list-chunk-add-count-of : (t : ℕ) → list-chunk-lts.Need-add-count-of (chunk-calls t) (list-chunk-at t) list-chunk.Post
-list-chunk-add-count-of t c = omega arith
-
-list-chunk-count-of-requires : (t : ℕ) → list-chunk-lts.Need-count-of-requires (chunk-calls t) (list-chunk-at t) list-chunk.Post
-list-chunk-count-of-requires t c κs = omega arith
-
 list-chunk-add-list-run : (t : ℕ) → list-chunk-lts.Need-add-list-run (chunk-calls t) (list-chunk-at t) list-chunk.Post
 list-chunk-add-list-run t c = omega arith
 
 list-chunk-list-run-requires : (t : ℕ) → list-chunk-lts.Need-list-run-requires (chunk-calls t) (list-chunk-at t) list-chunk.Post
 list-chunk-list-run-requires t c κs =
-    let x = c .before .before .before .before .before .before .before .before .before .before .before .before .before .before .before .before .before .before in
-    let e = chunk-entered t (c .before .before .before .before .before .before .before .before .before .before .before) (x .pre .1 .2 .0) (x .pre .1 .2 .1) (x .pre .1 .2 .2) in
+    let x = c .before .before .before .before .before .before .before .before .before .before .before .before .before .before .before .before .before in
+    let e = chunk-entered t (c .before .before .before .before .before .before .before .before .before .before) (x .pre .1 .2 .0) (x .pre .1 .2 .1) (x .pre .1 .2 .2) in
     let z = e .counts in
-    let v = c .before .before .before .before .before .before .before .before .before .before .before .own-length .ensures .1 in
-    let k = c .before .before .before .before .before .before .before .before .put-record .kept in
-    let q = c .before .before .count-of .ensures in (
+    let v = c .before .before .before .before .before .before .before .before .before .before .own-length .ensures .1 in
+    let k = c .before .before .before .before .before .before .before .put-record .kept in (
       omega arith,
       (
         omega arith,
-        record { ends = omega arith; short = omega arith; count-small = q .small; deep = omega arith; over = omega arith; before = omega arith },
-        (e .around, e .kids, inner-laid e q, room-less (k .0) (k .1 .0) (omega arith) (x .pre .1 .2 .3)),
+        record { ends = omega arith; short = omega arith; deep = omega arith; over = omega arith; before = omega arith },
+        (e .around, e .kids, inner-laid e, room-less (k .0) (k .1 .0) (omega arith) (x .pre .1 .2 .3)),
       ),
     )
 
 list-chunk-same-length-3 : (t : ℕ) → list-chunk-lts.Need-same-length-3 (chunk-calls t) (list-chunk-at t) list-chunk.Post
-list-chunk-same-length-3 t c = c .before .before .before .before .list-run .kept .1 .0 ∙ c .before .before .before .before .before .before .before .before .before .before .before .before .before .put-record .kept .0
+list-chunk-same-length-3 t c = c .before .before .before .before .list-run .kept .1 .0 ∙ c .before .before .before .before .before .before .before .before .before .before .before .before .put-record .kept .0
 
 list-chunk-same-length-4 : (t : ℕ) → list-chunk-lts.Need-same-length-4 (chunk-calls t) (list-chunk-at t) list-chunk.Post
-list-chunk-same-length-4 t c = c .before .before .before .before .list-run .kept .1 .1 .0 ∙ c .before .before .before .before .before .before .before .before .before .before .before .before .before .put-record .kept .1 .0
+list-chunk-same-length-4 t c = c .before .before .before .before .list-run .kept .1 .1 .0 ∙ c .before .before .before .before .before .before .before .before .before .before .before .before .put-record .kept .1 .0
 
 list-chunk-returns-3 : (t : ℕ) → list-chunk-lts.Need-returns-3 (chunk-calls t) (list-chunk-at t) list-chunk.Post
 list-chunk-returns-3 t c =
-    let x = c .before .before .before .before .before .before .before .before .before .before .before .before .before .before .before .before .before .before .before .before .before .before .before in
+    let x = c .before .before .before .before .before .before .before .before .before .before .before .before .before .before .before .before .before .before .before .before .before .before in
     λ p u l.
-    let e = chunk-entered t (c .before .before .before .before .before .before .before .before .before .before .before .before .before .before .before .before) p u l in
-    entered-listed e (lent (x .args .records .now) (x .args .bytes .now)) (x .args .depth) (x .args .parent) (x .args .next) (c .before .before .before .before .before .before .before .before .before .before .before .before .before .put-record .ensures)
-    (c .before .before .before .before .list-run .ensures (e .around) (e .kids) (inner-laid e (c .before .before .before .before .before .before .before .count-of .ensures)))
+    let e = chunk-entered t (c .before .before .before .before .before .before .before .before .before .before .before .before .before .before .before) p u l in
+    entered-listed e (lent (x .args .records .now) (x .args .bytes .now)) (x .args .depth) (x .args .parent) (x .args .next) (c .before .before .before .before .before .before .before .before .before .before .before .before .put-record .ensures)
+    (c .before .before .before .before .list-run .ensures (e .around) (e .kids) (inner-laid e))
 
 -- ---- a run
 
 abbrev list-run-Inv-loop : list-run-lts.InvT-loop
-list-run-Inv-loop file records₀ bytes₀ count at end depth parent next from₀ number₀ records bytes from number =
+list-run-Inv-loop file records₀ bytes₀ at end depth parent next from₀ number₀ records bytes from number =
     (at ≤ from) × (from ≤ end) × (6 * number ≤ from) × (length records ≡ length records₀) × (length bytes ≡ length bytes₀) ×
-    ((p : Parent) (t : Run) → Laid file at end p count t → Sofar file end count depth parent p (lent records₀ bytes₀) at next t (lent records bytes) from number)
+    ((p : Parent) (t : Run) → Laid file at end p t → Sofar file end depth parent p (lent records₀ bytes₀) at next t (lent records bytes) from number)
 
 abbrev list-run-μ-loop : list-run-lts.MeasureT-loop
-list-run-μ-loop file records₀ bytes₀ count at end depth parent next from₀ number₀ records bytes from number = end - from
+list-run-μ-loop file records₀ bytes₀ at end depth parent next from₀ number₀ records bytes from number = end - from
 
 -- what is left of the run begins with a chunk of the length that was read
 run-first : (t : ℕ) (c : list-run-lts.After-long-at (run-calls t) (list-run-at t) list-run.Post list-run-Inv-loop list-run-μ-loop) →
     let x = c .before .before .before .before .before .before .args in
-    (p : Parent) (u : Run) → Laid (x .file .now) (c .before .before .loop .from) (x .end) p (x .count) u →
-    FirstAt (x .file .now) (c .before .before .loop .from) (x .end) p (x .count) (c .long-at .result) u
+    (p : Parent) (u : Run) → Laid (x .file .now) (c .before .before .loop .from) (x .end) p u →
+    FirstAt (x .file .now) (c .before .before .loop .from) (x .end) p (c .long-at .result) u
 run-first t c p u l =
     let q = c .before .before .before .before .before .before .pre .1 .1 in
     first-at (c .before .loop-test .taken) (q .ends) (q .short) u l (c .long-at .result) (c .long-at .ensures .is)
@@ -241,7 +233,7 @@ list-run-list-chunk-requires t c κs =
       omega arith,
       (
         omega arith,
-        record { ends = omega arith; short = omega arith; count-small = x .pre .1 .1 .count-small; deep = omega arith; over = omega arith; before = omega arith },
+        record { ends = omega arith; short = omega arith; deep = omega arith; over = omega arith; before = omega arith },
         (x .pre .1 .2 .0, f .left, a .alone, room-less (i .3) (i .4) (omega arith) (x .pre .1 .2 .3)),
       ),
     )
@@ -296,17 +288,17 @@ pub +list-chunk+list-run-spec : {M : Type 1} → statement M
     (list-chunk-at t)
     list-chunk.Post
     (list-chunk-word-at-requires t)
-    (list-chunk-cast-row t)
-    (list-chunk-row-requires t)
+    (list-chunk-cast-outline t)
+    (list-chunk-outline-requires t)
     (list-chunk-returns t)
     (list-chunk-add-own-length t)
     (list-chunk-own-length-requires t)
+    (list-chunk-cast-t17 t)
+    (list-chunk-sub-t15 t)
+    (list-chunk-cast-t18 t)
     (list-chunk-cast-t19 t)
-    (list-chunk-sub-t17 t)
     (list-chunk-cast-t20 t)
     (list-chunk-cast-t21 t)
-    (list-chunk-cast-t22 t)
-    (list-chunk-cast-t23 t)
     (list-chunk-put-record-requires t)
     (list-chunk-add-from t)
     (list-chunk-add-from-2 t)
@@ -314,8 +306,6 @@ pub +list-chunk+list-run-spec : {M : Type 1} → statement M
     (list-chunk-same-length t)
     (list-chunk-same-length-2 t)
     (list-chunk-returns-2 t)
-    (list-chunk-add-count-of t)
-    (list-chunk-count-of-requires t)
     (list-chunk-add-list-run t)
     (list-chunk-list-run-requires t)
     (list-chunk-same-length-3 t)

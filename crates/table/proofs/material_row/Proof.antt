@@ -15,14 +15,14 @@ use Rattle.table.proofs.material_row.Statement.{statement}
 use Rattle.table.proofs.material_row.Tie as tie
 
 abbrev outside : ℕ → Bool
-outside x = ltb x 0x4D4E || ltb 0x9FFF x
+outside x = ltb x 0x4D4E || ltb 0x9FFE x
 
 outside-test : everyId outside rows ≡ true
 unfolding rows every
 outside-test = refl
 
 abbrev low-or-armed : ℕ → Bool
-low-or-armed x = ltb x 0xA000 || armed x materialArms
+low-or-armed x = ltb x 0x9FFF || armed x materialArms
 
 armed-test : everyId low-or-armed rows ≡ true
 unfolding rows every materialArms
@@ -31,7 +31,7 @@ armed-test = refl
 returns : tie.Need-returns
 returns c =
     let x = c .before .args .id in
-    sym (no-row-by outside outside-test x (rw (le-ltb x 0x4D4E (omega arith), le-ltb 0x9FFF x (omega arith))))
+    sym (no-row-by outside outside-test x (rw (le-ltb x 0x4D4E (omega arith), le-ltb 0x9FFE x (omega arith))))
 
 returns-2 : tie.Need-returns-2
 unfolding rows places limits atMostOne rowOf
@@ -53,7 +53,7 @@ returns-6 : tie.Need-returns-6
 unfolding materialArms
 returns-6 c =
     let x = c .before .before .args .id in
-    sym (no-row-by low-or-armed armed-test x (rw (le-ltb x 0xA000 (omega arith)) (no-arm x Unit materialArms (c .match .rest) .1)))
+    sym (no-row-by low-or-armed armed-test x (rw (le-ltb x 0x9FFF (omega arith)) (no-arm x Unit materialArms (c .match .rest) .1)))
 
 pub material-row-spec : {M : Type 1} → statement M
 material-row-spec = tie.close (tie.spec returns returns-2 returns-3 returns-4 returns-5 returns-6)

@@ -1,6 +1,6 @@
--- Each arm has the number of its identifiers' row; where no arm is taken there is no row.
-use mathlib.Core.Path.{_≡_, refl, sym}
-use mathlib.Core.Bool.{Bool, true, _||_}
+-- Each arm has the number of its identifiers' row; where no arm is taken the row has children, or there is none.
+use mathlib.Core.Path.{_≡_, refl, sym, _∙_}
+use mathlib.Core.Bool.{Bool, true, false, _||_}
 use mathlib.Core.Logic.{⊎-elim}
 use Prim.Native.Nat.{ℕ}
 use lib.Dec.{ltb}
@@ -10,17 +10,26 @@ use native.Mathlib.Omega.{arith}
 use Rattle.rules.specs.Bytes.{every}
 use Rattle.rules.specs.Table.{rows, limits, atMostOne}
 use Rattle.rules.proofs.Rows.{everyId}
-use Rattle.table.specs.Packed.{places, rowOf}
+use Rattle.table.specs.Packed.{places, rowOf, plusIn, holderIn}
 use Rattle.table.proofs.Keys.{armed, no-arm, no-row-by, arms}
+use Rattle.table.proofs.Outlines.{holder-of, no-holder}
 use Rattle.table.proofs.row.Statement.{statement}
 use Rattle.table.proofs.row.Tie as tie
 
 abbrev high-or-armed : ℕ → Bool
-high-or-armed x = ltb 0x4D4D x || armed x arms
+high-or-armed x = (ltb 0x4D4D x || armed x arms) || plusIn (rowOf x)
 
 armed-test : everyId high-or-armed rows ≡ true
-unfolding rows every arms
+unfolding rows every places limits atMostOne rowOf arms
 armed-test = refl
+
+-- no key of an arm: what may have children is all that is left
+unarmed : (x : ℕ) → (ltb 0x4D4D x || armed x arms) ≡ false → holderIn (rowOf x) ≡ rowOf x
+unarmed x h = go (plusIn (rowOf x)) refl
+  where
+    go : (b : Bool) → plusIn (rowOf x) ≡ b → holderIn (rowOf x) ≡ rowOf x
+    go true e = holder-of (rowOf x) e
+    go false e = no-holder (rowOf x) e ∙ sym (no-row-by high-or-armed armed-test x (rw (h, e)))
 
 material-row-requires : tie.Need-material-row-requires
 material-row-requires c κs = search needs
@@ -28,13 +37,16 @@ material-row-requires c κs = search needs
 returns : tie.Need-returns
 returns c = search needs
 
+holder-row-requires : tie.Need-holder-row-requires
+holder-row-requires c κs = search needs
+
 returns-2 : tie.Need-returns-2
 unfolding rows places limits atMostOne rowOf
 returns-2 c = rw (c .match .keys1)
 
 returns-3 : tie.Need-returns-3
 unfolding rows places limits atMostOne rowOf
-returns-3 c = rw (c .match .keys2)
+returns-3 c = ⊎-elim (λ e. rw e) (⊎-elim (λ e. rw e) (⊎-elim (λ e. rw e) (λ e. rw e))) (c .match .keys2)
 
 returns-4 : tie.Need-returns-4
 unfolding rows places limits atMostOne rowOf
@@ -42,11 +54,11 @@ returns-4 c = rw (c .match .keys3)
 
 returns-5 : tie.Need-returns-5
 unfolding rows places limits atMostOne rowOf
-returns-5 c = ⊎-elim (λ e. rw e) (⊎-elim (λ e. rw e) (⊎-elim (λ e. rw e) (λ e. rw e))) (c .match .keys4)
+returns-5 c = rw (c .match .keys4)
 
 returns-6 : tie.Need-returns-6
 unfolding rows places limits atMostOne rowOf
-returns-6 c = rw (c .match .keys5)
+returns-6 c = ⊎-elim (λ e. rw e) (λ e. rw e) (c .match .keys5)
 
 returns-7 : tie.Need-returns-7
 unfolding rows places limits atMostOne rowOf
@@ -58,7 +70,7 @@ returns-8 c = rw (c .match .keys7)
 
 returns-9 : tie.Need-returns-9
 unfolding rows places limits atMostOne rowOf
-returns-9 c = ⊎-elim (λ e. rw e) (λ e. rw e) (c .match .keys8)
+returns-9 c = rw (c .match .keys8)
 
 returns-10 : tie.Need-returns-10
 unfolding rows places limits atMostOne rowOf
@@ -66,11 +78,11 @@ returns-10 c = rw (c .match .keys9)
 
 returns-11 : tie.Need-returns-11
 unfolding rows places limits atMostOne rowOf
-returns-11 c = rw (c .match .keys10)
+returns-11 c = ⊎-elim (λ e. rw e) (⊎-elim (λ e. rw e) (λ e. rw e)) (c .match .keys10)
 
 returns-12 : tie.Need-returns-12
 unfolding rows places limits atMostOne rowOf
-returns-12 c = rw (c .match .keys11)
+returns-12 c = ⊎-elim (λ e. rw e) (λ e. rw e) (c .match .keys11)
 
 returns-13 : tie.Need-returns-13
 unfolding rows places limits atMostOne rowOf
@@ -82,11 +94,11 @@ returns-14 c = rw (c .match .keys13)
 
 returns-15 : tie.Need-returns-15
 unfolding rows places limits atMostOne rowOf
-returns-15 c = ⊎-elim (λ e. rw e) (⊎-elim (λ e. rw e) (λ e. rw e)) (c .match .keys14)
+returns-15 c = rw (c .match .keys14)
 
 returns-16 : tie.Need-returns-16
 unfolding rows places limits atMostOne rowOf
-returns-16 c = ⊎-elim (λ e. rw e) (λ e. rw e) (c .match .keys15)
+returns-16 c = rw (c .match .keys15)
 
 returns-17 : tie.Need-returns-17
 unfolding rows places limits atMostOne rowOf
@@ -117,42 +129,10 @@ unfolding rows places limits atMostOne rowOf
 returns-23 c = rw (c .match .keys22)
 
 returns-24 : tie.Need-returns-24
-unfolding rows places limits atMostOne rowOf
-returns-24 c = rw (c .match .keys23)
-
-returns-25 : tie.Need-returns-25
-unfolding rows places limits atMostOne rowOf
-returns-25 c = rw (c .match .keys24)
-
-returns-26 : tie.Need-returns-26
-unfolding rows places limits atMostOne rowOf
-returns-26 c = rw (c .match .keys25)
-
-returns-27 : tie.Need-returns-27
-unfolding rows places limits atMostOne rowOf
-returns-27 c = rw (c .match .keys26)
-
-returns-28 : tie.Need-returns-28
-unfolding rows places limits atMostOne rowOf
-returns-28 c = rw (c .match .keys27)
-
-returns-29 : tie.Need-returns-29
-unfolding rows places limits atMostOne rowOf
-returns-29 c = rw (c .match .keys28)
-
-returns-30 : tie.Need-returns-30
-unfolding rows places limits atMostOne rowOf
-returns-30 c = rw (c .match .keys29)
-
-returns-31 : tie.Need-returns-31
-unfolding rows places limits atMostOne rowOf
-returns-31 c = rw (c .match .keys30)
-
-returns-32 : tie.Need-returns-32
 unfolding arms
-returns-32 c =
-    let x = c .before .before .args .id in
-    sym (no-row-by high-or-armed armed-test x (rw (le-ltb 0x4D4D x (omega arith)) (no-arm x Unit arms (c .match .rest) .1)))
+returns-24 c =
+    let x = c .before .before .before .args .id in
+    c .holder-row .ensures ∙ unarmed x (rw (le-ltb 0x4D4D x (omega arith)) (no-arm x Unit arms (c .before .match .rest) .1))
 
 pub row-spec : {M : Type 1} → statement M
 row-spec =
@@ -160,6 +140,7 @@ row-spec =
     (tie.spec
     material-row-requires
     returns
+    holder-row-requires
     returns-2
     returns-3
     returns-4
@@ -182,12 +163,4 @@ row-spec =
     returns-21
     returns-22
     returns-23
-    returns-24
-    returns-25
-    returns-26
-    returns-27
-    returns-28
-    returns-29
-    returns-30
-    returns-31
-    returns-32)
+    returns-24)

@@ -1,7 +1,7 @@
 -- `writer::judge` meets its contract: its tests are the conditions in their order, so that each way past a test shows one
 -- more of them.
 use mathlib.Core.Path.{refl, sym, ap, _∙_}
-use Prim.Native.Nat.{ℕ, _≤_}
+use Prim.Native.Nat.{ℕ, _≤_, _<_, _/_}
 use native.Mathlib.Omega.{arith}
 use mathlib.Core.List.{List}
 use lib.ListN.{length, take}
@@ -11,7 +11,7 @@ use Rattle.rules.specs.declared.Refusal.the-variants.{Name, Number, Index}
 use Rattle.rules.specs.Walk.{Condition}
 use Rattle.rules.proofs.Conditions.{Met}
 use Rattle.writer.specs.declared.Written.the-variants.{Refused}
-use Rattle.writer.specs.Write.{notZero, finiteFloat, writeConditions}
+use Rattle.writer.specs.Write.{notZero, writeConditions}
 use Rattle.writer.proofs.FirstFault.{every-good, some-bad}
 use Rattle.writer.proofs.Judged.{met-more, whole-row, refused-at, sized}
 use Rattle.writer.proofs.judge.Statement.{statement}
@@ -32,10 +32,10 @@ held-3 : (c : tie.Else3) → Met (take 3 (conditions (c .before .before .before 
 held-3 c = met-more 2 (conditions (c .before .before .before .before .before .before .before .before .before)) (held-2 (c .before .before)) refl (sym (c .before .whole-row2 .ensures) ∙ not-false _ (c .if3 .left))
 
 held-4 : (c : tie.Else4) → Met (take 4 (conditions (c .before .before .before .before .before .before .before .before .before .before .before)))
-held-4 c = met-more 3 (conditions (c .before .before .before .before .before .before .before .before .before .before .before)) (held-3 (c .before .before)) refl (every-good finiteFloat _ (omega arith))
+held-4 c = met-more 3 (conditions (c .before .before .before .before .before .before .before .before .before .before .before)) (held-3 (c .before .before)) refl (sym (c .before .all-finite .ensures) ∙ not-false _ (c .if4 .left))
 
 held-5 : (c : tie.Else5) → Met (take 5 (conditions (c .before .before .before .before .before .before .before .before .before .before .before .before .before)))
-held-5 c = met-more 4 (conditions (c .before .before .before .before .before .before .before .before .before .before .before .before .before)) (held-4 (c .before .before)) refl (every-good _ _ (omega arith))
+held-5 c = met-more 4 (conditions (c .before .before .before .before .before .before .before .before .before .before .before .before .before)) (held-4 (c .before .before)) refl (sym (c .before .all-below .ensures) ∙ not-false _ (c .if5 .left))
 
 held-6 : (c : tie.Else6) → Met (take 6 (conditions (c .before .before .before .before .before .before .before .before .before .before .before .before .before .before)))
 held-6 c = met-more 5 (conditions (c .before .before .before .before .before .before .before .before .before .before .before .before .before .before)) (held-5 (c .before)) refl (le-leb _ _ (c .if6 .left))
@@ -69,19 +69,34 @@ whole-row-requires-2 c κs = search needs
 returns-3 : tie.Need-returns-3
 returns-3 c = refused-at _ _ _ _ 2 (held-2 (c .before .before)) refl (sym (c .before .whole-row2 .ensures) ∙ not-true _ (c .if3 .taken))
 
+all-finite-requires : tie.Need-all-finite-requires
+all-finite-requires c κs = search needs
+
 first-not-finite-requires : tie.Need-first-not-finite-requires
 first-not-finite-requires c κs = search needs
 
 returns-4 : tie.Need-returns-4
 returns-4 c =
-    ap (λ (p : ℕ). Refused (Number p)) (c .before .first-not-finite .ensures) ∙ refused-at _ _ _ _ 3 (held-3 (c .before .before)) refl (some-bad finiteFloat _ (omega arith))
+    ap (λ (p : ℕ). Refused (Number p)) (c .first-not-finite .ensures) ∙
+    refused-at _ _ _ _ 3 (held-3 (c .before .before .before)) refl (sym (c .before .before .all-finite .ensures) ∙ not-true _ (c .before .if4 .taken))
+
+cast-all-below : tie.Need-cast-all-below
+cast-all-below c =
+    let n = length (c .before .before .before .before .before .before .before .before .before .before .before .args .vertices .now) in
+    let s : n ≤ 196_605 = whole-row n (held-4 c .1 .0) .1 in
+    let d : n / 3 < 65_536 = omega arith in
+    record { fits = d }
+
+all-below-requires : tie.Need-all-below-requires
+all-below-requires c κs = search needs
 
 first-not-below-requires : tie.Need-first-not-below-requires
 first-not-below-requires c κs = search needs
 
 returns-5 : tie.Need-returns-5
 returns-5 c =
-    ap (λ (p : ℕ). Refused (Index p)) (c .before .first-not-below .ensures) ∙ refused-at _ _ _ _ 4 (held-4 (c .before .before)) refl (some-bad _ _ (omega arith))
+    ap (λ (p : ℕ). Refused (Index p)) (c .first-not-below .ensures) ∙
+    refused-at _ _ _ _ 4 (held-4 (c .before .before .before)) refl (sym (c .before .before .all-below .ensures) ∙ not-true _ (c .before .if5 .taken))
 
 add-size : tie.Need-add-size
 add-size c = search needs
@@ -119,8 +134,11 @@ judge-spec =
     returns-2
     whole-row-requires-2
     returns-3
+    all-finite-requires
     first-not-finite-requires
     returns-4
+    cast-all-below
+    all-below-requires
     first-not-below-requires
     returns-5
     add-size
