@@ -37,6 +37,10 @@ static const struct raw {
     {"4D4D alone (P3)", "MM\6\0\0\0", 6, REFUSAL(14, 0)},
     {"4D4D beyond the file", "MM\7\0\0\0", 6, REFUSAL(5, 0)},
     {"4D4D of the greatest length", "MM\xFF\xFF\xFF\xFF", 6, REFUSAL(5, 0)},
+    {"half a count word, at the file's end",
+     "MM\x21\0\0\0==\x1B\0\0\0\0@\x15\0\0\0a\0\0A\x0D\0\0\0\x10"
+     "A\7\0\0\0\3",
+     33, REFUSAL(10, 26)},
     {"one byte more (P5)", "MM\x0C\0\0\0==\6\0\0\0x", 13, REFUSAL(3, 12)},
     {"one byte in 4D4D (P6)", "MM\x0D\0\0\0==\6\0\0\0x", 13, REFUSAL(6, 12)},
     {"3D3D too long (P7)", "MM\x0C\0\0\0==\7\0\0\0", 12, REFUSAL(5, 6)},

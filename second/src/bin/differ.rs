@@ -82,7 +82,11 @@ fn grown<L: Boundary, R: Boundary>(plan: Plan, pair: &mut Pair<L, R>) -> Result<
             println!("{:<46}{seconds:>7.1} s {}", "Total", words(&total));
             Ok(())
         }
-        Err(failure) => Err(failure.shrunk(plan.seed, pair).words(plan.seed)),
+        Err(failure) => {
+            let (family, index) = (&failure.family, failure.index);
+            println!("{family}, case {index}: a difference; looking for a smaller one");
+            Err(failure.shrunk(plan.seed, pair).words(plan.seed))
+        }
     }
 }
 

@@ -266,7 +266,8 @@ impl<L: Boundary, R: Boundary> Pair<L, R> {
     /// Some meshes of an accepted file, and some that are not there.
     fn meshes(&mut self, file: &[u8], count: u32, random: &mut Random) -> Result<(), Difference> {
         let absent = count + random.below(3) as u32;
-        for mesh in [absent, random.next() as u32 | 0x8000_0000] {
+        let high = random.pick(&[0x1_0000, 0x100_0000, 0x8000_0000]) + random.below(3) as u32;
+        for mesh in [absent, random.next() as u32 | 0x8000_0000, absent.max(high)] {
             self.ask(file, Call::Tables(mesh, random.below(20), random.below(20)))?;
             self.ask(file, Call::Name(mesh, random.below(12)))?;
             self.ask(file, Call::Box(mesh, random.below(44)))?;

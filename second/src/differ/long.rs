@@ -7,7 +7,7 @@ use super::writing::{room, Writing};
 use crate::LIMIT;
 
 /// How many kinds of long figure there are.
-pub const KINDS: usize = 8;
+pub const KINDS: usize = 15;
 
 /// A long figure of one kind, perhaps a little damaged.
 pub fn figure(kind: usize, random: &mut Random) -> Vec<u8> {
@@ -19,16 +19,24 @@ pub fn figure(kind: usize, random: &mut Random) -> Vec<u8> {
         4 => named(random),
         5 => vec![object(vec![0], 65_535, 20_000)],
         6 => vec![object(vec![0], 20_000, 65_535)],
-        _ => vec![Node::leaf(0xB000, random.bytes(500_000))],
+        7 => vec![Node::leaf(0xB000, random.bytes(500_000))],
+        8 => late(random),
+        9 => vec![bare(); random.from_to(65_530, 80_000)],
+        10..=12 => vec![mapped(kind % KINDS - 10, random)],
+        _ => vec![painted(kind % KINDS == 13, random)],
     };
     let mut root = Node::holding(
         0x4D4D,
         vec![],
         vec![Node::holding(0x3D3D, vec![], children)],
     );
-    fill(&mut root, random);
+    // The kinds behind the tenth are about long lists, and are left as they are.
+    let lists = kind % KINDS >= 10;
+    if !lists {
+        fill(&mut root, random);
+    }
     let mut file = root.bytes();
-    if random.chance(40) {
+    if !lists && random.chance(40) {
         hurt(&mut file, random);
     }
     if file.len() > LIMIT && random.chance(30) {
@@ -39,7 +47,26 @@ pub fn figure(kind: usize, random: &mut Random) -> Vec<u8> {
 
 /// An object with a mesh of so many vertices and faces.
 fn object(name: Vec<u8>, n: u16, f: u16) -> Node {
-    let points = [&n.to_le_bytes()[..], &vec![0x3F; 12 * usize::from(n)]].concat();
+    let parts = vec![
+        Node::leaf(0x4120, faces(n, f)),
+        Node::leaf(0x4110, points(n)),
+    ];
+    let mesh = Node::holding(0x4100, vec![], parts);
+    Node::holding(0x4000, name, vec![mesh])
+}
+
+/// Vertices, no two alike and not in order, so that one that is left out or given twice is missed.
+fn points(n: u16) -> Vec<u8> {
+    let mut points = n.to_le_bytes().to_vec();
+    for k in 0..3 * u32::from(n) {
+        let value = (k.wrapping_mul(40_503) % 262_139) as f32 - 131_000.0;
+        points.extend(value.to_le_bytes());
+    }
+    points
+}
+
+/// Faces with corners up to the last vertex.
+fn faces(n: u16, f: u16) -> Vec<u8> {
     let mut faces = f.to_le_bytes().to_vec();
     for face in 0..f {
         let high = n.saturating_sub(1);
@@ -47,9 +74,56 @@ fn object(name: Vec<u8>, n: u16, f: u16) -> Node {
             faces.extend(corner.to_le_bytes());
         }
     }
-    let parts = vec![Node::leaf(0x4120, faces), Node::leaf(0x4110, points)];
-    let mesh = Node::holding(0x4100, vec![], parts);
-    Node::holding(0x4000, name, vec![mesh])
+    faces
+}
+
+/// The smallest object with a mesh.
+fn bare() -> Node {
+    Node::holding(0x4000, vec![0], vec![Node::leaf(0x4100, vec![])])
+}
+
+/// Objects behind so many records that their own numbers take more than 16 bits.
+fn late(random: &mut Random) -> Vec<Node> {
+    let mut children = vec![Node::leaf(0x1470, vec![]); random.from_to(65_530, 90_000)];
+    children.extend([object(vec![0], 3, 1), bare(), object(vec![0], 1, 2)]);
+    children
+}
+
+/// A mesh with many mapping coordinates: right (0), one bit of the count another (1), or the last not finite (2).
+fn mapped(fault: usize, random: &mut Random) -> Node {
+    let n = random.from_to(1_000, 40_000) as u16;
+    let count = match fault {
+        1 => n ^ random.pick(&[0x0100, 0x1000, 0x4000, 0x8000]),
+        _ => n,
+    };
+    let mut pairs = count.to_le_bytes().to_vec();
+    pairs.extend(points(count)[2..][..8 * usize::from(count)].to_vec());
+    if fault == 2 {
+        let last = pairs.len() - 4;
+        pairs[last..].copy_from_slice(&f32::NAN.to_le_bytes());
+    }
+    let parts = vec![Node::leaf(0x4140, pairs), Node::leaf(0x4110, points(n))];
+    Node::holding(0x4000, vec![0], vec![Node::holding(0x4100, vec![], parts)])
+}
+
+/// A mesh with a material and a smoothing group for each of many faces; if not right, the last face number is too large.
+fn painted(right: bool, random: &mut Random) -> Node {
+    let f = random.from_to(1_000, 40_000) as u16;
+    let mut numbers = [&b"paint\0"[..], &f.to_le_bytes()].concat();
+    (0..f).for_each(|face| numbers.extend(face.to_le_bytes()));
+    if !right {
+        let last = numbers.len() - 2;
+        numbers[last..].copy_from_slice(&f.to_le_bytes());
+    }
+    let inside = vec![
+        Node::leaf(0x4130, numbers),
+        Node::leaf(0x4150, vec![1; 4 * usize::from(f)]),
+    ];
+    let parts = vec![
+        Node::leaf(0x4110, points(9)),
+        Node::holding(0x4120, faces(9, f), inside),
+    ];
+    Node::holding(0x4000, vec![0], vec![Node::holding(0x4100, vec![], parts)])
 }
 
 /// Many small objects.

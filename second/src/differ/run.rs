@@ -7,7 +7,7 @@ use super::random::Random;
 use super::shrink::shrink;
 use super::writing::Writing;
 use crate::boundary::{refusal, Boundary};
-use std::time::Instant;
+use std::time::{Duration, Instant};
 
 /// How often each answer was met: 0 for accepted, else the refusal's number.
 pub type Tally = [u64; 18];
@@ -197,6 +197,8 @@ fn shown(file: &[u8]) -> String {
 
 /// The smallest writing that still fails.
 fn smallest(mut writing: Writing, fails: &mut dyn FnMut(&Writing) -> bool) -> Writing {
+    let until = Instant::now() + Duration::from_secs(10);
+    let mut fails = |less: &Writing| Instant::now() < until && fails(less);
     while let Some(less) = writing.smaller().into_iter().find(|less| fails(less)) {
         writing = less;
     }
