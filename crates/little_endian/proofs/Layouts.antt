@@ -1,10 +1,10 @@
 -- A layout whose bytes are a part of a file: where its first chunk stands there, and what follows it.
 use mathlib.Core.Path.{_≡_, refl, sym, ap, _∙_}
-use mathlib.Core.List.{List, [], _∷_, _++_}
-use Prim.Native.Nat.{ℕ, suc, _+_, _-_, _≤_, _<_, _^_}
+use mathlib.Core.List.{List, _++_}
+use Prim.Native.Nat.{ℕ, _+_, _-_, _≤_, _<_, _^_}
 use native.Mathlib.Omega.{arith}
 use lib.ListN.{length, take, drop, length-append}
-use lib.Seq.{slice, length-slice, take-at, drop-at, drop-drop}
+use lib.Seq.{slice, length-slice, take-at, drop-at}
 use Rattle.rules.specs.Bytes.{value}
 use Rattle.rules.specs.Layout.{Run, end, skip, known, size, header, bytes}
 use Rattle.rules.proofs.Bytes.{value-le}

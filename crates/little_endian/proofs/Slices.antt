@@ -1,11 +1,10 @@
 -- Parts of a list, and the numbers in them: what code that reads s[at] with at < end is proved against.
-use mathlib.Core.Path.{_≡_, refl, sym, ap, _∙_}
+use mathlib.Core.Path.{_≡_, sym, ap, _∙_}
 use mathlib.Core.List.{List, [], _∷_}
 use Prim.Native.Nat.{ℕ, zero, suc, _+_, _-_, _≤_}
 use native.Mathlib.Nat.{zero-add, suc-add}
-use native.Mathlib.Omega.{arith}
-use lib.ListN.{length, take, drop}
-use lib.Seq.{slice, drop-drop, take-take, take-nil, length-slice}
+use lib.ListN.{take, drop}
+use lib.Seq.{slice, drop-drop, take-take, take-nil}
 use Rattle.rules.specs.Bytes.{value}
 use Rattle.little_endian.specs.Numbers.{wordAt, longAt}
 

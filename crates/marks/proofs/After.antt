@@ -1,9 +1,9 @@
 -- The marks after a run: which slots were seen, and where the one chunk of a slot stands.
-use mathlib.Core.Path.{_≡_, refl, sym, ap, _∙_, subst}
+use mathlib.Core.Path.{_≡_, refl, sym, _∙_}
 use mathlib.Core.Logic.{_↔_}
-use mathlib.Core.Bool.{Bool, true, false, _||_, cond, false≢true}
+use mathlib.Core.Bool.{Bool, true, false, _||_, cond}
 use mathlib.Core.List.{List, [], _∷_}
-use Prim.Native.Nat.{ℕ, suc, _+_, _<_, _≤_}
+use Prim.Native.Nat.{ℕ, _+_, _<_, _≤_}
 use native.Mathlib.Omega.{arith}
 use lib.Dec.{eqb}
 use lib.ListN.{length, getD, set, length-set}
@@ -11,7 +11,7 @@ use lib.Seq.{getD-set-same, getD-set-other}
 use borrow.Author.Tests.{eqb-true, eqb-false, eq-eqb, ne-eqb}
 use Rattle.rules.specs.Table.{under, among}
 use Rattle.rules.specs.Layout.{Run, end, skip, known, size, identifiers, offsetOf}
-use Rattle.rules.specs.Rules.{Parent, inside, Obeys}
+use Rattle.rules.specs.Rules.{Parent, Obeys}
 use Rattle.table.specs.Packed.{slotOf}
 use Rattle.marks.specs.Marks.{tallySlot, Under, marksAfter}
 

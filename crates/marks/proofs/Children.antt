@@ -1,20 +1,20 @@
 -- A child of an identifier, by its offset in the file: where its own data stands there.
-use mathlib.Core.Path.{_≡_, refl, sym, ap, _∙_}
+use mathlib.Core.Path.{_≡_, refl, sym, ap}
 use mathlib.Core.Bool.{Bool, true, false, _||_, cond, true≢false, false≢true}
-use mathlib.Core.List.{List, [], _∷_}
+use mathlib.Core.List.{List, []}
 use Prim.Native.Nat.{ℕ, _+_, _≤_, _<_, _^_}
 use native.Mathlib.Omega.{arith}
 use lib.Dec.{eqb}
 use lib.ListN.{length}
 use lib.Seq.{slice}
-use borrow.Author.Tests.{eqb-true, eqb-false, eq-eqb, ne-eqb, ltb-true}
+use borrow.Author.Tests.{eqb-true, eqb-false, ne-eqb, ltb-true}
 use Rattle.rules.specs.Table.{among, shape}
 use Rattle.rules.specs.OwnData.{ownSize}
 use Rattle.rules.specs.Layout.{Run, end, skip, known, size, bytes, identifiers, child, offsetOf}
 use Rattle.rules.specs.Rules.{Parent, Obeys}
 use Rattle.rules.proofs.Bools.{and-parts}
 use Rattle.rules.proofs.Rows.{under-listed, listed-small}
-use Rattle.little_endian.proofs.Layouts.{Stands, skip-stands, skip-rest, known-stands, known-own, known-rest}
+use Rattle.little_endian.proofs.Layouts.{Stands, skip-rest, known-stands, known-own, known-rest}
 
 -- the first child x of the run t of p, which stands in s from o to stop
 pub record Found (p : Parent) (x : ℕ) (t : Run) (s : List ℕ) (o stop : ℕ) : Type 0 where

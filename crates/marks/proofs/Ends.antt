@@ -1,21 +1,21 @@
 -- The conditions at a chunk's end, read off the marks that its children left.
 use mathlib.Core.Path.{_≡_, refl, sym, ap, _∙_, subst}
-use mathlib.Core.Logic.{_⊎_, inl, inr, _↔_}
+use mathlib.Core.Logic.{inl, inr, _↔_}
 use mathlib.Core.Bool.{Bool, true, false, not, _&&_, _||_, cond, true≢false, false≢true}
 use mathlib.Core.List.{List, [], _∷_}
 use mathlib.Core.Option.{Option, none, some}
 use Prim.Native.Nat.{ℕ, _+_, _*_, _-_, _≤_, _<_, _^_}
 use native.Mathlib.Omega.{arith}
-use lib.Dec.{eqb, leb, ltb}
-use lib.ListN.{length, take, drop, getD, getD-replicate}
+use lib.Dec.{eqb, leb}
+use lib.ListN.{length, drop, getD, getD-replicate}
 use lib.Seq.{slice, length-slice}
-use borrow.Author.Tests.{eqb-true, eqb-false, eq-eqb, ne-eqb, le-leb, lt-leb, leb-true}
+use borrow.Author.Tests.{eqb-true, eqb-false, ne-eqb, le-leb, lt-leb, leb-true}
 use Rattle.rules.specs.declared.Refusal.{Refusal}
-use Rattle.rules.specs.Bytes.{value, every}
+use Rattle.rules.specs.Bytes.{every}
 use Rattle.rules.specs.Table.{listed, among, limits, needs, atMostOne, atLeastOne, rows, Shape, shape, counted}
 use Rattle.rules.specs.OwnData.{count, corners, faceCorners, ownSize}
 use Rattle.rules.specs.Layout.{Run, size, bytes, identifiers, child, offsetOf}
-use Rattle.rules.specs.Rules.{Parent, inside, tally, few, allBelow, noneMissing, cornersBelow, mappingMatches, Obeys}
+use Rattle.rules.specs.Rules.{Parent, inside, tally, few, allBelow, noneMissing}
 use Rattle.rules.specs.Walk.{Condition, must, broken, endConditions, meshConditions}
 use Rattle.rules.proofs.Bools.{and-parts}
 use Rattle.rules.proofs.Conditions.{broken-here, broken-later, unbroken}
@@ -24,9 +24,9 @@ use Rattle.little_endian.specs.Numbers.{wordAt}
 use Rattle.little_endian.proofs.Slices.{word-slice, drop-slice}
 use Rattle.scan.proofs.Parts.{corners-slice}
 use Rattle.table.specs.Packed.{places, slotOf, rowOf}
-use Rattle.table.proofs.Facts.{SlotTest, groupSlot, same, same-is}
+use Rattle.table.proofs.Facts.{SlotTest, same, same-is}
 use Rattle.marks.specs.declared.Shut.{Shut}
-use Rattle.marks.specs.Marks.{tallySlot, Under, marksAfter, noMarks, Kept, ShutIs, Placed, countAt, cornersAt, pairsAt, MeshPlaced, meshBroken}
+use Rattle.marks.specs.Marks.{tallySlot, noMarks, Kept, ShutIs, Placed, countAt, cornersAt, pairsAt, MeshPlaced, meshBroken}
 use Rattle.marks.proofs.Slots.{allSlot, tally-slot, groups-slotted}
 use Rattle.marks.proofs.After.{under-of, marks-zero, Alone, marks-place}
 use Rattle.marks.proofs.Children.{Found, child-none, child-found}

@@ -1,9 +1,9 @@
 -- The conditions of own data, in their order: the first that is broken, or none.
 use mathlib.Core.Path.{_≡_, refl, sym, ap, _∙_, subst}
 use mathlib.Core.Bool.{Bool, true, false, not, _||_}
-use mathlib.Core.List.{List, [], _∷_, _++_}
+use mathlib.Core.List.{List, []}
 use mathlib.Core.Option.{Option, none, some}
-use Prim.Native.Nat.{ℕ, _+_, _-_, _*_, _≤_, _<_}
+use Prim.Native.Nat.{ℕ, _+_, _-_, _≤_, _<_}
 use native.Mathlib.Omega.{arith}
 use lib.Dec.{leb}
 use lib.ListN.{length, take, drop, take-append-drop}
@@ -14,13 +14,13 @@ use Rattle.rules.specs.declared.Refusal.the-variants.{Name, Length, Number, Ind
 use Rattle.rules.specs.Bytes.{le, value}
 use Rattle.rules.specs.Table.{Shape, counted, named-words, rows, listed, shape, plus}
 use Rattle.rules.specs.Layout.{end}
-use Rattle.rules.specs.OwnData.{nameSize, count, ownSize, hasName}
+use Rattle.rules.specs.OwnData.{count, ownSize, hasName}
 use Rattle.rules.specs.Rules.{Parent, numbersFinite, faceNumbersBelow}
 use Rattle.rules.specs.Walk.{broken, ownConditions}
 use Rattle.rules.proofs.Bytes.{value-le}
 use Rattle.rules.proofs.Conditions.{broken-here, broken-later, unbroken}
 use Rattle.rules.proofs.OwnSize.{own-size-less}
-use Rattle.little_endian.proofs.Slices.{take-slice, drop-slice}
+use Rattle.little_endian.proofs.Slices.{take-slice}
 use Rattle.table.specs.Packed.{rowOf, plusIn, plainIn, sizeIn, shapeIn}
 use Rattle.table.proofs.Facts.{plus-is, shape-is, Plain, plain-is}
 use Rattle.own_data.specs.declared.Own.{Own}

@@ -1,14 +1,13 @@
 -- Own data of each shape in a part of a file: what its size is, from the numbers that the code reads there.
-use mathlib.Core.Path.{_≡_, refl, sym, ap, _∙_, subst}
+use mathlib.Core.Path.{_≡_, refl, sym, ap, _∙_}
 use mathlib.Core.Bool.{true, false}
 use mathlib.Core.List.{List, []}
 use Prim.Native.Nat.{ℕ, zero, suc, _+_, _-_, _*_, _≤_, _<_}
 use native.Mathlib.Nat.{mul-le-mul}
 use native.Mathlib.Omega.{arith}
-use lib.ListN.{length, take, drop, getD}
+use lib.ListN.{length, drop, getD}
 use lib.Seq.{slice, slice-cons, slice-empty, length-slice}
 use borrow.Author.Tests.{le-leb, lt-leb}
-use Rattle.rules.specs.Bytes.{value}
 use Rattle.rules.specs.Table.{Shape, fixed, name, counted, each, named-words}
 use Rattle.rules.specs.OwnData.{nameSize, count, ownSize, hasName}
 use Rattle.little_endian.specs.Numbers.{wordAt}

@@ -1,11 +1,11 @@
 -- A chunk by what stands at its start: a fault, an unlisted chunk, a leaf; and one with children, when they have been read.
 use mathlib.Core.Path.{_≡_, refl, sym, ap, _∙_, subst}
 use mathlib.Core.Bool.{Bool, true, false, not, cond, true≢false}
-use mathlib.Core.List.{List, [], _∷_}
+use mathlib.Core.List.{List, []}
 use mathlib.Core.Option.{Option, none, some}
-use Prim.Native.Nat.{ℕ, suc, _+_, _-_, _*_, _≤_, _<_, _^_}
+use Prim.Native.Nat.{ℕ, suc, _+_, _-_, _≤_}
 use native.Mathlib.Omega.{arith}
-use lib.Dec.{eqb, leb}
+use lib.Dec.{leb}
 use lib.ListN.{length, set}
 use lib.Seq.{slice}
 use Rattle.rules.specs.declared.Refusal.{Refusal}
@@ -15,23 +15,22 @@ use Rattle.rules.specs.OwnData.{count}
 use Rattle.rules.specs.Layout.{Run, end}
 use Rattle.rules.specs.Rules.{Parent, inside, few, tally}
 use Rattle.rules.specs.Gives.{recordCount, skipped}
-use Rattle.rules.specs.Walk.{Step, stop, pass, enter, broken, endConditions, Answer, refused, accepted, unless, ended, step, walk}
+use Rattle.rules.specs.Walk.{Step, stop, pass, enter, broken, endConditions, Answer, refused, accepted, unless, ended, walk}
 use Rattle.rules.proofs.Bools.{every-weaker}
 use Rattle.rules.proofs.Conditions.{unbroken}
 use Rattle.rules.proofs.Once.{few-nil}
 use Rattle.rules.proofs.Rows.{under-listed}
-use Rattle.rules.proofs.Sound.{Tells, Sound, run-tells}
-use Rattle.rules.proofs.Steps.{Says, Entered, step-says}
+use Rattle.rules.proofs.Sound.{Tells, run-tells}
+use Rattle.rules.proofs.Steps.{Says}
 use Rattle.rules.proofs.Fuel.{walk-nil}
 use Rattle.table.specs.Packed.{rowOf, slotOf}
 use Rattle.table.proofs.Facts.{leaf-is}
 use Rattle.marks.specs.declared.Shut.{Shut}
-use Rattle.marks.specs.Marks.{marksAfter, noMarks, Kept, ShutIs, MeshPlaced}
-use Rattle.marks.proofs.Ends.{mesh-placed, kept-small}
+use Rattle.marks.specs.Marks.{noMarks, Kept, ShutIs}
 use Rattle.reader.specs.declared.Head.{Head}
 use Rattle.reader.specs.declared.Ran.{Ran}
 use Rattle.reader.specs.States.{HeadIs, MarksAre, ClosedIs, ChunkIs, RunIs}
-use Rattle.reader.proofs.Parts.{bytes-slice, PartsAt, EnteredAt}
+use Rattle.reader.proofs.Parts.{bytes-slice}
 
 -- nothing is two things at once
 pub clash : _≡_ {A = ℕ} 0 1 → ⊥

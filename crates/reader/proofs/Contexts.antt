@@ -1,5 +1,5 @@
 -- Where the code stands: what its row, count word and marks say of the walk, one child on and one chunk deeper.
-use mathlib.Core.Path.{_≡_, refl, sym, ap, _∙_, subst}
+use mathlib.Core.Path.{_≡_, refl, sym, ap, _∙_}
 use mathlib.Core.Logic.{_↔_}
 use mathlib.Core.Bool.{Bool, true, false, cond}
 use mathlib.Core.List.{List, [], _∷_}
@@ -11,12 +11,12 @@ use lib.Seq.{slice, length-slice, getD-set-same, getD-set-other}
 use borrow.Author.Tests.{eqb-true, eqb-false}
 use Rattle.rules.specs.Table.{listed, under}
 use Rattle.rules.specs.Rules.{Parent, inside, few}
-use Rattle.rules.specs.Walk.{Step, pass}
+use Rattle.rules.specs.Walk.{pass}
 use Rattle.rules.proofs.Once.{few-nil}
 use Rattle.table.specs.Packed.{rowOf, slotIn, slotOf, mayHoldIn}
 use Rattle.table.proofs.Facts.{may-hold-is, slot-small}
 use Rattle.own_data.specs.Own.{CountIs}
-use Rattle.marks.specs.Marks.{tallySlot, Under, free, noMarks}
+use Rattle.marks.specs.Marks.{tallySlot, free, noMarks}
 use Rattle.marks.proofs.Slots.{free-is}
 use Rattle.reader.specs.declared.Head.{Head}
 use Rattle.reader.specs.States.{Context, HeadIs}

@@ -1,8 +1,7 @@
 -- A chunk with children, from what was found at its start to what it comes to at its end.
-use mathlib.Core.Path.{_≡_, refl, sym, ap, _∙_, subst}
-use mathlib.Core.List.{List, [], _∷_}
+use mathlib.Core.Path.{_≡_, sym, ap, _∙_, subst}
+use mathlib.Core.List.{List, []}
 use Prim.Native.Nat.{ℕ, _+_, _≤_, _<_, _^_}
-use native.Mathlib.Omega.{arith}
 use lib.ListN.{length, set}
 use lib.Seq.{slice}
 use Rattle.rules.specs.declared.Refusal.{Refusal}
@@ -10,11 +9,10 @@ use Rattle.rules.specs.Bytes.{Bytes}
 use Rattle.rules.specs.Table.{listed}
 use Rattle.rules.specs.Layout.{Run}
 use Rattle.rules.specs.Rules.{Parent, inside}
-use Rattle.rules.specs.Walk.{Step, enter, broken, endConditions, Answer, refused, accepted, step, walk}
+use Rattle.rules.specs.Walk.{Step, enter, broken, endConditions, refused, accepted, step, walk}
 use Rattle.rules.proofs.Rows.{under-listed}
 use Rattle.rules.proofs.Steps.{Says, Entered, step-says}
-use Rattle.table.specs.Packed.{rowOf, slotOf}
-use Rattle.own_data.specs.Own.{CountIs}
+use Rattle.table.specs.Packed.{slotOf}
 use Rattle.marks.specs.declared.Shut.{Shut}
 use Rattle.marks.specs.Marks.{noMarks, Kept, ShutIs, MeshPlaced}
 use Rattle.marks.proofs.Ends.{mesh-placed, kept-small}

@@ -1,9 +1,9 @@
 -- The whole file: its own conditions, and the answer once the children of 4D4D are read.
 use mathlib.Core.Path.{_≡_, refl, sym, ap, _∙_, subst}
-use mathlib.Core.Bool.{Bool, true, false}
-use mathlib.Core.List.{List, [], _∷_}
+use mathlib.Core.Bool.{true}
+use mathlib.Core.List.{List, []}
 use mathlib.Core.Option.{Option, none, some}
-use Prim.Native.Nat.{ℕ, suc, _+_, _-_, _*_, _≤_, _<_, _^_}
+use Prim.Native.Nat.{ℕ, _+_, _-_, _*_, _≤_, _<_}
 use native.Mathlib.Omega.{arith}
 use lib.Dec.{eqb, leb}
 use lib.ListN.{length, take, drop, length-drop}
@@ -15,7 +15,7 @@ use Rattle.rules.specs.declared.Counts.{Counts}
 use Rattle.rules.specs.declared.Checked.{Checked}
 use Rattle.rules.specs.Bytes.{Bytes, value}
 use Rattle.rules.specs.Table.{rows, listed, limits, atMostOne}
-use Rattle.rules.specs.Layout.{Run, end, skip, known, figure, size}
+use Rattle.rules.specs.Layout.{Run, end, skip, known, figure}
 use Rattle.rules.specs.Rules.{Parent, file, inside, limit}
 use Rattle.rules.specs.Gives.{recordCount, headers, owned, skipped}
 use Rattle.rules.specs.Walk.{broken, fileConditions, endConditions, lengthField, Answer, refused, accepted, unless, ended, walk, verdict}
@@ -25,9 +25,8 @@ use Rattle.rules.proofs.Sound.{length-bytes}
 use Rattle.rules.proofs.Demands.{counted-once}
 use Rattle.little_endian.specs.Numbers.{wordAt, longAt}
 use Rattle.table.specs.Packed.{places, rowOf}
-use Rattle.own_data.specs.Own.{CountIs}
 use Rattle.marks.specs.declared.Shut.{Shut}
-use Rattle.marks.specs.Marks.{noMarks, Kept, ShutIs, MeshPlaced}
+use Rattle.marks.specs.Marks.{noMarks, Kept, ShutIs}
 use Rattle.reader.specs.declared.Ran.{Ran}
 use Rattle.reader.specs.States.{Context, RunIs, CountsAre, figureAnswer}
 use Rattle.reader.proofs.Contexts.{context-inside}

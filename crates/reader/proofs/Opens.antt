@@ -1,9 +1,9 @@
 -- The step of the walk at a position of the file: its header, its parts, and each fault that it may meet.
 use mathlib.Core.Path.{_≡_, refl, sym, ap, _∙_, subst}
-use mathlib.Core.Bool.{Bool, true, false, not, cond, true≢false}
-use mathlib.Core.List.{List, [], _∷_}
-use mathlib.Core.Option.{Option, none, some, Option·some-ne-none}
-use Prim.Native.Nat.{ℕ, _+_, _-_, _*_, _≤_, _<_, _^_}
+use mathlib.Core.Bool.{Bool, true, false, not, cond}
+use mathlib.Core.List.{List, _∷_}
+use mathlib.Core.Option.{Option, none, some}
+use Prim.Native.Nat.{ℕ, _+_, _-_, _≤_, _<_}
 use native.Mathlib.Omega.{arith}
 use lib.Dec.{eqb, leb}
 use lib.ListN.{length, take, drop, set, length-set}
@@ -13,14 +13,14 @@ use Rattle.rules.specs.declared.Refusal.{Refusal}
 use Rattle.rules.specs.declared.Refusal.the-variants.{Stray, Short, Overrun, Misplaced, Twice}
 use Rattle.rules.specs.Bytes.{le, value}
 use Rattle.rules.specs.Table.{listed, under, shape, plus}
-use Rattle.rules.specs.OwnData.{count, ownSize}
+use Rattle.rules.specs.OwnData.{ownSize}
 use Rattle.rules.specs.Rules.{Parent, few}
-use Rattle.rules.specs.Walk.{Step, stop, pass, enter, broken, headerConditions, ownConditions, childConditions, opened, sorted, lengthField, step}
+use Rattle.rules.specs.Walk.{stop, pass, enter, broken, headerConditions, ownConditions, opened, sorted, lengthField, step}
 use Rattle.rules.proofs.Conditions.{met, unbroken, broken-here, broken-later}
 use Rattle.little_endian.specs.Numbers.{wordAt, longAt}
 use Rattle.little_endian.proofs.Slices.{drop-slice, take-slice, word-slice, long-slice}
 use Rattle.table.specs.Packed.{rowOf, slotOf}
-use Rattle.table.proofs.Facts.{row-of-listed, row-of-unlisted, plus-is}
+use Rattle.table.proofs.Facts.{row-of-listed, row-of-unlisted}
 use Rattle.own_data.specs.declared.Judged.{Judged}
 use Rattle.own_data.specs.Own.{CountIs, JudgedIs, Judges}
 use Rattle.own_data.proofs.Conditions.{some-around}

@@ -1,6 +1,6 @@
 -- The parts of a step are parts of the file.
 use mathlib.Core.Path.{_≡_, refl, sym, ap, _∙_}
-use mathlib.Core.List.{List, [], _∷_, _++_}
+use mathlib.Core.List.{List, _++_}
 use Prim.Native.Nat.{ℕ, suc, _+_, _-_, _≤_, _<_}
 use native.Mathlib.Omega.{arith}
 use lib.ListN.{length, take, drop, getD, length-append}
@@ -8,7 +8,7 @@ use lib.Seq.{slice, slice-cons, length-slice, take-at, drop-at}
 use Rattle.rules.specs.Bytes.{Bytes}
 use Rattle.rules.specs.Layout.{header}
 use Rattle.rules.specs.Rules.{Parent}
-use Rattle.rules.specs.Walk.{Step, stop, pass, enter, step, taken, walk, Answer}
+use Rattle.rules.specs.Walk.{Step, stop, pass, enter, step, taken, walk}
 use Rattle.rules.proofs.Bytes.{bytes-drop, bytes-take}
 use Rattle.rules.proofs.Steps.{Says, Passed, Entered, step-says}
 use Rattle.rules.proofs.Fuel.{walk-cons}

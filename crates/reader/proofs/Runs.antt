@@ -1,13 +1,11 @@
 -- A run, one chunk after the other: what the rest of the run comes to is what the whole comes to.
 use mathlib.Core.Path.{_≡_, refl, sym, ap, _∙_, subst}
-use mathlib.Core.Bool.{Bool, true}
 use mathlib.Core.List.{List, [], _∷_}
-use Prim.Native.Nat.{ℕ, suc, _+_, _-_, _≤_, _<_}
+use Prim.Native.Nat.{ℕ, suc, _+_, _-_, _≤_}
 use native.Mathlib.Omega.{arith}
 use lib.ListN.{length, take, set, drop-of-length-le, length-take}
 use lib.Seq.{slice}
 use Rattle.rules.specs.declared.Refusal.{Refusal}
-use Rattle.rules.specs.Bytes.{Bytes}
 use Rattle.rules.specs.Layout.{Run, size, bytes}
 use Rattle.rules.specs.Rules.{Parent, inside}
 use Rattle.rules.specs.Gives.{recordCount, skipped}
@@ -15,13 +13,13 @@ use Rattle.rules.specs.Walk.{Step, stop, pass, enter, Answer, refused, accepted
 use Rattle.rules.proofs.Once.{few-nil}
 use Rattle.rules.proofs.Rows.{under-listed}
 use Rattle.rules.proofs.Sound.{length-bytes, Closes, ended-closes}
-use Rattle.rules.proofs.Steps.{Says, Passed, Entered}
+use Rattle.rules.proofs.Steps.{Says}
 use Rattle.rules.proofs.Fuel.{walk-nil}
 use Rattle.table.specs.Packed.{rowOf, slotOf}
 use Rattle.reader.specs.declared.Ran.{Ran}
 use Rattle.reader.specs.States.{Context, ClosedIs, ChunkIs, RunIs}
 use Rattle.reader.proofs.Contexts.{context-next}
-use Rattle.reader.proofs.Parts.{PartsAt, PassedAt, EnteredAt}
+use Rattle.reader.proofs.Parts.{PartsAt}
 use Rattle.reader.proofs.Chunks.{clash, walk-tells}
 
 module _ (end records skips at : ℕ) (ms : List ℕ) (r : Ran) (ms′ : List ℕ) where

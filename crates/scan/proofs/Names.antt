@@ -6,7 +6,7 @@ use native.Mathlib.Numerals.{add-one}
 use native.Mathlib.Omega.{arith}
 use mathlib.Core.List.{List}
 use lib.ListN.{length, getD, drop-of-length-le, length-take, take}
-use lib.Seq.{slice, slice-cons, length-slice}
+use lib.Seq.{slice, slice-cons}
 use borrow.Author.Tests.{eq-eqb, ne-eqb}
 use Rattle.rules.specs.OwnData.{nameSize}
 use Rattle.scan.specs.Names.{NoZero}

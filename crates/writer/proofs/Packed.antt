@@ -1,14 +1,13 @@
 -- The words of faces: how many they are, and one face more at the end.
 use mathlib.Core.Path.{_≡_, refl, ap, _∙_}
-use Prim.Native.Nat.{ℕ, zero, suc, _+_, _*_, _<_, _≤_}
-use native.Mathlib.Nat.{mul-zero, mul-suc}
+use Prim.Native.Nat.{ℕ, zero, suc, _+_, _*_, _≤_}
 use native.Mathlib.Numerals.{add-one}
 use native.Mathlib.Omega.{arith}
-use mathlib.Core.List.{List, [], _∷_, _++_, append-assoc, append-nil}
+use mathlib.Core.List.{List, [], _∷_, _++_, append-assoc}
 use lib.ListN.{length, take, drop, getD, length-append, length-drop}
-use lib.Seq.{take-suc, drop-cons, drop-drop, length-take-le}
+use lib.Seq.{drop-cons, drop-drop, length-take-le}
 use Rattle.rules.specs.Bytes.{le, packed}
-use Rattle.rules.proofs.Bytes.{length-packed, packed-append}
+use Rattle.rules.proofs.Bytes.{packed-append}
 use Rattle.writer.specs.Bare.{faceWords}
 
 pub length-face-words : (f : ℕ) (corners : List ℕ) → 3 * f ≤ length corners → length (faceWords f corners) ≡ 4 * f

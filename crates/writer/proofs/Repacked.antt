@@ -1,7 +1,7 @@
 -- Own data that was read, written again: the numbers that the reader takes from it make the same bytes.
 use mathlib.Core.Path.{_≡_, refl, sym, ap, _∙_}
 use Prim.Native.Nat.{ℕ, zero, suc, _+_, _*_, _^_, _<_, _≤_}
-use native.Mathlib.Nat.{mul-zero, mul-suc, pow-succ'}
+use native.Mathlib.Nat.{mul-suc, pow-succ'}
 use native.Mathlib.Omega.{arith}
 use mathlib.Core.Bool.{Bool, true, false, not, cond}
 use mathlib.Core.List.{List, [], _∷_, _++_}
@@ -13,7 +13,7 @@ use Rattle.rules.specs.Bytes.{value, le, numbers, every, Bytes, packed}
 use Rattle.rules.specs.OwnData.{nameSize, corners}
 use Rattle.rules.specs.Rules.{allBelow}
 use Rattle.rules.proofs.Bools.{both, and-parts}
-use Rattle.rules.proofs.Bytes.{bytes-drop, bytes-take, le-value}
+use Rattle.rules.proofs.Bytes.{bytes-drop, bytes-take}
 use Rattle.rules.proofs.Numbers.{front}
 use Rattle.writer.specs.Bare.{nameData, faceWords}
 use Rattle.writer.specs.Write.{notZero}

@@ -1,7 +1,6 @@
 -- List of a chunk and list of a run meet their contracts together. The bytes left, twice, and one more for a run, fall at
 -- each call. A chunk is skipped, or it is a record and its children (Chunks); a run goes on from chunk to chunk (Loop).
 use mathlib.Core.Path.{_≡_, refl, _∙_}
-use mathlib.Core.List.{List}
 use Prim.Native.Nat.{ℕ, _+_, _-_, _*_, _≤_, _<_}
 use native.Mathlib.Omega.{arith}
 use lib.ListN.{length}

@@ -1,5 +1,5 @@
 -- Each of the three cases of the input.
-use mathlib.Core.Path.{_≡_, sym, subst}
+use mathlib.Core.Path.{sym, subst}
 use mathlib.Core.List.{List}
 use Prim.Native.Nat.{ℕ, _≤_}
 use native.Mathlib.Omega.{arith}
@@ -7,7 +7,7 @@ use lib.ListN.{length}
 use lib.Seq.{length-take-le}
 use Rattle.io.specs.Counts.{Counts}
 use Rattle.little_endian.proofs.Put.{put-none}
-use Rattle.listing_text.specs.Listing.{printed, Within}
+use Rattle.listing_text.specs.Listing.{Within}
 use borrow.Author.Needs.{needs}
 use Rattle.listing_text.proofs.answer.Statement.{statement}
 use Rattle.listing_text.proofs.answer.Tie as tie

@@ -1,6 +1,5 @@
 -- What is missing, then a mesh.
-use mathlib.Core.Path.{_≡_, refl, sym, ap, _∙_, subst}
-use native.Mathlib.Omega.{arith}
+use mathlib.Core.Path.{sym, _∙_}
 use borrow.Author.Needs.{needs}
 use mathlib.Core.Bool.{not}
 use Prim.Native.Nat.{_+_}

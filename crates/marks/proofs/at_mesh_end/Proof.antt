@@ -1,16 +1,14 @@
 -- The corners, then the pairs.
-use mathlib.Core.Path.{_≡_, refl, sym, ap, _∙_, subst}
+use mathlib.Core.Path.{refl, sym, ap, _∙_, subst}
 use native.Mathlib.Omega.{arith}
 use borrow.Author.Needs.{needs}
-use mathlib.Core.Option.{Option, none, some}
-use mathlib.Core.List.{[], _∷_}
+use mathlib.Core.Option.{Option}
 use Prim.Native.Nat.{ℕ}
 use borrow.Author.Tests.{not-true, not-false}
 use Rattle.rules.specs.declared.Refusal.{Refusal}
-use Rattle.rules.specs.Walk.{must}
 use Rattle.rules.proofs.Conditions.{broken-here, broken-later, unbroken}
 use Rattle.marks.specs.declared.Shut.{Shut}
-use Rattle.marks.specs.Marks.{ShutIs, cornersAt, pairsAt, countAt}
+use Rattle.marks.specs.Marks.{ShutIs, cornersAt, pairsAt}
 use lib.ListN.{getD}
 use borrow.Author.Needs.{needs}
 use Rattle.marks.proofs.at_mesh_end.Statement.{statement}

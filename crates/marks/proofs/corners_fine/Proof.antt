@@ -1,12 +1,8 @@
 -- No chunk, or the corners behind its count word.
-use mathlib.Core.Path.{_≡_, refl, sym, ap, _∙_, subst}
 use native.Mathlib.Omega.{arith}
 use borrow.Author.Needs.{needs}
-use mathlib.Core.Logic.{⊎-elim}
-use Prim.Native.Nat.{_+_, _*_, _≤_}
-use lib.ListN.{length}
 use borrow.Author.Tests.{eq-eqb, ne-eqb}
-use Rattle.marks.specs.Marks.{countAt, cornersAt}
+use Rattle.marks.specs.Marks.{cornersAt}
 use Rattle.marks.proofs.Places.{faces-there}
 use borrow.Author.Needs.{needs}
 use Rattle.marks.proofs.corners_fine.Statement.{statement}

@@ -1,6 +1,5 @@
 -- A mark is empty just where no chunk of its slot came.
-use mathlib.Core.Path.{_≡_, refl, sym, ap, _∙_, subst}
-use native.Mathlib.Omega.{arith}
+use mathlib.Core.Path.{sym, ap}
 use borrow.Author.Needs.{needs}
 use mathlib.Core.Bool.{not}
 use Rattle.marks.proofs.Ends.{figure-needs, material-needs, other-needs}

@@ -1,10 +1,9 @@
 -- The slot is none's, taken, or free.
-use mathlib.Core.Path.{_≡_, refl, sym, ap, _∙_, subst}
+use mathlib.Core.Path.{refl, sym}
 use native.Mathlib.Omega.{arith}
 use borrow.Author.Needs.{needs}
-use mathlib.Core.Bool.{cond, not}
-use Prim.Native.Nat.{ℕ}
-use lib.ListN.{getD, set, length}
+use mathlib.Core.Bool.{not}
+use lib.ListN.{set, length}
 use lib.Seq.{set-out}
 use borrow.Author.Tests.{le-leb, lt-leb, ne-eqb, eq-eqb}
 use Rattle.marks.specs.Marks.{free}

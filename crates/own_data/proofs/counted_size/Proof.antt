@@ -1,5 +1,4 @@
 -- A count word that is not there, or the size that it gives.
-use mathlib.Core.Path.{_≡_, refl, sym, ap, _∙_, subst}
 use native.Mathlib.Omega.{arith}
 use borrow.Author.Needs.{needs}
 use Rattle.own_data.proofs.Sizes.{product-small, counted-is, counted-short}

@@ -1,19 +1,15 @@
 -- Each test of the code answers one condition.
-use mathlib.Core.Path.{_≡_, refl, sym, ap, _∙_, subst}
+use mathlib.Core.Path.{sym, ap, _∙_}
 use native.Mathlib.Omega.{arith}
 use borrow.Author.Needs.{needs}
-use mathlib.Core.List.{List}
 use mathlib.Core.Bool.{not}
-use Prim.Native.Nat.{ℕ, _+_}
+use Prim.Native.Nat.{_+_}
 use lib.Seq.{slice}
 use borrow.Author.Tests.{not-true, not-false}
 use Rattle.rules.specs.Bytes.{le}
-use Rattle.rules.specs.Table.{shape}
 use Rattle.rules.specs.Layout.{end}
 use Rattle.rules.specs.Rules.{numbersFinite, faceNumbersBelow}
-use Rattle.table.specs.Packed.{shapeIn}
 use Rattle.own_data.specs.declared.Own.{Own}
-use Rattle.own_data.specs.Own.{OwnIs, CountIs}
 use Rattle.own_data.proofs.Conditions.{some-around, judge-no-name, judge-too-long, judge-left-over, judge-number, judge-index, judge-fine, own-of-row, own-ends, own-is, exact, left-over-is}
 use borrow.Author.Needs.{needs}
 use Rattle.own_data.proofs.judge_any.Statement.{statement}

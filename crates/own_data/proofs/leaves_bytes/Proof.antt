@@ -1,8 +1,5 @@
 -- A row with children, or a test of what is left.
-use mathlib.Core.Path.{_≡_, refl, sym, ap, _∙_, subst}
-use native.Mathlib.Omega.{arith}
 use borrow.Author.Needs.{needs}
-use borrow.Author.Tests.{lt-leb, le-leb}
 use Rattle.own_data.proofs.Tests.{lt-is}
 use borrow.Author.Needs.{needs}
 use Rattle.own_data.proofs.leaves_bytes.Statement.{statement}

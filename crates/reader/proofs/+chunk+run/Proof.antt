@@ -1,7 +1,7 @@
 -- Chunk and run meet their contracts together. The bytes left, twice, and one more for a run, fall at each call. A chunk
 -- follows what was found at its start (Chunks, Entering); a run goes on from chunk to chunk (Runs, Loop).
-use mathlib.Core.Path.{_≡_, refl, sym, ap, _∙_, subst}
-use mathlib.Core.List.{List, [], _∷_}
+use mathlib.Core.Path.{refl, sym, subst}
+use mathlib.Core.List.{[]}
 use Prim.Native.Nat.{_+_, _-_, _*_, _≤_}
 use native.Mathlib.Omega.{arith}
 use borrow.Author.Needs.{needs}

@@ -1,6 +1,5 @@
 -- A fault of the file itself, or what its chunks come to.
-use mathlib.Core.Path.{_≡_, refl, sym, ap, _∙_, subst}
-use native.Mathlib.Omega.{arith}
+use mathlib.Core.Path.{_∙_}
 use borrow.Author.Needs.{needs}
 use Rattle.reader.proofs.Files.{file-refused, file-is-fine, file-read, file-bounds}
 use borrow.Author.Needs.{needs}

@@ -1,5 +1,5 @@
 -- The children of 4D4D were refused, or 4D4D is judged at its end.
-use mathlib.Core.Path.{_≡_, refl, sym, ap, _∙_, subst}
+use mathlib.Core.Path.{refl, subst}
 use native.Mathlib.Omega.{arith}
 use borrow.Author.Needs.{needs}
 use mathlib.Core.List.{[]}
@@ -7,10 +7,8 @@ use lib.ListN.{length}
 use lib.Seq.{slice}
 use Rattle.rules.proofs.Bytes.{bytes-all}
 use Rattle.rules.specs.Rules.{file, inside}
-use Rattle.rules.specs.Walk.{walk}
-use Rattle.marks.specs.Marks.{noMarks}
 use Rattle.reader.specs.declared.Ran.{Ran}
-use Rattle.reader.specs.States.{RunIs, RunWithin}
+use Rattle.reader.specs.States.{RunWithin}
 use Rattle.reader.proofs.Files.{figure-row, top-context, top-run, figure-refused, figure-shut, figure-accepted}
 use borrow.Author.Needs.{needs}
 use Rattle.reader.proofs.check_figure.Statement.{statement}

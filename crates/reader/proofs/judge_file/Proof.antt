@@ -1,5 +1,4 @@
 -- Each test answers one condition of the file.
-use mathlib.Core.Path.{_≡_, refl, sym, ap, _∙_, subst}
 use native.Mathlib.Omega.{arith}
 use borrow.Author.Needs.{needs}
 use Rattle.reader.proofs.Files.{file-too-long, file-too-short, file-no-figure, file-short, file-overrun, file-trailing, file-fine}

@@ -3,17 +3,16 @@ use mathlib.Core.Path.{_≡_, refl, sym, ap, _∙_, subst}
 use native.Mathlib.Omega.{arith}
 use borrow.Author.Needs.{needs}
 use mathlib.Core.Bool.{Bool, true, false, cond}
-use mathlib.Core.List.{List, _∷_}
 use Prim.Native.Nat.{ℕ, _+_}
-use lib.ListN.{length, set, length-set}
+use lib.ListN.{length, set}
 use lib.Seq.{slice}
 use borrow.Author.Tests.{not-true, not-false}
 use Rattle.rules.specs.declared.Refusal.{Refusal}
-use Rattle.rules.specs.Walk.{Step, stop}
+use Rattle.rules.specs.Walk.{Step}
 use Rattle.table.specs.Packed.{slotIn, slotOf}
 use Rattle.reader.specs.declared.Header.{Header}
 use Rattle.reader.specs.declared.Head.{Head}
-use Rattle.reader.specs.States.{HeaderWithin, HeadIs, HeadWithin, MarksAre, openedBy}
+use Rattle.reader.specs.States.{HeaderWithin, HeadIs, MarksAre, openedBy}
 use Rattle.reader.proofs.Opens.{step-fault, step-skip, step-misplaced, step-twice, step-opened, row-listed, row-unlisted, marks-opened, length-noted, within-more}
 use Rattle.reader.proofs.Contexts.{under-is, few-is, head-skip}
 use borrow.Author.Needs.{needs}

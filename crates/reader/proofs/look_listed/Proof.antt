@@ -1,13 +1,9 @@
 -- What own data is judged to be, and whether children follow.
-use mathlib.Core.Path.{_≡_, refl, sym, ap, _∙_, subst}
+use mathlib.Core.Path.{sym, ap, _∙_, subst}
 use native.Mathlib.Omega.{arith}
 use borrow.Author.Needs.{needs}
-use mathlib.Core.Bool.{true, false}
-use mathlib.Core.List.{List}
-use Prim.Native.Nat.{_+_, _≤_}
-use lib.ListN.{length}
+use Prim.Native.Nat.{_+_}
 use lib.Seq.{slice}
-use Rattle.rules.specs.Rules.{Parent}
 use Rattle.rules.specs.Walk.{Step}
 use Rattle.table.specs.Packed.{plusIn}
 use Rattle.table.proofs.Facts.{plus-is}

@@ -1,5 +1,4 @@
 -- Each test answers one condition of a header.
-use mathlib.Core.Path.{_≡_, refl, sym, ap, _∙_, subst}
 use native.Mathlib.Omega.{arith}
 use borrow.Author.Needs.{needs}
 use Rattle.reader.proofs.Opens.{header-stray, header-short, header-overrun, header-fine}

@@ -1,6 +1,5 @@
 -- The loop's invariant: the name goes on at least to i; a zero ends it there.
-use mathlib.Core.Path.{_≡_, refl, sym, ap, _∙_}
-use Prim.Native.Nat.{ℕ, _+_, _-_, _≤_, _<_}
+use Prim.Native.Nat.{_-_}
 use native.Mathlib.Omega.{arith}
 use Rattle.scan.specs.Names.{NameOn}
 use Rattle.scan.proofs.Names.{name-here, name-on, name-nowhere}

@@ -1,5 +1,5 @@
 -- There is no room, or the numbers are put.
-use mathlib.Core.Path.{sym, ap, _∙_}
+use mathlib.Core.Path.{_∙_}
 use Rattle.tds.proofs.Gives.{parts, no-room, has-room}
 use borrow.Author.Needs.{needs}
 use Rattle.tds.proofs.give_numbers.Statement.{statement}

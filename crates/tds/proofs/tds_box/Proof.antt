@@ -1,5 +1,5 @@
 -- A refusal, or the nine numbers, each of which has bits.
-use mathlib.Core.Path.{sym, ap, _∙_}
+use mathlib.Core.Path.{sym, _∙_}
 use Rattle.tds.proofs.Small.{box-bits}
 use Rattle.tds.proofs.Gives.{parts, box-given, box-refused}
 use borrow.Author.Needs.{needs}

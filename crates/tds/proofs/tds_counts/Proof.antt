@@ -1,5 +1,5 @@
 -- A refusal, or the three counts: they add to the length of a file within the limit, so each fits.
-use mathlib.Core.Path.{sym, ap, _∙_}
+use mathlib.Core.Path.{sym, _∙_}
 use native.Mathlib.Omega.{arith}
 use Rattle.rules.proofs.Bytes.{bytes-all}
 use Rattle.tds.proofs.Small.{counts-small}

@@ -1,5 +1,5 @@
 -- A refusal, or the two numbers of the name.
-use mathlib.Core.Path.{sym, ap, _∙_}
+use mathlib.Core.Path.{sym, _∙_}
 use native.Mathlib.Omega.{arith}
 use Rattle.tds.proofs.Small.{span-small}
 use Rattle.tds.proofs.Gives.{parts, name-given, name-refused}

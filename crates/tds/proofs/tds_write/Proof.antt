@@ -1,5 +1,5 @@
 -- The answer of the writer, as a number; the buffer is as it left it.
-use mathlib.Core.Path.{_≡_, sym, ap, _∙_}
+use mathlib.Core.Path.{sym, ap, _∙_}
 use Rattle.tds.specs.Codes.{sizeOr}
 use borrow.Author.Needs.{needs}
 use Rattle.tds.proofs.tds_write.Statement.{statement}
