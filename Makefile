@@ -4,6 +4,8 @@
 # make fuzz   both readers over COUNT files grown from SEED; make real FOLDER=…  over figures from elsewhere
 # make bench  the speed, against the second reader
 .DEFAULT_GOAL := run
+SHELL := /bin/bash
+.SHELLFLAGS := -o pipefail -c
 .PHONY: prove test rust-test differ fuzz real turned bench c-check asked clean
 
 prove:
@@ -12,9 +14,11 @@ prove:
 test:
 	bash tests/gate
 
-# rt knows what has changed, so it is always asked
+# rt knows what has changed, so it is always asked; it says much, of which the proofs are shown
 target/staticlib/libtds.a: asked
-	rt staticlib tds
+	@mkdir -p build
+	@echo 'The library is proved and compiled: a few minutes the first time, then seconds.'
+	@rt staticlib tds 2>&1 | tee build/library.log | grep --line-buffered '^rt: [a-z_]* proved' || { cat build/library.log; exit 1; }
 
 asked:
 
