@@ -18,8 +18,8 @@ use Rattle.rules.proofs.Bools.{and-parts, or-second}
 use Rattle.little_endian.specs.Numbers.{wordAt}
 use Rattle.little_endian.proofs.Slices.{drop-slice}
 use Rattle.little_endian.proofs.Layouts.{skip-stands, known-stands, known-kids}
-use Rattle.table.specs.Packed.{rowOf, outlineIn}
-use Rattle.table.proofs.Facts.{row-of-listed, row-of-unlisted, plus-is, shape-is}
+use Rattle.table_row.specs.Packed.{rowOf, outlineIn}
+use Rattle.table_row.proofs.Facts.{row-of-listed, row-of-unlisted, plus-is, shape-is}
 use Rattle.table.proofs.Outlines.{outline-zero, outline-no-row, outline-plus, outline-whole}
 use Rattle.lister.specs.Laid.{Lent, written, first, Laid, Bounds, Listed, Begins}
 use Rattle.lister.proofs.Rows.{written-on}

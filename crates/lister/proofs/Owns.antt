@@ -9,7 +9,7 @@ use lib.Seq.{slice, length-slice}
 use Rattle.rules.specs.Table.{Shape}
 use Rattle.rules.specs.OwnData.{ownSize}
 use Rattle.rules.proofs.OwnSize.{own-size-more, has-name}
-use Rattle.table.specs.Packed.{plusIn, shapeIn}
+use Rattle.table_row.specs.Packed.{plusIn, shapeIn}
 use Rattle.own_data.specs.declared.Own.{Own}
 use Rattle.own_data.specs.declared.Own.the-variants.{NoName, TooLong, Size}
 use Rattle.own_data.specs.Own.{OwnIs}

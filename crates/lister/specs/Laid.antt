@@ -17,7 +17,7 @@ use Rattle.rules.specs.Rules.{Parent, Obeys, limit}
 use Rattle.rules.specs.Walk.{Answer, refused, accepted, verdict}
 use Rattle.rules.specs.Gives.{recordCount, recordsOf, list, flat}
 use Rattle.rules.specs.Calls.{Effect, leaving, countsOf}
-use Rattle.table.specs.Packed.{shapeIn, plusIn}
+use Rattle.table_row.specs.Packed.{shapeIn, plusIn}
 use Rattle.own_data.specs.declared.Own.{Own}
 use Rattle.own_data.specs.declared.Own.the-variants.{NoName, TooLong, Size}
 

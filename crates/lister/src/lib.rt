@@ -20,7 +20,7 @@ ghost use Rattle.rules.specs.Rules.{Parent, limit};
 ghost use Rattle.rules.specs.Gives.{recordCount, flat};
 ghost use Rattle.rules.specs.Encodings.{flatRecords, recordBytes};
 ghost use Rattle.rules.specs.Calls.{leaving, listCall};
-ghost use Rattle.table.specs.Packed.{plusIn, kindIn};
+ghost use Rattle.table_row.specs.Packed.{plusIn, kindIn};
 ghost use Rattle.lister.specs.Laid.{Lent, lent, written, listRows, first, Laid, Bounds, Room, Listed, Begins, sizeOf};
 
 // A record as six numbers, from i on.
@@ -79,11 +79,11 @@ fn own_length(file: &[u8], row: u64, at: usize, stop: usize) -> usize
     ensures is { λ r. ⌜ ((around own more : List ℕ) → Begins row around own more → own ++ more ≡ slice at stop (now (file .entry)) → r ≡ length own) ⌝ }
     ensures within { λ r. ⌜ at + r ≤ stop ⌝ }
 {
-    if !table::may_have_children(row) {
+    if !table_row::may_have_children(row) {
         return stop - at;
     }
-    let size = table::size(row);
-    let kind = table::kind(row);
+    let size = table_row::size(row);
+    let kind = table_row::kind(row);
     match kind {
         0 => size_of(own_data::fitting(size, stop - at)),
         1 => size_of(own_data::name_size(file, at, stop)),

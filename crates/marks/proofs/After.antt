@@ -12,7 +12,7 @@ use borrow.Author.Tests.{eqb-true, eqb-false, eq-eqb, ne-eqb}
 use Rattle.rules.specs.Table.{under, among}
 use Rattle.rules.specs.Layout.{Run, end, skip, known, size, identifiers, offsetOf}
 use Rattle.rules.specs.Rules.{Parent, Obeys}
-use Rattle.table.specs.Packed.{slotOf}
+use Rattle.table_row.specs.Packed.{slotOf}
 use Rattle.marks.specs.Marks.{tallySlot, Under, marksAfter}
 
 pub under-of : (p : Parent) (t : Run) → Obeys p t → Under (p .id) (identifiers t)

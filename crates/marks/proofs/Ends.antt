@@ -23,8 +23,8 @@ use Rattle.rules.proofs.Sound.{length-bytes}
 use Rattle.little_endian.specs.Numbers.{wordAt}
 use Rattle.little_endian.proofs.Slices.{word-slice, drop-slice}
 use Rattle.scan.proofs.Parts.{corners-slice}
-use Rattle.table.specs.Packed.{places, slotOf, rowOf}
-use Rattle.table.proofs.Facts.{SlotTest, same, same-is}
+use Rattle.table_row.specs.Packed.{places, slotOf, rowOf}
+use Rattle.table_row.proofs.Facts.{SlotTest, same, same-is}
 use Rattle.marks.specs.declared.Shut.{Shut}
 use Rattle.marks.specs.Marks.{tallySlot, noMarks, Kept, ShutIs, Placed, countAt, cornersAt, pairsAt, MeshPlaced, meshBroken}
 use Rattle.marks.proofs.Slots.{allSlot, tally-slot, groups-slotted}

@@ -13,8 +13,8 @@ use Rattle.rules.specs.Bytes.{every}
 use Rattle.rules.specs.Table.{listed, under, limits, among}
 use Rattle.rules.specs.Rules.{tally, few}
 use Rattle.rules.proofs.Bools.{and-parts, both, or-second}
-use Rattle.table.specs.Packed.{slotOf}
-use Rattle.table.proofs.Facts.{groupSlot, SlotTest, slot-is, same-is, same}
+use Rattle.table_row.specs.Packed.{slotOf}
+use Rattle.table_row.proofs.Facts.{groupSlot, SlotTest, slot-is, same-is, same}
 use Rattle.marks.specs.Marks.{tallySlot, Under, free}
 
 -- ---- tests of lists

@@ -16,7 +16,7 @@ use Rattle.rules.specs.Layout.{Run, end, skip, known, size, bytes, identifiers}
 use Rattle.rules.specs.Rules.{Parent, inside, few, allBelow, Obeys}
 use Rattle.rules.specs.Walk.{must, broken}
 use Rattle.little_endian.specs.Numbers.{wordAt}
-use Rattle.table.specs.Packed.{slotOf}
+use Rattle.table_row.specs.Packed.{slotOf}
 use Rattle.marks.specs.declared.Shut.{Shut}
 
 -- how many chunks of a slot

@@ -9,7 +9,7 @@ ghost use Prim.Native.Nat.{ℕ, _+_, _*_, _≤_, _<_};
 ghost use lib.ListN.{length, set, getD};
 ghost use Rattle.rules.specs.Layout.{Run, identifiers};
 ghost use Rattle.rules.specs.Rules.{Parent, noneMissing};
-ghost use Rattle.table.specs.Packed.{slotIn};
+ghost use Rattle.table_row.specs.Packed.{slotIn};
 ghost use Rattle.rules.specs.Walk.{broken, endConditions};
 ghost use Rattle.marks.specs.Marks.{free, Kept, ShutIs, Placed, countAt, cornersAt, pairsAt, MeshPlaced, meshBroken};
 
@@ -19,7 +19,7 @@ pub fn note(marks: &mut [u32], row: u64, at: usize) -> bool
     ensures is { λ r. ⌜ r ≡ free (slotIn row) (now (marks .entry)) ⌝ }
     ensures marks { λ r. ⌜ now (marks .exit) ≡ cond r (set (now (marks .entry)) (slotIn row) at) (now (marks .entry)) ⌝ }
 {
-    let slot = table::slot(row);
+    let slot = table_row::slot(row);
     if 5 <= slot {
         return true;
     }

@@ -21,8 +21,8 @@ use Rattle.rules.proofs.Bytes.{value-le}
 use Rattle.rules.proofs.Conditions.{broken-here, broken-later, unbroken}
 use Rattle.rules.proofs.OwnSize.{own-size-less}
 use Rattle.little_endian.proofs.Slices.{take-slice}
-use Rattle.table.specs.Packed.{rowOf, plusIn, plainIn, sizeIn, shapeIn}
-use Rattle.table.proofs.Facts.{plus-is, shape-is, Plain, plain-is}
+use Rattle.table_row.specs.Packed.{rowOf, plusIn, plainIn, sizeIn, shapeIn}
+use Rattle.table_row.proofs.Facts.{plus-is, shape-is, Plain, plain-is}
 use Rattle.own_data.specs.declared.Own.{Own}
 use Rattle.own_data.specs.declared.Judged.{Judged}
 use Rattle.own_data.specs.Own.{Fits, Exceeds, OwnIs, CountIs, Exact, JudgedIs, Judges}

@@ -12,7 +12,7 @@ use Rattle.rules.specs.Table.{Shape, fixed, name, counted, each, named-words}
 use Rattle.rules.specs.OwnData.{nameSize, count, ownSize, hasName}
 use Rattle.little_endian.specs.Numbers.{wordAt}
 use Rattle.little_endian.proofs.Slices.{word-slice, drop-slice}
-use Rattle.table.specs.Packed.{kindIn, sizeIn, shapeFrom, shapeIn}
+use Rattle.table_row.specs.Packed.{kindIn, sizeIn, shapeFrom, shapeIn}
 use Rattle.own_data.specs.declared.Own.{Own}
 use Rattle.own_data.specs.declared.Own.the-variants.{NoName, TooLong, Size}
 use Rattle.own_data.specs.Own.{Fitted, Fits, Exceeds, OwnIs, CountIs}

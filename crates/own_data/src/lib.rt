@@ -12,7 +12,7 @@ ghost use Rattle.rules.specs.Table.{name, counted, named-words, listed};
 ghost use Rattle.rules.specs.Layout.{end};
 ghost use Rattle.rules.specs.OwnData.{count};
 ghost use Rattle.rules.specs.Rules.{Parent, numbersFinite, faceNumbersBelow};
-ghost use Rattle.table.specs.Packed.{shapeIn, plusIn, rowOf};
+ghost use Rattle.table_row.specs.Packed.{shapeIn, plusIn, rowOf};
 ghost use Rattle.own_data.specs.Own.{Fitted, OwnIs, CountIs, Exact, Judges};
 
 // The size of own data: no zero ends its name; it is longer than the body; or so many bytes.
@@ -77,12 +77,12 @@ pub fn own_size(file: &[u8], row: u64, count: u32, at: usize, stop: usize) -> Ow
     requires { ⌜ (at ≤ stop) × (stop ≤ length (now file)) × (count < 65536) ⌝ }
     ensures { λ r. ⌜ ((around : List ℕ) → CountIs around count → OwnIs (shapeIn row) around (slice at stop (now (file .entry))) r) ⌝ }
 {
-    let kind = table::kind(row);
+    let kind = table_row::kind(row);
     match kind {
-        0 => fitting(table::size(row), stop - at),
+        0 => fitting(table_row::size(row), stop - at),
         1 => name_size(file, at, stop),
-        2 => counted_size(file, table::size(row), at, stop),
-        3 => fitting(table::size(row) * (count as usize), stop - at),
+        2 => counted_size(file, table_row::size(row), at, stop),
+        3 => fitting(table_row::size(row) * (count as usize), stop - at),
         _ => named_words_size(file, at, stop),
     }
 }
@@ -134,7 +134,7 @@ fn face_numbers_below(file: &[u8], id: usize, f: u32, at: usize, stop: usize) ->
 fn leaves_bytes(row: u64, from: usize, stop: usize) -> bool
     ensures { λ r. ⌜ r ≡ not (plusIn row || leb stop from) ⌝ }
 {
-    if table::may_have_children(row) {
+    if table_row::may_have_children(row) {
         false
     } else {
         from < stop
@@ -177,10 +177,10 @@ pub fn judge(file: &[u8], id: usize, row: u64, count: u32, at: usize, stop: usiz
     requires { ⌜ (at + 6 ≤ stop) × (stop ≤ length (now file)) × (count < 65536) × (listed id ≡ true) × (row ≡ rowOf id) ⌝ }
     ensures { λ r. ⌜ ((p : Parent) → CountIs (p .own) count → Judges p at id (slice (at + 6) stop (now (file .entry))) r) ⌝ }
 {
-    if !table::is_plain(row) {
+    if !table_row::is_plain(row) {
         return judge_any(file, id, row, count, at, stop);
     }
-    let size = table::size(row);
+    let size = table_row::size(row);
     if stop - at == 6 + size {
         Judged::Size(size)
     } else {

@@ -23,8 +23,8 @@ use Rattle.rules.proofs.Rows.{under-listed}
 use Rattle.rules.proofs.Sound.{Tells, run-tells}
 use Rattle.rules.proofs.Steps.{Says}
 use Rattle.rules.proofs.Fuel.{walk-nil}
-use Rattle.table.specs.Packed.{rowOf, slotOf}
-use Rattle.table.proofs.Facts.{leaf-is}
+use Rattle.table_row.specs.Packed.{rowOf, slotOf}
+use Rattle.table_row.proofs.Facts.{leaf-is}
 use Rattle.marks.specs.declared.Shut.{Shut}
 use Rattle.marks.specs.Marks.{noMarks, Kept, ShutIs}
 use Rattle.reader.specs.declared.Head.{Head}

@@ -12,7 +12,7 @@ use Rattle.rules.specs.Rules.{Parent, inside}
 use Rattle.rules.specs.Walk.{Step, enter, broken, endConditions, refused, accepted, step, walk}
 use Rattle.rules.proofs.Rows.{under-listed}
 use Rattle.rules.proofs.Steps.{Says, Entered, step-says}
-use Rattle.table.specs.Packed.{slotOf}
+use Rattle.table_row.specs.Packed.{slotOf}
 use Rattle.marks.specs.declared.Shut.{Shut}
 use Rattle.marks.specs.Marks.{noMarks, Kept, ShutIs, MeshPlaced}
 use Rattle.marks.proofs.Ends.{mesh-placed, kept-small}

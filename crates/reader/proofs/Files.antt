@@ -24,7 +24,7 @@ use Rattle.rules.proofs.Conditions.{met, unbroken, broken-here, broken-later}
 use Rattle.rules.proofs.Sound.{length-bytes}
 use Rattle.rules.proofs.Demands.{counted-once}
 use Rattle.little_endian.specs.Numbers.{wordAt, longAt}
-use Rattle.table.specs.Packed.{places, rowOf}
+use Rattle.table_row.specs.Packed.{places, rowOf}
 use Rattle.marks.specs.declared.Shut.{Shut}
 use Rattle.marks.specs.Marks.{noMarks, Kept, ShutIs}
 use Rattle.reader.specs.declared.Ran.{Ran}

@@ -19,8 +19,8 @@ use Rattle.rules.specs.Walk.{stop, pass, enter, broken, headerConditions, ownCo
 use Rattle.rules.proofs.Conditions.{met, unbroken, broken-here, broken-later}
 use Rattle.little_endian.specs.Numbers.{wordAt, longAt}
 use Rattle.little_endian.proofs.Slices.{drop-slice, take-slice, word-slice, long-slice}
-use Rattle.table.specs.Packed.{rowOf, slotOf}
-use Rattle.table.proofs.Facts.{row-of-listed, row-of-unlisted}
+use Rattle.table_row.specs.Packed.{rowOf, slotOf}
+use Rattle.table_row.proofs.Facts.{row-of-listed, row-of-unlisted}
 use Rattle.own_data.specs.declared.Judged.{Judged}
 use Rattle.own_data.specs.Own.{CountIs, JudgedIs, Judges}
 use Rattle.own_data.proofs.Conditions.{some-around}

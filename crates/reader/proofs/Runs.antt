@@ -15,7 +15,7 @@ use Rattle.rules.proofs.Rows.{under-listed}
 use Rattle.rules.proofs.Sound.{length-bytes, Closes, ended-closes}
 use Rattle.rules.proofs.Steps.{Says}
 use Rattle.rules.proofs.Fuel.{walk-nil}
-use Rattle.table.specs.Packed.{rowOf, slotOf}
+use Rattle.table_row.specs.Packed.{rowOf, slotOf}
 use Rattle.reader.specs.declared.Ran.{Ran}
 use Rattle.reader.specs.States.{Context, ClosedIs, ChunkIs, RunIs}
 use Rattle.reader.proofs.Contexts.{context-next}

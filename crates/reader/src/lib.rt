@@ -16,7 +16,7 @@ ghost use lib.Seq.{slice};
 ghost use mathlib.Core.Bool.{true};
 ghost use Rattle.rules.specs.Table.{listed};
 ghost use Rattle.rules.specs.Rules.{Parent};
-ghost use Rattle.table.specs.Packed.{rowOf};
+ghost use Rattle.table_row.specs.Packed.{rowOf};
 ghost use Rattle.own_data.specs.Own.{CountIs};
 ghost use Rattle.rules.specs.Walk.{broken, fileConditions, headerConditions, lengthField, step, walk};
 ghost use Rattle.rules.specs.Calls.{checkOf, checkCall};
@@ -78,7 +78,7 @@ fn look_listed(file: &[u8], id: usize, row: u64, count: u32, at: usize, stop: us
         Judged::Fault(r) => Head::Fault(r),
         Judged::Size(size) => {
             let from = at + 6 + size;
-            if table::may_have_children(row) {
+            if table_row::may_have_children(row) {
                 Head::Enter {
                     id,
                     row,
@@ -108,7 +108,7 @@ fn look(file: &[u8], parent: u64, count: u32, at: usize, end: usize, marks: &mut
             if row == 0 {
                 return Head::Skip { stop };
             }
-            if !table::may_hold(parent, row) {
+            if !table_row::may_hold(parent, row) {
                 return Head::Fault(Refusal::Misplaced(at));
             }
             if !marks::note(marks, row, at) {

@@ -12,8 +12,8 @@ use Rattle.rules.specs.Bytes.{every}
 use Rattle.rules.specs.Table.{rows, among, listed}
 use Rattle.rules.proofs.Bools.{and-parts, or-second}
 use Rattle.rules.proofs.Rows.{everyId, listed-every}
-use Rattle.table.specs.Packed.{rowOf}
-use Rattle.table.proofs.Facts.{row-of-unlisted}
+use Rattle.table_row.specs.Packed.{rowOf}
+use Rattle.table_row.proofs.Facts.{row-of-unlisted}
 
 among-key : (ks : List ℕ) (x : ℕ) → among x ks ≡ true → T (hasKey ks x)
 among-key [] x h = absurd (false≢true h)

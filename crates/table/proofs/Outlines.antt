@@ -9,8 +9,8 @@ use Rattle.rules.specs.Bytes.{every}
 use Rattle.rules.specs.Table.{rows, limits, atMostOne, listed}
 use Rattle.rules.proofs.Bools.{or-second}
 use Rattle.rules.proofs.Rows.{everyId, listed-every}
-use Rattle.table.specs.Packed.{places, rowOf, plusIn, kindIn, holderIn, leafIn, outlineIn}
-use Rattle.table.proofs.Facts.{row-of-unlisted}
+use Rattle.table_row.specs.Packed.{places, rowOf, plusIn, kindIn, holderIn, leafIn, outlineIn}
+use Rattle.table_row.proofs.Facts.{row-of-unlisted}
 
 module _ (row : ℕ) where
   pub holder-of : plusIn row ≡ true → holderIn row ≡ row

@@ -1,8 +1,7 @@
-// The chunk table of document 01 as code looks it up. A row is one number, so that looking at it costs nothing: the row
-// of crate rules, packed as specs/Packed says.
+// The chunk table of document 01 as code looks it up. A row is one number, packed as crate table_row says.
 ghost use mathlib.Core.Path.{_≡_};
 ghost use Prim.Native.Nat.{_<_};
-ghost use Rattle.table.specs.Packed.{rowOf, mayHoldIn, plusIn, plainIn, kindIn, holderIn, leafIn, outlineIn, Slot, Size};
+ghost use Rattle.table_row.specs.Packed.{rowOf, holderIn, leafIn, outlineIn};
 
 // The row of an identifier, 0 where it has none. The columns, from the left:
 // - size of own data: of all of it, of one counted element, or of what there is for each face
@@ -87,7 +86,7 @@ fn material_row(id: usize) -> u64
 fn outlined(row: u64) -> u64
     ensures { λ r. ⌜ r ≡ outlineIn row ⌝ }
 {
-    if may_have_children(row) {
+    if table_row::may_have_children(row) {
         return row;
     }
     if row == 0 { 0 } else { 1 }
@@ -122,42 +121,4 @@ fn is_leaf(id: usize) -> bool
         0x4620 | 0x4651 | 0x4653 | 0x4656 | 0x4700 => true,
         _ => false,
     }
-}
-
-// Whether a chunk of this row may stand in one of the parent's row.
-pub fn may_hold(parent: u64, row: u64) -> bool
-    ensures { λ r. ⌜ r ≡ mayHoldIn parent row ⌝ }
-{
-    (parent / 16 >> row % 16) % 2 == 1
-}
-
-pub fn slot(row: u64) -> usize
-    ensures { λ r. ⌜ Slot row r ⌝ }
-{
-    (row / 65536 % 16) as usize
-}
-
-pub fn kind(row: u64) -> u64
-    ensures { λ r. ⌜ r ≡ kindIn row ⌝ }
-{
-    row / 1048576 % 16
-}
-
-pub fn may_have_children(row: u64) -> bool
-    ensures { λ r. ⌜ r ≡ plusIn row ⌝ }
-{
-    row / 16777216 % 16 == 1
-}
-
-// Own data of a fixed size, and no children: most chunks of most files are such.
-pub fn is_plain(row: u64) -> bool
-    ensures { λ r. ⌜ r ≡ plainIn row ⌝ }
-{
-    row / 1048576 % 256 == 0
-}
-
-pub fn size(row: u64) -> usize
-    ensures { λ r. ⌜ Size row r ⌝ }
-{
-    (row / 268435456 % 256) as usize
 }

@@ -3,7 +3,7 @@ use mathlib.Core.Path.{refl, sym, _∙_}
 use native.Mathlib.Omega.{arith}
 use borrow.Author.Needs.{needs}
 use Rattle.rules.specs.Table.{name, counted, named-words}
-use Rattle.table.specs.Packed.{sizeIn}
+use Rattle.table_row.specs.Packed.{sizeIn}
 use lib.Seq.{slice}
 use Rattle.own_data.proofs.Sizes.{product-small, fixed-is, each-is, kind-fixed, kind-name, kind-counted, kind-each, kind-words, around-any}
 use borrow.Author.Needs.{needs}

@@ -9,7 +9,7 @@ use lib.Seq.{slice}
 use borrow.Author.Tests.{not-true, not-false}
 use Rattle.rules.specs.declared.Refusal.{Refusal}
 use Rattle.rules.specs.Walk.{Step}
-use Rattle.table.specs.Packed.{slotIn, slotOf}
+use Rattle.table_row.specs.Packed.{slotIn, slotOf}
 use Rattle.reader.specs.declared.Header.{Header}
 use Rattle.reader.specs.declared.Head.{Head}
 use Rattle.reader.specs.States.{HeaderWithin, HeadIs, MarksAre, openedBy}

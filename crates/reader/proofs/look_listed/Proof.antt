@@ -5,8 +5,8 @@ use borrow.Author.Needs.{needs}
 use Prim.Native.Nat.{_+_}
 use lib.Seq.{slice}
 use Rattle.rules.specs.Walk.{Step}
-use Rattle.table.specs.Packed.{plusIn}
-use Rattle.table.proofs.Facts.{plus-is}
+use Rattle.table_row.specs.Packed.{plusIn}
+use Rattle.table_row.proofs.Facts.{plus-is}
 use Rattle.own_data.specs.Own.{Judges}
 use Rattle.reader.specs.declared.Head.{Head}
 use Rattle.reader.specs.States.{HeadIs}

@@ -9,7 +9,7 @@ use native.Mathlib.Omega.{arith}
 use Rattle.rules.specs.Bytes.{every}
 use Rattle.rules.specs.Table.{rows, limits, atMostOne}
 use Rattle.rules.proofs.Rows.{everyId}
-use Rattle.table.specs.Packed.{places, rowOf, leafIn}
+use Rattle.table_row.specs.Packed.{places, rowOf, leafIn}
 use Rattle.table.proofs.Keys.{armed, no-arm, not-by, arm-every, leafArms}
 use Rattle.table.proofs.is_leaf.Statement.{statement}
 use Rattle.table.proofs.is_leaf.Tie as tie

@@ -9,7 +9,7 @@ use native.Mathlib.Omega.{arith}
 use Rattle.rules.specs.Bytes.{every}
 use Rattle.rules.specs.Table.{rows, limits, atMostOne}
 use Rattle.rules.proofs.Rows.{everyId}
-use Rattle.table.specs.Packed.{places, rowOf}
+use Rattle.table_row.specs.Packed.{places, rowOf}
 use Rattle.table.proofs.Keys.{armed, no-arm, no-row-by, materialArms}
 use Rattle.table.proofs.material_row.Statement.{statement}
 use Rattle.table.proofs.material_row.Tie as tie

@@ -1,7 +1,7 @@
 -- A material by its row; up to 4D4D a row with children, one without, or none.
 use mathlib.Core.Path.{sym, ap, _∙_}
 use borrow.Author.Needs.{needs}
-use Rattle.table.specs.Packed.{rowOf, outlineIn}
+use Rattle.table_row.specs.Packed.{rowOf, outlineIn}
 use Rattle.table.proofs.Outlines.{outline-held, outline-leaf, outline-none}
 use Rattle.table.proofs.outline.Statement.{statement}
 use Rattle.table.proofs.outline.Tie as tie

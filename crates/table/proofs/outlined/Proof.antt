@@ -2,7 +2,7 @@
 use mathlib.Core.Path.{sym, _∙_}
 use borrow.Author.Needs.{needs}
 use borrow.Author.Tests.{eq-eqb, ne-eqb}
-use Rattle.table.specs.Packed.{outlineIn}
+use Rattle.table_row.specs.Packed.{outlineIn}
 use Rattle.table.proofs.outlined.Statement.{statement}
 use Rattle.table.proofs.outlined.Tie as tie
 

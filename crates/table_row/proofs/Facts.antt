@@ -9,7 +9,7 @@ use Rattle.rules.specs.Bytes.{every}
 use Rattle.rules.specs.Table.{Shape, fixed, name, counted, each, named-words, rows, atMostOne, atLeastOne, among, listed, under, shape, plus, limits, needs}
 use Rattle.rules.proofs.Bools.{and-parts, or-second}
 use Rattle.rules.proofs.Rows.{everyId, listed-every, under-listed}
-use Rattle.table.specs.Packed.{places, kindOf, sizeOf, rowOf, mayHoldIn, plusIn, plainIn, slotOf, kindIn, sizeIn, shapeFrom, shapeIn}
+use Rattle.table_row.specs.Packed.{places, kindOf, sizeOf, rowOf, mayHoldIn, plusIn, plainIn, slotOf, kindIn, sizeIn, shapeFrom, shapeIn}
 
 -- ---- tests that two things are the same
 
