@@ -1,5 +1,5 @@
 -- What the listing program prints, for every file that its buffer holds.
-use Prim.Native.Nat.{ℕ, _≤_}
+use Prim.Native.Nat.{ℕ}
 use mathlib.Core.Bool.{cond}
 use mathlib.Core.List.{List, [], _++_}
 use lib.Dec.{leb}
@@ -9,8 +9,8 @@ use Rattle.rules.specs.Layout.{figure}
 use Rattle.rules.specs.Walk.{Answer, refused, accepted, verdict}
 use Rattle.rules.specs.Gives.{recordCount, list}
 use Rattle.rules.specs.Calls.{countsOf}
-use Rattle.listing_text.specs.declared.Input.{Input}
-use Rattle.listing_text.specs.declared.Input.the-variants.{Whole, Longer, Failed}
+use Rattle.input.specs.declared.Input.{Input}
+use Rattle.input.specs.declared.Input.the-variants.{Whole, Longer, Failed}
 use Rattle.listing_text.specs.Lines.{refusalLine, countsLine, lines}
 
 -- the program has 1,024 records
@@ -31,9 +31,3 @@ abbrev pub printed : List ℕ → Input → List ℕ
 printed buffer (Whole size) = listing (take size buffer)
 printed buffer Longer = refusalLine TooLong
 printed buffer Failed = []
-
--- the bytes of a whole input are in the buffer
-abbrev pub Within : List ℕ → Input → Type 0
-Within buffer (Whole size) = size ≤ length buffer
-Within buffer Longer = Unit
-Within buffer Failed = Unit

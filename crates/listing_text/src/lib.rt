@@ -1,5 +1,6 @@
-// What the listing program prints, as bytes in a lent buffer, and the reading of its input. Each `put_` function puts text
-// at a position of out and answers the position behind it; the bytes around the text stay.
+// What the listing program prints, as bytes in a lent buffer. Each `put_` function puts text at a position of out and
+// answers the position behind it; the bytes around the text stay.
+use input::Input;
 use printing::put_byte;
 use printing::put_decimal;
 use printing::put_four_digits;
@@ -13,20 +14,14 @@ ghost use lib.ListN.{length};
 ghost use Rattle.io.specs.Counts.{Counts as Io·Counts};
 ghost use Rattle.little_endian.specs.Put.{Put};
 ghost use Rattle.listing_text.specs.Lines.{field, refusalLine, countsLine, chunkLine, rowLines};
-ghost use Rattle.listing_text.specs.Listing.{listing, printed, Within};
+ghost use Rattle.input.specs.Within.{Within};
+ghost use Rattle.listing_text.specs.Listing.{listing, printed};
 
 // The numbers of the program's row of 1,024 records.
 const ROW: usize = 6144;
 
 // Room for any listing: a first line of at most 87 bytes, and 1,024 lines of at most 68.
 pub const ROOM: usize = 69719;
-
-// What was read: a whole input of so many bytes; the start of a longer one; or a read failed.
-pub enum Input {
-    Whole(usize),
-    Longer,
-    Failed,
-}
 
 // ---- the lines
 
@@ -46,8 +41,8 @@ fn put_refusal(r: Refusal, at: usize, out: &mut [u8]) -> usize
     ensures within { λ e. ⌜ e ≤ at + 50 ⌝ }
 {
     let number = put_text(b"refused", at, out);
-    let place = put_field(rules::refusal_number(r) as usize, number, out);
-    let end = put_field(rules::refusal_place(r), place, out);
+    let place = put_field(refusals::number(r) as usize, number, out);
+    let end = put_field(refusals::place(r), place, out);
     put_byte(b'\n', end, out)
 }
 
@@ -123,23 +118,4 @@ pub fn answer(buffer: &[u8], input: Input, out: &mut [u8; ROOM]) -> usize
         Input::Longer => put_refusal(Refusal::TooLong, 0, out),
         Input::Failed => 0,
     }
-}
-
-// ---- the input
-
-// Reads an input until it ends or the buffer is full, and then asks for one byte more, which tells an end from a failure.
-// No contract can say which bytes are read, nor which answer is given; the bytes of a whole input are in the buffer.
-pub fn read_input(fd: i32, buffer: &mut [u8]) -> Input
-    ensures { λ r. ⌜ Within (now (buffer .exit)) r ⌝ }
-{
-    let n = io::read_full(fd, buffer);
-    let mut next = [0u8; 1];
-    let got = libc::read(fd, &mut next);
-    if got == 0 {
-        return Input::Whole(n);
-    }
-    if got > 0 && n == buffer.len() {
-        return Input::Longer;
-    }
-    Input::Failed
 }

@@ -37,8 +37,8 @@ fn print_bits(x: f32) {
 
 fn print_refusal(r: Refusal) {
     io::write_all(STDOUT_FILENO, b" refused");
-    print_number(rules::refusal_number(r) as usize);
-    print_number(rules::refusal_place(r));
+    print_number(refusals::number(r) as usize);
+    print_number(refusals::place(r));
 }
 
 fn print_call(figure: &[u8], mesh: u32, call: &[u8]) {

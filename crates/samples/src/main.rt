@@ -19,8 +19,8 @@ fn print_field(label: &[u8], n: usize) {
 
 fn print_refusal(r: Refusal) {
     io::write_all(STDOUT_FILENO, b" refused ");
-    io::print_decimal(STDOUT_FILENO, rules::refusal_number(r) as u64);
-    print_field(b" ", rules::refusal_place(r));
+    io::print_decimal(STDOUT_FILENO, refusals::number(r) as u64);
+    print_field(b" ", refusals::place(r));
 }
 
 // The sample's name, and the refusal or the three byte counts.

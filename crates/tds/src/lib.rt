@@ -1,44 +1,22 @@
 // The functions that C calls. Each answers one number and fills byte slices; include/tds.h describes them for C.
-use little_endian::put_long;
+use codes::checked_code;
+use codes::give_numbers;
+use codes::refusal_code;
 use rules::Boxed;
 use rules::Checked;
 use rules::Named;
 use rules::Record;
-use rules::Refusal;
 use rules::Tabled;
 use writer::Written;
 ghost use mathlib.Core.Path.{_≡_};
-ghost use Prim.Native.Nat.{_+_, _*_, _/_, _<_, _≤_, min};
+ghost use Prim.Native.Nat.{_/_};
 ghost use lib.ListN.{length};
-ghost use Rattle.rules.specs.Bytes.{packed};
 ghost use Rattle.rules.specs.Encodings.{beside, flatRecords, recordTable, recordBytes, numberBytes};
-ghost use Rattle.rules.specs.Calls.{filled, listCall, tablesCall};
+ghost use Rattle.rules.specs.Calls.{listCall, tablesCall};
 ghost use Rattle.mesh.specs.Choices.{rows};
 ghost use Rattle.writer.specs.Write.{writeCall};
-ghost use Rattle.tds.specs.Codes.{refusalCode, checkCode, recordsOr, sizesOr, sizeOr, give, countsCode, nameCode, boxCode};
-
-// A refusal as a number. Only the writer can have a place beyond 32 bits; it is answered as the largest.
-fn refusal_code(r: Refusal) -> u64
-    ensures { λ n. ⌜ n ≡ refusalCode r ⌝ }
-{
-    let number = rules::refusal_number(r) as u64;
-    let place = rules::refusal_place(r) as u64;
-    if place < 4294967295 {
-        number * 4294967296 + place
-    } else {
-        number * 4294967296 + 4294967295
-    }
-}
-
-// The count of records, or a refusal, as a number.
-fn checked_code(c: Checked) -> u64
-    ensures { λ n. ⌜ n ≡ recordsOr c ⌝ }
-{
-    match c {
-        Checked::Accepted(counts) => counts.records as u64,
-        Checked::Refused(r) => refusal_code(r),
-    }
-}
+ghost use Rattle.codes.specs.Codes.{recordsOr};
+ghost use Rattle.tds.specs.Answers.{checkCode, sizesOr, sizeOr, countsCode, nameCode, boxCode};
 
 // The count of records, or a refusal.
 #[no_mangle]
@@ -80,32 +58,6 @@ pub extern "C" fn tds_tables(file: &[u8], mesh: u32, vertices: &mut [u8], corner
 }
 
 // ---- a few numbers, four bytes each
-
-// The numbers, into the front of out.
-fn put_numbers(numbers: &[u32], out: &mut [u8])
-    requires { ⌜ 4 * length (now numbers) ≤ length (now out) ⌝ }
-    ensures { λ _. ⌜ now (out .exit) ≡ filled (packed 4 (now (numbers .entry))) (now (out .entry)) ⌝ }
-{
-    let mut next = 0usize;
-    let mut i = 0usize;
-    while i < numbers.len() {
-        next = put_long(numbers[i], next, out);
-        i += 1;
-    }
-}
-
-// How many numbers now stand in the front of out, or that there is no room.
-fn give_numbers(numbers: &[u32], out: &mut [u8]) -> u64
-    ensures answer { λ n. ⌜ n ≡ give (now (out .entry)) (now (numbers .entry)) .answer ⌝ }
-    ensures out { λ _. ⌜ now (out .exit) ≡ give (now (out .entry)) (now (numbers .entry)) .rows ⌝ }
-{
-    let n = numbers.len();
-    if out.len() / 4 < n {
-        return refusal_code(Refusal::NoRoom(n));
-    }
-    put_numbers(numbers, out);
-    n as u64
-}
 
 // The three byte counts, or a refusal.
 #[no_mangle]

@@ -45,9 +45,9 @@ fn print_triangle(bytes: &[u8])
 
 fn print_refusal(r: Refusal) {
     io::write_all(STDOUT_FILENO, b"refused ");
-    io::print_decimal(STDOUT_FILENO, rules::refusal_number(r) as u64);
+    io::print_decimal(STDOUT_FILENO, refusals::number(r) as u64);
     io::write_all(STDOUT_FILENO, b" ");
-    io::print_decimal(STDOUT_FILENO, rules::refusal_place(r) as u64);
+    io::print_decimal(STDOUT_FILENO, refusals::place(r) as u64);
     end_line();
 }
 

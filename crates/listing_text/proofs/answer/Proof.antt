@@ -7,7 +7,7 @@ use lib.ListN.{length}
 use lib.Seq.{length-take-le}
 use Rattle.io.specs.Counts.{Counts}
 use Rattle.little_endian.proofs.Put.{put-none}
-use Rattle.listing_text.specs.Listing.{Within}
+use Rattle.input.specs.Within.{Within}
 use borrow.Author.Needs.{needs}
 use Rattle.listing_text.proofs.answer.Statement.{statement}
 use Rattle.listing_text.proofs.answer.Tie as tie

@@ -12,8 +12,8 @@ slice-aggregate-put-text c = search needs
 put-text-requires : tie.Need-put-text-requires
 put-text-requires c κs = search needs
 
-refusal-number-requires : tie.Need-refusal-number-requires
-refusal-number-requires c κs = search needs
+number-requires : tie.Need-number-requires
+number-requires c κs = search needs
 
 cast-put-field : tie.Need-cast-put-field
 cast-put-field c = search needs
@@ -21,8 +21,8 @@ cast-put-field c = search needs
 put-field-requires : tie.Need-put-field-requires
 put-field-requires c κs = search needs
 
-refusal-place-requires : tie.Need-refusal-place-requires
-refusal-place-requires c κs = search needs
+place-requires : tie.Need-place-requires
+place-requires c κs = search needs
 
 put-field-requires-2 : tie.Need-put-field-requires-2
 put-field-requires-2 c κs = search needs
@@ -38,7 +38,7 @@ unfolding refusalLine
 returns c =
     let word = c .before .before .before .before .before .before .before .before .before .before .before .before .before .before .before .before .put-text .ensures in
     let end = c .before .before .put-byte .ensures in (
-      rw (← (c .before .before .before .before .before .before .before .before .before .before .before .before .before .refusal-number .ensures .is), ← (c .before .before .before .before .before .before .before .before .refusal-place .ensures))
+      rw (← (c .before .before .before .before .before .before .before .before .before .before .before .before .before .number .ensures .is), ← (c .before .before .before .before .before .before .before .before .place .ensures))
           (put-then (omega arith) word
           (put-then (omega arith) (c .before .before .before .before .before .before .before .before .before .before .before .put-field .ensures .0)
           (put-then (omega arith) (c .before .before .before .before .before .before .put-field2 .ensures .0) end))),
@@ -51,10 +51,10 @@ put-refusal-spec =
     (tie.spec
     slice-aggregate-put-text
     put-text-requires
-    refusal-number-requires
+    number-requires
     cast-put-field
     put-field-requires
-    refusal-place-requires
+    place-requires
     put-field-requires-2
     put-byte-requires
     same-length

@@ -1,7 +1,8 @@
 -- A refusal, or the nine numbers, each of which has bits.
 use mathlib.Core.Path.{sym, _∙_}
 use Rattle.tds.proofs.Small.{box-bits}
-use Rattle.tds.proofs.Gives.{parts, box-given, box-refused}
+use Rattle.codes.proofs.Gives.{parts}
+use Rattle.tds.proofs.Gives.{box-given, box-refused}
 use borrow.Author.Needs.{needs}
 use Rattle.tds.proofs.tds_box.Statement.{statement}
 use Rattle.tds.proofs.tds_box.Tie as tie

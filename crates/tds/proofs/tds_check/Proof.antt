@@ -1,6 +1,7 @@
 -- The answer of the check, as a number.
 use mathlib.Core.Path.{ap, _∙_}
-use Rattle.tds.specs.Codes.{recordsOr, checkCode}
+use Rattle.codes.specs.Codes.{recordsOr}
+use Rattle.tds.specs.Answers.{checkCode}
 use borrow.Author.Needs.{needs}
 use Rattle.tds.proofs.tds_check.Statement.{statement}
 use Rattle.tds.proofs.tds_check.Tie as tie

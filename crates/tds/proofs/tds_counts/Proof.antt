@@ -3,7 +3,8 @@ use mathlib.Core.Path.{sym, _∙_}
 use native.Mathlib.Omega.{arith}
 use Rattle.rules.proofs.Bytes.{bytes-all}
 use Rattle.tds.proofs.Small.{counts-small}
-use Rattle.tds.proofs.Gives.{parts, counts-given, counts-refused}
+use Rattle.codes.proofs.Gives.{parts}
+use Rattle.tds.proofs.Gives.{counts-given, counts-refused}
 use borrow.Author.Needs.{needs}
 use Rattle.tds.proofs.tds_counts.Statement.{statement}
 use Rattle.tds.proofs.tds_counts.Tie as tie

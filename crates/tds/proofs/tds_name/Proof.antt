@@ -2,7 +2,8 @@
 use mathlib.Core.Path.{sym, _∙_}
 use native.Mathlib.Omega.{arith}
 use Rattle.tds.proofs.Small.{span-small}
-use Rattle.tds.proofs.Gives.{parts, name-given, name-refused}
+use Rattle.codes.proofs.Gives.{parts}
+use Rattle.tds.proofs.Gives.{name-given, name-refused}
 use borrow.Author.Needs.{needs}
 use Rattle.tds.proofs.tds_name.Statement.{statement}
 use Rattle.tds.proofs.tds_name.Tie as tie

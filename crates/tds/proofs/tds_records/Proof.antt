@@ -47,11 +47,11 @@ use Rattle.records.proofs.list_records as list-records
 use Rattle.records.proofs.list_records.Symbol as list-records-def
 use Rattle.records.proofs.list_records.Symbol.{name as #records·list-records}
 use Rattle.records.proofs.list_records.Met as list-records-thm
-use Rattle.tds.specs.Codes.{recordsOr}
-use Rattle.tds.proofs.checked_code as checked-code
-use Rattle.tds.proofs.checked_code.Symbol as checked-code-def
-use Rattle.tds.proofs.checked_code.Symbol.{name as #tds·checked-code}
-use Rattle.tds.proofs.checked_code.Met as checked-code-thm
+use Rattle.codes.specs.Codes.{recordsOr}
+use Rattle.codes.proofs.checked_code as checked-code
+use Rattle.codes.proofs.checked_code.Symbol as checked-code-def
+use Rattle.codes.proofs.checked_code.Symbol.{name as #codes·checked-code}
+use Rattle.codes.proofs.checked_code.Met as checked-code-thm
 use Rattle.tds.proofs.tds_records.Key.{name as #tds·tds-records}
 use Rattle.tds.proofs.tds_records as tds-records
 use Rattle.tds.proofs.tds_records.Statement as stated
@@ -84,7 +84,7 @@ module _ {M : Type 1} (𝓤 : URA M) (H : Heap 𝓤) (A : Atoms 𝓤) (mem : Mem
 
   pub record Known (C : Calls 𝓤 H) : Type 2 where
     pub lists : Triple 𝓤 (C #records·list-records) ListRecords
-    pub codes : Triple 𝓤 (C #tds·checked-code) CheckedCode
+    pub codes : Triple 𝓤 (C #codes·checked-code) CheckedCode
 
 module _ {M : Type 1} (𝓤 : URA M) (H : Heap 𝓤) (A : Atoms 𝓤) (W : Given 𝓤 H A) (mem : Memory → SProp 𝓤) (run : Routine → Fun 𝓤) (κs : Lfts 3) (qs : Shares 3) (a : Arg) where
   abbrev fv : Val
@@ -191,5 +191,5 @@ tds-records-spec 𝓤 H 𝓜 𝓖 𝓡 =
     (tables 𝓤 H 𝓜 𝓡 code.env .C) (tables 𝓤 H 𝓜 𝓡 code.env .Λ) #tds·tds-records code.function (code.unfolded 𝓤 H 𝓜 𝓡)
     (meets 𝓤 H (𝓖 .A) (givenOf 𝓤 H 𝓜 𝓖) (𝓜 .mem) (𝓡 .run) (tablesOf 𝓤 H 𝓜 (tables 𝓤 H 𝓜 𝓡 code.env)) record {
       lists = cited 𝓤 H (ListRecords 𝓤 H (𝓖 .A) (𝓜 .mem) (𝓡 .run)) 𝓜 𝓡 code.env #records·list-records list-records-def.routine code.calls-records·list-records (list-records-thm.met 𝓤 H 𝓜 𝓖 𝓡);
-      codes = cited 𝓤 H (CheckedCode 𝓤 H (𝓖 .A) (𝓜 .mem) (𝓡 .run)) 𝓜 𝓡 code.env #tds·checked-code checked-code-def.routine code.calls-tds·checked-code (checked-code-thm.met 𝓤 H 𝓜 𝓖 𝓡);
+      codes = cited 𝓤 H (CheckedCode 𝓤 H (𝓖 .A) (𝓜 .mem) (𝓡 .run)) 𝓜 𝓡 code.env #codes·checked-code checked-code-def.routine code.calls-codes·checked-code (checked-code-thm.met 𝓤 H 𝓜 𝓖 𝓡);
     })

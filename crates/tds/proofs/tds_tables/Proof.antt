@@ -1,7 +1,7 @@
 -- The answer of the tables, as a number; the slices are as it left them.
 use mathlib.Core.Path.{sym, ap, _∙_}
 use native.Mathlib.Omega.{arith}
-use Rattle.tds.specs.Codes.{sizesOr}
+use Rattle.tds.specs.Answers.{sizesOr}
 use Rattle.tds.proofs.Small.{sizes-small}
 use borrow.Author.Needs.{needs}
 use Rattle.tds.proofs.tds_tables.Statement.{statement}

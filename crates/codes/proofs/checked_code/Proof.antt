@@ -1,9 +1,9 @@
 -- The count of records, or the refusal's number.
 use mathlib.Core.Path.{sym, ap, _∙_}
-use Rattle.tds.specs.Codes.{recordsOr}
+use Rattle.codes.specs.Codes.{recordsOr}
 use borrow.Author.Needs.{needs}
-use Rattle.tds.proofs.checked_code.Statement.{statement}
-use Rattle.tds.proofs.checked_code.Tie as tie
+use Rattle.codes.proofs.checked_code.Statement.{statement}
+use Rattle.codes.proofs.checked_code.Tie as tie
 
 enum-known-c : tie.Need-enum-known-c
 enum-known-c c = search needs
