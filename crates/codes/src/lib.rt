@@ -1,15 +1,13 @@
-// An answer as one number, and a few numbers as bytes: what crosses the C boundary.
-use little_endian::put_long;
+// An answer as one number, for C.
 use rules::Checked;
 use rules::Refusal;
+use rules::Tabled;
+use writer::Written;
 ghost use mathlib.Core.Path.{_≡_};
-ghost use Prim.Native.Nat.{_*_, _≤_};
-ghost use lib.ListN.{length};
-ghost use Rattle.rules.specs.Bytes.{packed};
-ghost use Rattle.rules.specs.Calls.{filled};
-ghost use Rattle.codes.specs.Codes.{refusalCode, recordsOr, give};
+ghost use Rattle.mesh.specs.Within.{SizesWithin};
+ghost use Rattle.codes.specs.Codes.{refusalCode, recordsOr, sizesOr, sizeOr};
 
-// A refusal as a number. Only the writer can have a place beyond 32 bits; it is answered as the largest.
+// A refusal. Only the writer can have a place beyond 32 bits; it is answered as the largest.
 pub fn refusal_code(r: Refusal) -> u64
     ensures { λ n. ⌜ n ≡ refusalCode r ⌝ }
 {
@@ -22,38 +20,33 @@ pub fn refusal_code(r: Refusal) -> u64
     }
 }
 
-// The count of records, or a refusal, as a number.
-pub fn checked_code(c: Checked) -> u64
-    ensures { λ n. ⌜ n ≡ recordsOr c ⌝ }
+// The count of records, or a refusal.
+pub fn checked_code(checked: Checked) -> u64
+    ensures { λ n. ⌜ n ≡ recordsOr checked ⌝ }
 {
-    match c {
+    match checked {
         Checked::Accepted(counts) => counts.records as u64,
         Checked::Refused(r) => refusal_code(r),
     }
 }
 
-// The numbers, four bytes each, into the front of out.
-fn put_numbers(numbers: &[u32], out: &mut [u8])
-    requires { ⌜ 4 * length (now numbers) ≤ length (now out) ⌝ }
-    ensures { λ _. ⌜ now (out .exit) ≡ filled (packed 4 (now (numbers .entry))) (now (out .entry)) ⌝ }
+// The vertices plus 65,536 times the faces, or a refusal.
+pub fn tabled_code(tabled: Tabled) -> u64
+    requires { ⌜ SizesWithin tabled ⌝ }
+    ensures { λ n. ⌜ n ≡ sizesOr tabled ⌝ }
 {
-    let mut next = 0usize;
-    let mut i = 0usize;
-    while i < numbers.len() {
-        next = put_long(numbers[i], next, out);
-        i += 1;
+    match tabled {
+        Tabled::Filled(sizes) => sizes.vertices as u64 + 65536 * (sizes.faces as u64),
+        Tabled::Refused(r) => refusal_code(r),
     }
 }
 
-// How many numbers now stand in the front of out, or that there is no room.
-pub fn give_numbers(numbers: &[u32], out: &mut [u8]) -> u64
-    ensures answer { λ n. ⌜ n ≡ give (now (out .entry)) (now (numbers .entry)) .answer ⌝ }
-    ensures out { λ _. ⌜ now (out .exit) ≡ give (now (out .entry)) (now (numbers .entry)) .rows ⌝ }
+// The size of what was written, or a refusal.
+pub fn written_code(written: Written) -> u64
+    ensures { λ n. ⌜ n ≡ sizeOr written ⌝ }
 {
-    let n = numbers.len();
-    if out.len() / 4 < n {
-        return refusal_code(Refusal::NoRoom(n));
+    match written {
+        Written::Size(size) => size as u64,
+        Written::Refused(r) => refusal_code(r),
     }
-    put_numbers(numbers, out);
-    n as u64
 }

@@ -1,27 +1,20 @@
 // The functions that C calls. Each answers one number and fills byte slices; include/tds.h describes them for C.
 use codes::checked_code;
-use codes::give_numbers;
-use codes::refusal_code;
-use rules::Boxed;
-use rules::Checked;
-use rules::Named;
 use rules::Record;
-use rules::Tabled;
-use writer::Written;
 ghost use mathlib.Core.Path.{_≡_};
 ghost use Prim.Native.Nat.{_/_};
 ghost use lib.ListN.{length};
 ghost use Rattle.rules.specs.Encodings.{beside, flatRecords, recordTable, recordBytes, numberBytes};
-ghost use Rattle.rules.specs.Calls.{listCall, tablesCall};
+ghost use Rattle.rules.specs.Calls.{checkCall, listCall, tablesCall, nameCall, boxCall};
 ghost use Rattle.mesh.specs.Choices.{rows};
 ghost use Rattle.writer.specs.Write.{writeCall};
-ghost use Rattle.codes.specs.Codes.{recordsOr};
-ghost use Rattle.tds.specs.Answers.{checkCode, sizesOr, sizeOr, countsCode, nameCode, boxCode};
+ghost use Rattle.codes.specs.Codes.{recordsOr, sizesOr, sizeOr};
+ghost use Rattle.answers.specs.Given.{countsGiven, nameGiven, boxGiven};
 
 // The count of records, or a refusal.
 #[no_mangle]
 pub extern "C" fn tds_check(file: &[u8]) -> u64
-    ensures { λ n. ⌜ n ≡ checkCode (now (file .entry)) ⌝ }
+    ensures { λ n. ⌜ n ≡ recordsOr (checkCall (now (file .entry))) ⌝ }
 {
     checked_code(reader::check(file))
 }
@@ -51,74 +44,35 @@ pub extern "C" fn tds_tables(file: &[u8], mesh: u32, vertices: &mut [u8], corner
     ensures answer { λ n. ⌜ n ≡ sizesOr (tablesCall (numberBytes 4) (numberBytes 2) (now (file .entry)) mesh (rows (now (vertices .entry)) (now (corners .entry))) .answer) ⌝ }
     ensures rows { λ _. ⌜ rows (now (vertices .exit)) (now (corners .exit)) ≡ tablesCall (numberBytes 4) (numberBytes 2) (now (file .entry)) mesh (rows (now (vertices .entry)) (now (corners .entry))) .rows ⌝ }
 {
-    match mesh::tables_bytes(file, mesh, vertices, corners) {
-        Tabled::Filled(sizes) => sizes.vertices as u64 + 65536 * (sizes.faces as u64),
-        Tabled::Refused(r) => refusal_code(r),
-    }
+    codes::tabled_code(mesh::tables_bytes(file, mesh, vertices, corners))
 }
-
-// ---- a few numbers, four bytes each
 
 // The three byte counts, or a refusal.
 #[no_mangle]
 pub extern "C" fn tds_counts(file: &[u8], out: &mut [u8]) -> u64
-    ensures answer { λ n. ⌜ n ≡ countsCode (now (file .entry)) (now (out .entry)) .answer ⌝ }
-    ensures out { λ _. ⌜ now (out .exit) ≡ countsCode (now (file .entry)) (now (out .entry)) .rows ⌝ }
+    ensures answer { λ n. ⌜ n ≡ countsGiven (now (out .entry)) (checkCall (now (file .entry))) .answer ⌝ }
+    ensures out { λ _. ⌜ now (out .exit) ≡ countsGiven (now (out .entry)) (checkCall (now (file .entry))) .rows ⌝ }
 {
-    match reader::check(file) {
-        Checked::Refused(r) => refusal_code(r),
-        Checked::Accepted(counts) => {
-            let three = [
-                counts.headers as u32,
-                counts.own as u32,
-                counts.skipped as u32,
-            ];
-            give_numbers(&three, out)
-        }
-    }
+    answers::give_counts(reader::check(file), out)
 }
 
 // The offset and the length of a mesh's name, or a refusal.
 #[no_mangle]
 pub extern "C" fn tds_name(file: &[u8], mesh: u32, out: &mut [u8]) -> u64
-    ensures answer { λ n. ⌜ n ≡ nameCode (now (file .entry)) mesh (now (out .entry)) .answer ⌝ }
-    ensures out { λ _. ⌜ now (out .exit) ≡ nameCode (now (file .entry)) mesh (now (out .entry)) .rows ⌝ }
+    ensures answer { λ n. ⌜ n ≡ nameGiven (now (out .entry)) (nameCall (now (file .entry)) mesh) .answer ⌝ }
+    ensures out { λ _. ⌜ now (out .exit) ≡ nameGiven (now (out .entry)) (nameCall (now (file .entry)) mesh) .rows ⌝ }
 {
-    match mesh::name(file, mesh) {
-        Named::Refused(r) => refusal_code(r),
-        Named::At(span) => {
-            let two = [span.offset as u32, span.size as u32];
-            give_numbers(&two, out)
-        }
-    }
+    answers::give_name(mesh::name(file, mesh), out)
 }
 
 // The low corner, the high corner and the centre of a mesh's box, or a refusal.
 #[no_mangle]
 pub extern "C" fn tds_box(file: &[u8], mesh: u32, out: &mut [u8]) -> u64
-    ensures answer { λ n. ⌜ n ≡ boxCode (now (file .entry)) mesh (now (out .entry)) .answer ⌝ }
-    ensures out { λ _. ⌜ now (out .exit) ≡ boxCode (now (file .entry)) mesh (now (out .entry)) .rows ⌝ }
+    ensures answer { λ n. ⌜ n ≡ boxGiven (now (out .entry)) (boxCall (now (file .entry)) mesh) .answer ⌝ }
+    ensures out { λ _. ⌜ now (out .exit) ≡ boxGiven (now (out .entry)) (boxCall (now (file .entry)) mesh) .rows ⌝ }
 {
-    match mesh::bounding_box(file, mesh) {
-        Boxed::Refused(r) => refusal_code(r),
-        Boxed::Around(b, centre) => {
-            let nine = [
-                f32::to_bits(b.low.x),
-                f32::to_bits(b.low.y),
-                f32::to_bits(b.low.z),
-                f32::to_bits(b.high.x),
-                f32::to_bits(b.high.y),
-                f32::to_bits(b.high.z),
-                f32::to_bits(centre.x),
-                f32::to_bits(centre.y),
-                f32::to_bits(centre.z),
-            ];
-            give_numbers(&nine, out)
-        }
-    }
+    answers::give_box(mesh::bounding_box(file, mesh), out)
 }
-
-// ---- the writer
 
 // The size of the figure that now stands in the front of out, or a refusal.
 #[no_mangle]
@@ -126,8 +80,5 @@ pub extern "C" fn tds_write(name: &[u8], vertices: &[f32], corners: &[u16], out:
     ensures answer { λ n. ⌜ n ≡ sizeOr (writeCall (now (name .entry)) (now (vertices .entry)) (now (corners .entry)) (now (out .entry)) .answer) ⌝ }
     ensures out { λ _. ⌜ now (out .exit) ≡ writeCall (now (name .entry)) (now (vertices .entry)) (now (corners .entry)) (now (out .entry)) .rows ⌝ }
 {
-    match writer::write(name, vertices, corners, out) {
-        Written::Size(size) => size as u64,
-        Written::Refused(r) => refusal_code(r),
-    }
+    codes::written_code(writer::write(name, vertices, corners, out))
 }

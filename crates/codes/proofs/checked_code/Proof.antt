@@ -5,11 +5,11 @@ use borrow.Author.Needs.{needs}
 use Rattle.codes.proofs.checked_code.Statement.{statement}
 use Rattle.codes.proofs.checked_code.Tie as tie
 
-enum-known-c : tie.Need-enum-known-c
-enum-known-c c = search needs
+enum-known-checked : tie.Need-enum-known-checked
+enum-known-checked c = search needs
 
-enum-known-c-2 : tie.Need-enum-known-c-2
-enum-known-c-2 c = search needs
+enum-known-checked-2 : tie.Need-enum-known-checked-2
+enum-known-checked-2 c = search needs
 
 refusal-code-requires : tie.Need-refusal-code-requires
 refusal-code-requires c κs = search needs
@@ -18,8 +18,8 @@ returns : tie.Need-returns
 returns c = search needs
 
 returns-2 : tie.Need-returns-2
-returns-2 c = c .refusal-code .ensures ∙ ap recordsOr (sym (c .before .before .c2 .given .1))
+returns-2 c = c .refusal-code .ensures ∙ ap recordsOr (sym (c .before .before .checked2 .given .1))
 
 pub checked-code-spec : {M : Type 1} → statement M
 checked-code-spec =
-    tie.close (tie.spec enum-known-c enum-known-c-2 refusal-code-requires returns returns-2)
+    tie.close (tie.spec enum-known-checked enum-known-checked-2 refusal-code-requires returns returns-2)

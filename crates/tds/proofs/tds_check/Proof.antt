@@ -1,7 +1,6 @@
 -- The answer of the check, as a number.
 use mathlib.Core.Path.{ap, _∙_}
 use Rattle.codes.specs.Codes.{recordsOr}
-use Rattle.tds.specs.Answers.{checkCode}
 use borrow.Author.Needs.{needs}
 use Rattle.tds.proofs.tds_check.Statement.{statement}
 use Rattle.tds.proofs.tds_check.Tie as tie
@@ -13,7 +12,6 @@ checked-code-requires : tie.Need-checked-code-requires
 checked-code-requires c κs = search needs
 
 returns : tie.Need-returns
-unfolding checkCode
 returns c = c .checked-code .ensures ∙ ap recordsOr (c .before .check .ensures)
 
 pub tds-check-spec : {M : Type 1} → statement M

@@ -7,15 +7,16 @@ use borrow.Author.Tests.{le-leb, lt-leb}
 use Rattle.rules.specs.declared.Refusal.the-variants.{NoRoom}
 use Rattle.rules.specs.Bytes.{packed}
 use Rattle.rules.specs.Calls.{Effect, leaving, filled}
-use Rattle.codes.specs.Codes.{refusalCode, give}
+use Rattle.codes.specs.Codes.{refusalCode}
+use Rattle.answers.specs.Given.{given}
 
 -- what a call answers and leaves, in two parts
 pub parts : {x y : Effect ℕ (List ℕ)} → x ≡ y → (x .answer ≡ y .answer) × (x .rows ≡ y .rows)
 parts e = (ap (λ (z : Effect ℕ (List ℕ)). z .answer) e, ap (λ (z : Effect ℕ (List ℕ)). z .rows) e)
 
 module _ (ns out : List ℕ) where
-  pub no-room : length out / 4 < length ns → leaving (refusalCode (NoRoom (length ns))) out ≡ give out ns
+  pub no-room : length out / 4 < length ns → leaving (refusalCode (NoRoom (length ns))) out ≡ given out ns
   no-room h = rw (lt-leb (length ns) (length out / 4) h)
 
-  pub has-room : length ns ≤ length out / 4 → leaving (length ns) (filled (packed 4 ns) out) ≡ give out ns
+  pub has-room : length ns ≤ length out / 4 → leaving (length ns) (filled (packed 4 ns) out) ≡ given out ns
   has-room h = rw (le-leb (length ns) (length out / 4) h)

@@ -10,8 +10,8 @@ use Rattle.rules.specs.Calls.{filled}
 use Rattle.rules.proofs.Bytes.{packed-more}
 use Rattle.little_endian.specs.Put.{Put}
 use Rattle.little_endian.proofs.Put.{put-none, put-then, put-front}
-use Rattle.codes.proofs.put_numbers.Statement.{statement}
-use Rattle.codes.proofs.put_numbers.Tie as tie
+use Rattle.answers.proofs.put_numbers.Statement.{statement}
+use Rattle.answers.proofs.put_numbers.Tie as tie
 
 abbrev Inv-loop : tie.InvT-loop
 Inv-loop numbers out₀ next₀ i₀ out next i = (i ≤ length numbers) × (length out ≡ length out₀) × (next ≡ 4 * i) × Put out₀ 0 (packed 4 (take i numbers)) out next

@@ -1,9 +1,9 @@
 -- There is no room, or the numbers are put.
 use mathlib.Core.Path.{_∙_}
-use Rattle.codes.proofs.Gives.{parts, no-room, has-room}
+use Rattle.answers.proofs.Gives.{parts, no-room, has-room}
 use borrow.Author.Needs.{needs}
-use Rattle.codes.proofs.give_numbers.Statement.{statement}
-use Rattle.codes.proofs.give_numbers.Tie as tie
+use Rattle.answers.proofs.give_numbers.Statement.{statement}
+use Rattle.answers.proofs.give_numbers.Tie as tie
 
 refusal-code-requires : tie.Need-refusal-code-requires
 refusal-code-requires c κs = search needs

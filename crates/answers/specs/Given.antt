@@ -1,0 +1,49 @@
+-- Answers of a few numbers, four bytes each: the answer is how many there are, or 15 with that; and what is left in the
+-- lent bytes.
+use Prim.Native.Nat.{ℕ, _^_, _<_}
+use mathlib.Core.Bool.{cond}
+use mathlib.Core.List.{List, [], _∷_, map}
+use lib.Dec.{leb}
+use lib.Ieee.{Float, binary32, toBits}
+use lib.ListN.{length}
+use Rattle.rules.specs.declared.Refusal.{Refusal}
+use Rattle.rules.specs.declared.Refusal.the-variants.{NoRoom}
+use Rattle.rules.specs.declared.Checked.{Checked}
+use Rattle.rules.specs.declared.Named.{Named}
+use Rattle.rules.specs.declared.Boxed.{Boxed}
+use Rattle.rules.specs.declared.Corner.{Corner}
+use Rattle.rules.specs.Encodings.{numberBytes}
+use Rattle.rules.specs.Calls.{Effect, leaving, filled}
+use Rattle.codes.specs.Codes.{refusalCode}
+
+abbrev pub given : List ℕ → List ℕ → Effect ℕ (List ℕ)
+given out ns =
+    cond (leb (length ns) (numberBytes 4 .room (length out)))
+    (leaving (length ns) (filled (numberBytes 4 .encode ns) out))
+    (leaving (refusalCode (NoRoom (length ns))) out)
+
+abbrev pub refused : List ℕ → Refusal → Effect ℕ (List ℕ)
+refused out r = leaving (refusalCode r) out
+
+-- the three byte counts
+abbrev pub countsGiven : List ℕ → Checked → Effect ℕ (List ℕ)
+countsGiven out (Checked.Accepted c) = given out (c .headers ∷ c .own ∷ c .skipped ∷ [])
+countsGiven out (Checked.Refused r) = refused out r
+
+-- each fits 32 bits
+abbrev pub CountsWithin : Checked → Type 0
+CountsWithin (Checked.Accepted c) = (c .headers < 2 ^ 32) × (c .own < 2 ^ 32) × (c .skipped < 2 ^ 32)
+CountsWithin (Checked.Refused r) = Unit
+
+-- a name's offset and length
+abbrev pub nameGiven : List ℕ → Named → Effect ℕ (List ℕ)
+nameGiven out (Named.At span) = given out (span .offset ∷ span .size ∷ [])
+nameGiven out (Named.Refused r) = refused out r
+
+-- the low corner of a box, the high one, and the centre
+abbrev pub nine : Corner → Corner → Corner → List Float
+nine low high centre = low .x ∷ low .y ∷ low .z ∷ high .x ∷ high .y ∷ high .z ∷ centre .x ∷ centre .y ∷ centre .z ∷ []
+
+abbrev pub boxGiven : List ℕ → Boxed → Effect ℕ (List ℕ)
+boxGiven out (Boxed.Around box centre) = given out (map (toBits binary32) (nine (box .low) (box .high) centre))
+boxGiven out (Boxed.Refused r) = refused out r
