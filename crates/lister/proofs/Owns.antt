@@ -10,9 +10,9 @@ use Rattle.rules.specs.Table.{Shape}
 use Rattle.rules.specs.OwnData.{ownSize}
 use Rattle.rules.proofs.OwnSize.{own-size-more, has-name}
 use Rattle.table_row.specs.Packed.{plusIn, shapeIn}
-use Rattle.own_data.specs.declared.Own.{Own}
-use Rattle.own_data.specs.declared.Own.the-variants.{NoName, TooLong, Size}
-use Rattle.own_data.specs.Own.{OwnIs}
+use Rattle.sizes.specs.declared.Own.{Own}
+use Rattle.sizes.specs.declared.Own.the-variants.{NoName, TooLong, Size}
+use Rattle.sizes.specs.Own.{OwnIs}
 use Rattle.lister.specs.Laid.{Begins, sizeOf}
 
 own-answer : (sh : Shape) (around own more body : List ℕ) → ownSize sh around own ≡ length own → own ++ more ≡ body → (r : Own) → OwnIs sh around body r → sizeOf r ≡ length own

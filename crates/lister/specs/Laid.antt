@@ -18,8 +18,8 @@ use Rattle.rules.specs.Walk.{Answer, refused, accepted, verdict}
 use Rattle.rules.specs.Gives.{recordCount, recordsOf, list, flat}
 use Rattle.rules.specs.Calls.{Effect, leaving, countsOf}
 use Rattle.table_row.specs.Packed.{shapeIn, plusIn}
-use Rattle.own_data.specs.declared.Own.{Own}
-use Rattle.own_data.specs.declared.Own.the-variants.{NoName, TooLong, Size}
+use Rattle.sizes.specs.declared.Own.{Own}
+use Rattle.sizes.specs.declared.Own.the-variants.{NoName, TooLong, Size}
 
 -- the first chunk of a run, alone
 abbrev pub first : Run → Run

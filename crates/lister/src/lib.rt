@@ -4,10 +4,10 @@
 use little_endian::long_at;
 use little_endian::put_long;
 use little_endian::word_at;
-use own_data::Own;
 use rules::Checked;
 use rules::Record;
 use rules::Refusal;
+use sizes::Own;
 ghost use mathlib.Core.Path.{_≡_};
 ghost use mathlib.Core.Bool.{true};
 ghost use mathlib.Core.List.{List, [], _∷_, _++_};
@@ -85,9 +85,9 @@ fn own_length(file: &[u8], row: u64, at: usize, stop: usize) -> usize
     let size = table_row::size(row);
     let kind = table_row::kind(row);
     match kind {
-        0 => size_of(own_data::fitting(size, stop - at)),
-        1 => size_of(own_data::name_size(file, at, stop)),
-        _ => size_of(own_data::counted_size(file, size, at, stop)),
+        0 => size_of(sizes::fitting(size, stop - at)),
+        1 => size_of(sizes::name_size(file, at, stop)),
+        _ => size_of(sizes::counted_size(file, size, at, stop)),
     }
 }
 

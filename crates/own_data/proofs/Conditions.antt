@@ -23,9 +23,10 @@ use Rattle.rules.proofs.OwnSize.{own-size-less}
 use Rattle.little_endian.proofs.Slices.{take-slice}
 use Rattle.table_row.specs.Packed.{rowOf, plusIn, plainIn, sizeIn, shapeIn}
 use Rattle.table_row.proofs.Facts.{plus-is, shape-is, Plain, plain-is}
-use Rattle.own_data.specs.declared.Own.{Own}
+use Rattle.sizes.specs.declared.Own.{Own}
+use Rattle.sizes.specs.Own.{Fits, Exceeds, OwnIs, CountIs}
 use Rattle.own_data.specs.declared.Judged.{Judged}
-use Rattle.own_data.specs.Own.{Fits, Exceeds, OwnIs, CountIs, Exact, JudgedIs, Judges}
+use Rattle.own_data.specs.Judges.{Exact, JudgedIs, Judges}
 
 -- some own data with a given count word
 pub some-around : (n : ℕ) → n < 65536 → CountIs (le 2 n) n

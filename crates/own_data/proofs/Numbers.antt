@@ -15,7 +15,8 @@ use Rattle.rules.specs.Rules.{Parent, allBelow, numbersFinite, faceNumbersBelow
 use Rattle.little_endian.specs.Numbers.{wordAt}
 use Rattle.little_endian.proofs.Slices.{word-slice, drop-slice}
 use Rattle.scan.proofs.Parts.{numbers-slice}
-use Rattle.own_data.specs.Own.{CountIs, Exact}
+use Rattle.sizes.specs.Own.{CountIs}
+use Rattle.own_data.specs.Judges.{Exact}
 
 and-true : (b : Bool) → (b && true) ≡ b
 and-true true = refl

@@ -15,7 +15,7 @@ use Rattle.rules.specs.Walk.{pass}
 use Rattle.rules.proofs.Once.{few-nil}
 use Rattle.table_row.specs.Packed.{rowOf, slotIn, slotOf, mayHoldIn}
 use Rattle.table_row.proofs.Facts.{may-hold-is, slot-small}
-use Rattle.own_data.specs.Own.{CountIs}
+use Rattle.sizes.specs.Own.{CountIs}
 use Rattle.marks.specs.Marks.{tallySlot, free, noMarks}
 use Rattle.marks.proofs.Slots.{free-is}
 use Rattle.reader.specs.declared.Head.{Head}

@@ -22,7 +22,8 @@ use Rattle.little_endian.proofs.Slices.{drop-slice, take-slice, word-slice, lon
 use Rattle.table_row.specs.Packed.{rowOf, slotOf}
 use Rattle.table_row.proofs.Facts.{row-of-listed, row-of-unlisted}
 use Rattle.own_data.specs.declared.Judged.{Judged}
-use Rattle.own_data.specs.Own.{CountIs, JudgedIs, Judges}
+use Rattle.sizes.specs.Own.{CountIs}
+use Rattle.own_data.specs.Judges.{JudgedIs, Judges}
 use Rattle.own_data.proofs.Conditions.{some-around}
 use Rattle.reader.specs.declared.Header.{Header}
 use Rattle.reader.specs.declared.Head.{Head}

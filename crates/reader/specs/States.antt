@@ -16,7 +16,7 @@ use Rattle.rules.specs.Gives.{recordCount, skipped}
 use Rattle.rules.specs.Walk.{Step, stop, pass, enter, broken, ownConditions, opened, Answer, refused, accepted, ended, walk}
 use Rattle.little_endian.specs.Numbers.{wordAt, longAt}
 use Rattle.table_row.specs.Packed.{rowOf, slotOf}
-use Rattle.own_data.specs.Own.{CountIs}
+use Rattle.sizes.specs.Own.{CountIs}
 use Rattle.marks.specs.Marks.{tallySlot, Under, marksAfter}
 use Rattle.reader.specs.declared.Header.{Header}
 use Rattle.reader.specs.declared.Head.{Head}

@@ -17,7 +17,7 @@ ghost use mathlib.Core.Bool.{true};
 ghost use Rattle.rules.specs.Table.{listed};
 ghost use Rattle.rules.specs.Rules.{Parent};
 ghost use Rattle.table_row.specs.Packed.{rowOf};
-ghost use Rattle.own_data.specs.Own.{CountIs};
+ghost use Rattle.sizes.specs.Own.{CountIs};
 ghost use Rattle.rules.specs.Walk.{broken, fileConditions, headerConditions, lengthField, step, walk};
 ghost use Rattle.rules.specs.Calls.{checkOf, checkCall};
 ghost use Rattle.marks.specs.Marks.{ShutIs};
@@ -82,7 +82,7 @@ fn look_listed(file: &[u8], id: usize, row: u64, count: u32, at: usize, stop: us
                 Head::Enter {
                     id,
                     row,
-                    count: own_data::count_of(file, at + 6, from),
+                    count: sizes::count_of(file, at + 6, from),
                     from,
                     stop,
                 }

@@ -7,7 +7,7 @@ use borrow.Author.Needs.{needs}
 use borrow.Author.Tests.{not-true, not-false}
 use Rattle.rules.specs.Table.{name, counted}
 use Rattle.table_row.specs.Packed.{sizeIn, kindIn}
-use Rattle.own_data.proofs.Sizes.{fixed-is, kind-fixed, kind-name, kind-counted, around-any}
+use Rattle.sizes.proofs.Sizes.{fixed-is, kind-fixed, kind-name, kind-counted, around-any}
 use Rattle.lister.proofs.Owns.{found-shape, found-leaf}
 use Rattle.lister.proofs.own_length.Statement.{statement}
 use Rattle.lister.proofs.own_length.Tie as tie

@@ -9,7 +9,7 @@ use borrow.Author.Tests.{not-true, not-false}
 use Rattle.rules.specs.Bytes.{le}
 use Rattle.rules.specs.Layout.{end}
 use Rattle.rules.specs.Rules.{numbersFinite, faceNumbersBelow}
-use Rattle.own_data.specs.declared.Own.{Own}
+use Rattle.sizes.specs.declared.Own.{Own}
 use Rattle.own_data.proofs.Conditions.{some-around, judge-no-name, judge-too-long, judge-left-over, judge-number, judge-index, judge-fine, own-of-row, own-ends, own-is, exact, left-over-is}
 use borrow.Author.Needs.{needs}
 use Rattle.own_data.proofs.judge_any.Statement.{statement}

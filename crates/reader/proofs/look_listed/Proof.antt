@@ -7,7 +7,7 @@ use lib.Seq.{slice}
 use Rattle.rules.specs.Walk.{Step}
 use Rattle.table_row.specs.Packed.{plusIn}
 use Rattle.table_row.proofs.Facts.{plus-is}
-use Rattle.own_data.specs.Own.{Judges}
+use Rattle.own_data.specs.Judges.{Judges}
 use Rattle.reader.specs.declared.Head.{Head}
 use Rattle.reader.specs.States.{HeadIs}
 use Rattle.reader.proofs.Opens.{opened-fault, judged-ends, opened-enters, head-enter, head-leaf}

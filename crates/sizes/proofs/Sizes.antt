@@ -13,9 +13,9 @@ use Rattle.rules.specs.OwnData.{nameSize, count, ownSize, hasName}
 use Rattle.little_endian.specs.Numbers.{wordAt}
 use Rattle.little_endian.proofs.Slices.{word-slice, drop-slice}
 use Rattle.table_row.specs.Packed.{kindIn, sizeIn, shapeFrom, shapeIn}
-use Rattle.own_data.specs.declared.Own.{Own}
-use Rattle.own_data.specs.declared.Own.the-variants.{NoName, TooLong, Size}
-use Rattle.own_data.specs.Own.{Fitted, Fits, Exceeds, OwnIs, CountIs}
+use Rattle.sizes.specs.declared.Own.{Own}
+use Rattle.sizes.specs.declared.Own.the-variants.{NoName, TooLong, Size}
+use Rattle.sizes.specs.Own.{Fitted, Fits, Exceeds, OwnIs, CountIs}
 
 -- a product of a byte and a word, which the code computes
 pub product-small : (a b : ℕ) → a < 256 → b < 65536 → a * b ≤ 16711425

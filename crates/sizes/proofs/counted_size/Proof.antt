@@ -1,10 +1,10 @@
 -- A count word that is not there, or the size that it gives.
 use native.Mathlib.Omega.{arith}
 use borrow.Author.Needs.{needs}
-use Rattle.own_data.proofs.Sizes.{product-small, counted-is, counted-short}
+use Rattle.sizes.proofs.Sizes.{product-small, counted-is, counted-short}
 use borrow.Author.Needs.{needs}
-use Rattle.own_data.proofs.counted_size.Statement.{statement}
-use Rattle.own_data.proofs.counted_size.Tie as tie
+use Rattle.sizes.proofs.counted_size.Statement.{statement}
+use Rattle.sizes.proofs.counted_size.Tie as tie
 
 sub-room : tie.Need-sub-room
 sub-room c = search needs

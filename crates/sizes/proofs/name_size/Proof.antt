@@ -3,10 +3,10 @@ use mathlib.Core.Path.{refl}
 use native.Mathlib.Omega.{arith}
 use borrow.Author.Needs.{needs}
 use Rattle.rules.specs.Table.{name}
-use Rattle.own_data.proofs.Sizes.{name-is, no-name}
+use Rattle.sizes.proofs.Sizes.{name-is, no-name}
 use borrow.Author.Needs.{needs}
-use Rattle.own_data.proofs.name_size.Statement.{statement}
-use Rattle.own_data.proofs.name_size.Tie as tie
+use Rattle.sizes.proofs.name_size.Statement.{statement}
+use Rattle.sizes.proofs.name_size.Tie as tie
 
 name-size-requires : tie.Need-name-size-requires
 name-size-requires c κs = search needs

@@ -3,10 +3,10 @@ use mathlib.Core.Path.{refl}
 use native.Mathlib.Omega.{arith}
 use borrow.Author.Needs.{needs}
 use Rattle.rules.specs.Table.{named-words}
-use Rattle.own_data.proofs.Sizes.{no-name, words-short, words-is}
+use Rattle.sizes.proofs.Sizes.{no-name, words-short, words-is}
 use borrow.Author.Needs.{needs}
-use Rattle.own_data.proofs.named_words_size.Statement.{statement}
-use Rattle.own_data.proofs.named_words_size.Tie as tie
+use Rattle.sizes.proofs.named_words_size.Statement.{statement}
+use Rattle.sizes.proofs.named_words_size.Tie as tie
 
 name-size-requires : tie.Need-name-size-requires
 name-size-requires c κs = search needs

@@ -5,10 +5,10 @@ use borrow.Author.Needs.{needs}
 use Rattle.rules.specs.Table.{name, counted, named-words}
 use Rattle.table_row.specs.Packed.{sizeIn}
 use lib.Seq.{slice}
-use Rattle.own_data.proofs.Sizes.{product-small, fixed-is, each-is, kind-fixed, kind-name, kind-counted, kind-each, kind-words, around-any}
+use Rattle.sizes.proofs.Sizes.{product-small, fixed-is, each-is, kind-fixed, kind-name, kind-counted, kind-each, kind-words, around-any}
 use borrow.Author.Needs.{needs}
-use Rattle.own_data.proofs.own_size.Statement.{statement}
-use Rattle.own_data.proofs.own_size.Tie as tie
+use Rattle.sizes.proofs.own_size.Statement.{statement}
+use Rattle.sizes.proofs.own_size.Tie as tie
 
 kind-requires : tie.Need-kind-requires
 kind-requires c κs = search needs

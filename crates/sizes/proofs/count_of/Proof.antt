@@ -3,11 +3,11 @@ use mathlib.Core.Path.{refl}
 use native.Mathlib.Omega.{arith}
 use lib.ListN.{getD}
 use borrow.Author.Needs.{needs}
-use Rattle.own_data.proofs.Sizes.{count-none, count-one, count-word}
+use Rattle.sizes.proofs.Sizes.{count-none, count-one, count-word}
 use lib.ListN.{getD}
 use borrow.Author.Needs.{needs}
-use Rattle.own_data.proofs.count_of.Statement.{statement}
-use Rattle.own_data.proofs.count_of.Tie as tie
+use Rattle.sizes.proofs.count_of.Statement.{statement}
+use Rattle.sizes.proofs.count_of.Tie as tie
 
 sub-if1 : tie.Need-sub-if1
 sub-if1 c = search needs
