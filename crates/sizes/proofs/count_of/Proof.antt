@@ -4,8 +4,6 @@ use native.Mathlib.Omega.{arith}
 use lib.ListN.{getD}
 use borrow.Author.Needs.{needs}
 use Rattle.sizes.proofs.Sizes.{count-none, count-one, count-word}
-use lib.ListN.{getD}
-use borrow.Author.Needs.{needs}
 use Rattle.sizes.proofs.count_of.Statement.{statement}
 use Rattle.sizes.proofs.count_of.Tie as tie
 

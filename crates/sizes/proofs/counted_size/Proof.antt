@@ -2,7 +2,6 @@
 use native.Mathlib.Omega.{arith}
 use borrow.Author.Needs.{needs}
 use Rattle.sizes.proofs.Sizes.{product-small, counted-is, counted-short}
-use borrow.Author.Needs.{needs}
 use Rattle.sizes.proofs.counted_size.Statement.{statement}
 use Rattle.sizes.proofs.counted_size.Tie as tie
 

@@ -4,7 +4,6 @@ use native.Mathlib.Omega.{arith}
 use borrow.Author.Needs.{needs}
 use Rattle.rules.specs.Table.{name}
 use Rattle.sizes.proofs.Sizes.{name-is, no-name}
-use borrow.Author.Needs.{needs}
 use Rattle.sizes.proofs.name_size.Statement.{statement}
 use Rattle.sizes.proofs.name_size.Tie as tie
 

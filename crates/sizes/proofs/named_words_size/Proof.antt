@@ -4,7 +4,6 @@ use native.Mathlib.Omega.{arith}
 use borrow.Author.Needs.{needs}
 use Rattle.rules.specs.Table.{named-words}
 use Rattle.sizes.proofs.Sizes.{no-name, words-short, words-is}
-use borrow.Author.Needs.{needs}
 use Rattle.sizes.proofs.named_words_size.Statement.{statement}
 use Rattle.sizes.proofs.named_words_size.Tie as tie
 

@@ -6,7 +6,6 @@ use Rattle.rules.specs.Table.{name, counted, named-words}
 use Rattle.table_row.specs.Packed.{sizeIn}
 use lib.Seq.{slice}
 use Rattle.sizes.proofs.Sizes.{product-small, fixed-is, each-is, kind-fixed, kind-name, kind-counted, kind-each, kind-words, around-any}
-use borrow.Author.Needs.{needs}
 use Rattle.sizes.proofs.own_size.Statement.{statement}
 use Rattle.sizes.proofs.own_size.Tie as tie
 

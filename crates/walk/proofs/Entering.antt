@@ -6,22 +6,23 @@ use lib.ListN.{length, set}
 use lib.Seq.{slice}
 use Rattle.rules.specs.declared.Refusal.{Refusal}
 use Rattle.rules.specs.Bytes.{Bytes}
-use Rattle.rules.specs.Table.{listed}
 use Rattle.rules.specs.Layout.{Run}
 use Rattle.rules.specs.Rules.{Parent, inside}
-use Rattle.rules.specs.Walk.{Step, enter, broken, endConditions, refused, accepted, step, walk}
+use Rattle.rules.specs.Walk.{Step, enter, broken, endConditions, step, walk}
 use Rattle.rules.proofs.Rows.{under-listed}
 use Rattle.rules.proofs.Steps.{Says, Entered, step-says}
 use Rattle.table_row.specs.Packed.{slotOf}
 use Rattle.marks.specs.declared.Shut.{Shut}
 use Rattle.marks.specs.Marks.{noMarks, Kept, ShutIs, MeshPlaced}
 use Rattle.marks.proofs.Ends.{mesh-placed, kept-small}
-use Rattle.reader.specs.declared.Head.{Head}
-use Rattle.reader.specs.declared.Ran.{Ran}
-use Rattle.reader.specs.States.{Context, HeadIs, MarksAre, ChunkIs, RunIs}
-use Rattle.reader.proofs.Contexts.{context-inside}
-use Rattle.reader.proofs.Parts.{bytes-slice, PartsAt, EnteredAt, step-parts}
-use Rattle.reader.proofs.Chunks.{Entering, entering, Ran-well, run-refused, run-accepted, chunk-refused, chunk-shut, chunk-done}
+use Rattle.head.specs.declared.Head.{Head}
+use Rattle.walk.specs.declared.Ran.{Ran}
+use Rattle.head.specs.Heads.{HeadIs, MarksAre}
+use Rattle.head.specs.Contexts.{Context}
+use Rattle.walk.specs.Runs.{ChunkIs, RunIs}
+use Rattle.walk.proofs.Contexts.{context-inside}
+use Rattle.walk.proofs.Parts.{bytes-slice, PartsAt, EnteredAt, step-parts}
+use Rattle.walk.proofs.Chunks.{Entering, entering, Ran-well, run-refused, run-accepted, chunk-refused, chunk-shut, chunk-done}
 
 module _ (s : List ℕ) (at end : ℕ) (o : at < end) (l : end ≤ length s) (b : Bytes s) (q : Parent) (seen ms ms₁ : List ℕ) (r : Head)
     (head : HeadIs at (step q seen at (slice at end s)) r) (marks : MarksAre at (step q seen at (slice at end s)) ms ms₁)

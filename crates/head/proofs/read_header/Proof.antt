@@ -1,10 +1,9 @@
 -- Each test answers one condition of a header.
 use native.Mathlib.Omega.{arith}
 use borrow.Author.Needs.{needs}
-use Rattle.reader.proofs.Opens.{header-stray, header-short, header-overrun, header-fine}
-use borrow.Author.Needs.{needs}
-use Rattle.reader.proofs.read_header.Statement.{statement}
-use Rattle.reader.proofs.read_header.Tie as tie
+use Rattle.head.proofs.Opens.{header-stray, header-short, header-overrun, header-fine}
+use Rattle.head.proofs.read_header.Statement.{statement}
+use Rattle.head.proofs.read_header.Tie as tie
 
 sub-if1 : tie.Need-sub-if1
 sub-if1 c = search needs

@@ -6,8 +6,9 @@ use lib.ListN.{length}
 use lib.Seq.{slice}
 use Rattle.rules.specs.Rules.{Parent}
 use Rattle.rules.specs.Walk.{walk}
-use Rattle.reader.specs.declared.Ran.{Ran}
-use Rattle.reader.specs.States.{Context, SomeContext, RunIs}
+use Rattle.walk.specs.declared.Ran.{Ran}
+use Rattle.head.specs.Contexts.{Context}
+use Rattle.walk.specs.Runs.{SomeContext, RunIs}
 
 -- the children seen so far, and what the rest of the run tells of the whole
 pub record Later (s : List ℕ) (row word at end : ℕ) (ms₀ ms : List ℕ) (p records skips : ℕ) (q : Parent) (seen : List ℕ) : Type 0 where

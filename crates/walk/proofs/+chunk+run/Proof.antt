@@ -12,27 +12,28 @@ use Rattle.rules.specs.Rules.{inside}
 use Rattle.rules.specs.Walk.{step, walk}
 use Rattle.rules.proofs.Steps.{step-says}
 use Rattle.marks.specs.Marks.{noMarks}
-use Rattle.reader.specs.declared.Head.{Head}
-use Rattle.reader.specs.declared.Ran.{Ran}
-use Rattle.reader.specs.States.{HeadIs, HeadWithin, ChunkIs, ChunkWithin, RunIs, RunWithin}
-use Rattle.reader.proofs.Parts.{bytes-slice, step-parts, walk-part}
-use Rattle.reader.proofs.Chunks.{chunk-fault, chunk-skip, chunk-leaf}
-use Rattle.reader.proofs.Entering.{ent, inner-context, enter-refused, enter-placed, enter-shut, enter-done}
-use Rattle.reader.proofs.Runs.{run-stops, run-goes-on, run-ends}
-use Rattle.reader.proofs.Loop.{Sofar}
+use Rattle.head.specs.declared.Head.{Head}
+use Rattle.walk.specs.declared.Ran.{Ran}
+use Rattle.head.specs.Heads.{HeadIs, HeadWithin}
+use Rattle.walk.specs.Runs.{ChunkIs, ChunkWithin, RunIs, RunWithin}
+use Rattle.walk.proofs.Parts.{bytes-slice, step-parts, walk-part}
+use Rattle.walk.proofs.Chunks.{chunk-fault, chunk-skip, chunk-leaf}
+use Rattle.walk.proofs.Entering.{ent, inner-context, enter-refused, enter-placed, enter-shut, enter-done}
+use Rattle.walk.proofs.Runs.{run-stops, run-goes-on, run-ends}
+use Rattle.walk.proofs.Loop.{Sofar}
 use Prim.Native.Nat.{ℕ, _<_}
 use borrow.Fn.Kinds.{In}
 use borrow.Fn.PlainCycle.{Measures, is, falls, and}
-use Rattle.reader.proofs.chunk.Reads as chunk
-use Rattle.reader.proofs.chunk.Kinds as chunk-kinds
-use Rattle.reader.proofs.+chunk+run.Lts-chunk as chunk-lts
-use Rattle.reader.proofs.run.Reads as run
-use Rattle.reader.proofs.run.Kinds as run-kinds
-use Rattle.reader.proofs.+chunk+run.Lts-run as run-lts
+use Rattle.walk.proofs.chunk.Reads as chunk
+use Rattle.walk.proofs.chunk.Kinds as chunk-kinds
+use Rattle.walk.proofs.+chunk+run.Lts-chunk as chunk-lts
+use Rattle.walk.proofs.run.Reads as run
+use Rattle.walk.proofs.run.Kinds as run-kinds
+use Rattle.walk.proofs.+chunk+run.Lts-run as run-lts
 use Rattle.marks.proofs.at_end.Reads as at-end-reads
-use Rattle.reader.proofs.look.Reads as look-reads
-use Rattle.reader.proofs.+chunk+run.{statement}
-use Rattle.reader.proofs.+chunk+run.Tie.{close}
+use Rattle.head.proofs.look.Reads as look-reads
+use Rattle.walk.proofs.+chunk+run.{statement}
+use Rattle.walk.proofs.+chunk+run.Tie.{close}
 
 abbrev μ-chunk : Measures 2 chunk-kinds.ps ℕ
 μ-chunk κs a = (a .1 .1 .1 .1 .0 - a .1 .1 .1 .0) * 2

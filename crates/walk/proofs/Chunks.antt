@@ -1,6 +1,6 @@
 -- A chunk by what stands at its start: a fault, an unlisted chunk, a leaf; and one with children, when they have been read.
 use mathlib.Core.Path.{_≡_, refl, sym, ap, _∙_, subst}
-use mathlib.Core.Bool.{Bool, true, false, not, cond, true≢false}
+use mathlib.Core.Bool.{Bool, true, false, cond, true≢false}
 use mathlib.Core.List.{List, []}
 use mathlib.Core.Option.{Option, none, some}
 use Prim.Native.Nat.{ℕ, suc, _+_, _-_, _≤_}
@@ -27,10 +27,11 @@ use Rattle.table_row.specs.Packed.{rowOf, slotOf}
 use Rattle.table_row.proofs.Facts.{leaf-is}
 use Rattle.marks.specs.declared.Shut.{Shut}
 use Rattle.marks.specs.Marks.{noMarks, Kept, ShutIs}
-use Rattle.reader.specs.declared.Head.{Head}
-use Rattle.reader.specs.declared.Ran.{Ran}
-use Rattle.reader.specs.States.{HeadIs, MarksAre, ClosedIs, ChunkIs, RunIs}
-use Rattle.reader.proofs.Parts.{bytes-slice}
+use Rattle.head.specs.declared.Head.{Head}
+use Rattle.walk.specs.declared.Ran.{Ran}
+use Rattle.head.specs.Heads.{HeadIs, MarksAre}
+use Rattle.walk.specs.Runs.{ClosedIs, ChunkIs, RunIs}
+use Rattle.walk.proofs.Parts.{bytes-slice}
 
 -- nothing is two things at once
 pub clash : _≡_ {A = ℕ} 0 1 → ⊥

@@ -6,21 +6,21 @@ use native.Mathlib.Omega.{arith}
 use lib.ListN.{length, take, set, drop-of-length-le, length-take}
 use lib.Seq.{slice}
 use Rattle.rules.specs.declared.Refusal.{Refusal}
-use Rattle.rules.specs.Layout.{Run, size, bytes}
+use Rattle.rules.specs.Layout.{Run, size}
 use Rattle.rules.specs.Rules.{Parent, inside}
 use Rattle.rules.specs.Gives.{recordCount, skipped}
 use Rattle.rules.specs.Walk.{Step, stop, pass, enter, Answer, refused, accepted, ended, withSkip, withKnown, taken, walk}
 use Rattle.rules.proofs.Once.{few-nil}
-use Rattle.rules.proofs.Rows.{under-listed}
 use Rattle.rules.proofs.Sound.{length-bytes, Closes, ended-closes}
 use Rattle.rules.proofs.Steps.{Says}
 use Rattle.rules.proofs.Fuel.{walk-nil}
-use Rattle.table_row.specs.Packed.{rowOf, slotOf}
-use Rattle.reader.specs.declared.Ran.{Ran}
-use Rattle.reader.specs.States.{Context, ClosedIs, ChunkIs, RunIs}
-use Rattle.reader.proofs.Contexts.{context-next}
-use Rattle.reader.proofs.Parts.{PartsAt}
-use Rattle.reader.proofs.Chunks.{clash, walk-tells}
+use Rattle.table_row.specs.Packed.{slotOf}
+use Rattle.walk.specs.declared.Ran.{Ran}
+use Rattle.head.specs.Contexts.{Context}
+use Rattle.walk.specs.Runs.{ClosedIs, ChunkIs, RunIs}
+use Rattle.walk.proofs.Contexts.{context-next}
+use Rattle.walk.proofs.Parts.{PartsAt}
+use Rattle.walk.proofs.Chunks.{clash, walk-tells}
 
 module _ (end records skips at : ℕ) (ms : List ℕ) (r : Ran) (ms′ : List ℕ) where
   -- a chunk that is skipped, and the rest
@@ -86,7 +86,7 @@ module _ (p : Parent) (seen : List ℕ) (s : List ℕ) (at end : ℕ) (ms : List
           let k-is : k ≡ skipped t = cc in
           record {
             seen′ = id ∷ seen;
-            context = rw (h .1) (context-next p seen row word ms c five id (rowOf id) refl (under-listed (p .id) id (g .in-place)) (g .in-place) (g .not-twice) at o);
+            context = rw (h .1) (context-next p seen row word ms c five id (g .in-place) (g .not-twice) at o);
             tells = λ records skips r ms′ w.
                 known-on end records skips at ms r ms′ id own kids t (sym (length-bytes t) ∙ ap length (v .is)) (walk p (id ∷ seen) (at + (6 + length own + length kids)) rest)
                 (rw (f .rest-is) (subst (λ (m : List ℕ). RunIs end (records + (recordCount t + 1)) (skips + skipped t) (at + (6 + length own + length kids)) m (walk p (id ∷ seen) (at + (6 + length own + length kids)) (slice (at + (6 + length own + length kids)) end s)) r ms′) (h .1)

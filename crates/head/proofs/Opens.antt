@@ -1,11 +1,11 @@
 -- The step of the walk at a position of the file: its header, its parts, and each fault that it may meet.
 use mathlib.Core.Path.{_≡_, refl, sym, ap, _∙_, subst}
-use mathlib.Core.Bool.{Bool, true, false, not, cond}
+use mathlib.Core.Bool.{Bool, true, false, cond}
 use mathlib.Core.List.{List, _∷_}
 use mathlib.Core.Option.{Option, none, some}
 use Prim.Native.Nat.{ℕ, _+_, _-_, _≤_, _<_}
 use native.Mathlib.Omega.{arith}
-use lib.Dec.{eqb, leb}
+use lib.Dec.{leb}
 use lib.ListN.{length, take, drop, set, length-set}
 use lib.Seq.{slice, length-slice}
 use borrow.Author.Tests.{le-leb, lt-leb, leb-true, eqb-false}
@@ -25,9 +25,9 @@ use Rattle.own_data.specs.declared.Judged.{Judged}
 use Rattle.sizes.specs.Own.{CountIs}
 use Rattle.own_data.specs.Judges.{JudgedIs, Judges}
 use Rattle.own_data.proofs.Conditions.{some-around}
-use Rattle.reader.specs.declared.Header.{Header}
-use Rattle.reader.specs.declared.Head.{Head}
-use Rattle.reader.specs.States.{HeaderIs, HeadIs, MarksAre, HeadWithin, openedBy}
+use Rattle.head.specs.declared.Header.{Header}
+use Rattle.head.specs.declared.Head.{Head}
+use Rattle.head.specs.Heads.{HeaderIs, HeadIs, MarksAre, HeadWithin, openedBy}
 
 -- ---- the header
 
@@ -218,6 +218,12 @@ module _ (s : List ℕ) (at past k id row : ℕ) (rest : List ℕ) (o : at + 6 �
 
   pub head-leaf : plus id ≡ false → HeadIs at (enter id (take k (slice (at + 6) past s)) (drop k (slice (at + 6) past s)) rest) (Head.Leaf past)
   head-leaf u = rw (u, past-is)
+
+-- a chunk that is skipped
+pub head-skip : (s : List ℕ) (at past id : ℕ) (rest : List ℕ) → at + 6 ≤ past → past ≤ length s → HeadIs at (pass id (slice (at + 6) past s) rest) (Head.Skip past)
+head-skip s at past id rest o l =
+    let z : at + (6 + length (slice (at + 6) past s)) ≡ past = omega (arith, length-slice (at + 6) past s l) in
+    rw z
 
 -- the marks where own data is judged: they name the chunk, or there is a fault
 pub marks-opened : (p : Parent) (at id : ℕ) (body rest : List ℕ) (ms : List ℕ) → MarksAre at (openedBy p at id body rest) ms (set ms (slotOf id) at)

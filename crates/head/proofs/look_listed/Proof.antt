@@ -8,12 +8,11 @@ use Rattle.rules.specs.Walk.{Step}
 use Rattle.table_row.specs.Packed.{plusIn}
 use Rattle.table_row.proofs.Facts.{plus-is}
 use Rattle.own_data.specs.Judges.{Judges}
-use Rattle.reader.specs.declared.Head.{Head}
-use Rattle.reader.specs.States.{HeadIs}
-use Rattle.reader.proofs.Opens.{opened-fault, judged-ends, opened-enters, head-enter, head-leaf}
-use borrow.Author.Needs.{needs}
-use Rattle.reader.proofs.look_listed.Statement.{statement}
-use Rattle.reader.proofs.look_listed.Tie as tie
+use Rattle.head.specs.declared.Head.{Head}
+use Rattle.head.specs.Heads.{HeadIs}
+use Rattle.head.proofs.Opens.{opened-fault, judged-ends, opened-enters, head-enter, head-leaf}
+use Rattle.head.proofs.look_listed.Statement.{statement}
+use Rattle.head.proofs.look_listed.Tie as tie
 
 judge-requires : tie.Need-judge-requires
 judge-requires c κs = search needs

@@ -2,7 +2,7 @@
 use mathlib.Core.Path.{_≡_, refl, sym, ap, _∙_, subst}
 use native.Mathlib.Omega.{arith}
 use borrow.Author.Needs.{needs}
-use mathlib.Core.Bool.{Bool, true, false, cond}
+use mathlib.Core.Bool.{Bool, cond}
 use Prim.Native.Nat.{ℕ, _+_}
 use lib.ListN.{length, set}
 use lib.Seq.{slice}
@@ -10,14 +10,13 @@ use borrow.Author.Tests.{not-true, not-false}
 use Rattle.rules.specs.declared.Refusal.{Refusal}
 use Rattle.rules.specs.Walk.{Step}
 use Rattle.table_row.specs.Packed.{slotIn, slotOf}
-use Rattle.reader.specs.declared.Header.{Header}
-use Rattle.reader.specs.declared.Head.{Head}
-use Rattle.reader.specs.States.{HeaderWithin, HeadIs, MarksAre, openedBy}
-use Rattle.reader.proofs.Opens.{step-fault, step-skip, step-misplaced, step-twice, step-opened, row-listed, row-unlisted, marks-opened, length-noted, within-more}
-use Rattle.reader.proofs.Contexts.{under-is, few-is, head-skip}
-use borrow.Author.Needs.{needs}
-use Rattle.reader.proofs.look.Statement.{statement}
-use Rattle.reader.proofs.look.Tie as tie
+use Rattle.head.specs.declared.Header.{Header}
+use Rattle.head.specs.declared.Head.{Head}
+use Rattle.head.specs.Heads.{HeaderWithin, HeadIs, MarksAre, openedBy}
+use Rattle.head.proofs.Opens.{step-fault, step-skip, step-misplaced, step-twice, step-opened, head-skip, row-listed, row-unlisted, marks-opened, length-noted, within-more}
+use Rattle.head.proofs.Places.{under-is, few-is}
+use Rattle.head.proofs.look.Statement.{statement}
+use Rattle.head.proofs.look.Tie as tie
 
 read-header-requires : tie.Need-read-header-requires
 read-header-requires c κs = search needs

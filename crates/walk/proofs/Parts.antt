@@ -10,7 +10,7 @@ use Rattle.rules.specs.Layout.{header}
 use Rattle.rules.specs.Rules.{Parent}
 use Rattle.rules.specs.Walk.{Step, stop, pass, enter, step, taken, walk}
 use Rattle.rules.proofs.Bytes.{bytes-drop, bytes-take}
-use Rattle.rules.proofs.Steps.{Says, Passed, Entered, step-says}
+use Rattle.rules.proofs.Steps.{Says, step-says}
 use Rattle.rules.proofs.Fuel.{walk-cons}
 use Rattle.little_endian.proofs.Slices.{drop-slice, take-slice}
 
