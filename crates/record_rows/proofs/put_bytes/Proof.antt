@@ -2,8 +2,8 @@
 use native.Mathlib.Omega.{arith}
 use Rattle.little_endian.proofs.Put.{put-then, put-sets}
 use borrow.Author.Needs.{needs}
-use Rattle.lister.proofs.put_bytes.Statement.{statement}
-use Rattle.lister.proofs.put_bytes.Tie as tie
+use Rattle.record_rows.proofs.put_bytes.Statement.{statement}
+use Rattle.record_rows.proofs.put_bytes.Tie as tie
 
 put-long-requires : tie.Need-put-long-requires
 put-long-requires c κs = search needs

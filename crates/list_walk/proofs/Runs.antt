@@ -18,8 +18,10 @@ use Rattle.rules.proofs.Sound.{length-bytes}
 use Rattle.little_endian.specs.Numbers.{longAt}
 use Rattle.little_endian.proofs.Slices.{drop-slice, take-slice}
 use Rattle.little_endian.proofs.Layouts.{skip-stands, known-stands}
-use Rattle.lister.specs.Laid.{Lent, written, first, Laid, Listed}
-use Rattle.lister.proofs.Rows.{written-on, length-records}
+use Rattle.record_rows.specs.Lent.{Lent, written}
+use Rattle.list_walk.specs.Laid.{first, Laid, Listed}
+use Rattle.record_rows.proofs.Rows.{written-on}
+use Rattle.record_rows.proofs.Counts.{length-records}
 
 abbrev pub rest : Run → Run
 rest end = end

@@ -13,7 +13,7 @@ use Rattle.table_row.specs.Packed.{plusIn, shapeIn}
 use Rattle.sizes.specs.declared.Own.{Own}
 use Rattle.sizes.specs.declared.Own.the-variants.{NoName, TooLong, Size}
 use Rattle.sizes.specs.Own.{OwnIs}
-use Rattle.lister.specs.Laid.{Begins, sizeOf}
+use Rattle.list_walk.specs.Laid.{Begins, sizeOf}
 
 own-answer : (sh : Shape) (around own more body : List ℕ) → ownSize sh around own ≡ length own → own ++ more ≡ body → (r : Own) → OwnIs sh around body r → sizeOf r ≡ length own
 own-answer sh around own more body h e r q =

@@ -10,24 +10,26 @@ use borrow.Fn.PlainCycle.{Measures, is, falls, and}
 use Rattle.rules.specs.Layout.{Run}
 use Rattle.rules.specs.Rules.{Parent}
 use Rattle.table.proofs.Outlines.{outline-kind}
-use Rattle.lister.specs.Laid.{lent, first, Laid}
-use Rattle.lister.proofs.Rows.{count-small, room-less}
-use Rattle.lister.proofs.Runs.{FirstAt, split-count, header-ends, first-at}
-use Rattle.lister.proofs.Chunks.{Entered, skipped-listed, entered, inner-laid, entered-listed, childless-listed}
-use Rattle.lister.proofs.Loop.{Sofar, sofar-start, sofar-next, sofar-ends}
-use Rattle.lister.proofs.list_chunk.Reads as list-chunk
-use Rattle.lister.proofs.list_chunk.Kinds as list-chunk-kinds
-use Rattle.lister.proofs.+list_chunk+list_run.Lts-list_chunk as list-chunk-lts
-use Rattle.lister.proofs.list_run.Reads as list-run
-use Rattle.lister.proofs.list_run.Kinds as list-run-kinds
-use Rattle.lister.proofs.+list_chunk+list_run.Lts-list_run as list-run-lts
-use Rattle.lister.proofs.own_length.Reads as own-length-reads
-use Rattle.lister.proofs.put_record.Reads as put-record-reads
+use Rattle.record_rows.specs.Lent.{lent}
+use Rattle.list_walk.specs.Laid.{first, Laid}
+use Rattle.record_rows.proofs.Rows.{room-less}
+use Rattle.record_rows.proofs.Counts.{count-small}
+use Rattle.list_walk.proofs.Runs.{FirstAt, split-count, header-ends, first-at}
+use Rattle.list_walk.proofs.Chunks.{Entered, skipped-listed, entered, inner-laid, entered-listed, childless-listed}
+use Rattle.list_walk.proofs.Loop.{Sofar, sofar-start, sofar-next, sofar-ends}
+use Rattle.list_walk.proofs.list_chunk.Reads as list-chunk
+use Rattle.list_walk.proofs.list_chunk.Kinds as list-chunk-kinds
+use Rattle.list_walk.proofs.+list_chunk+list_run.Lts-list_chunk as list-chunk-lts
+use Rattle.list_walk.proofs.list_run.Reads as list-run
+use Rattle.list_walk.proofs.list_run.Kinds as list-run-kinds
+use Rattle.list_walk.proofs.+list_chunk+list_run.Lts-list_run as list-run-lts
+use Rattle.list_walk.proofs.own_length.Reads as own-length-reads
+use Rattle.record_rows.proofs.put_record.Reads as put-record-reads
 use Rattle.little_endian.proofs.long_at.Reads as long-at-reads
 use Rattle.little_endian.proofs.word_at.Reads as word-at-reads
 use Rattle.table.proofs.outline.Reads as outline-reads
-use Rattle.lister.proofs.+list_chunk+list_run.{statement}
-use Rattle.lister.proofs.+list_chunk+list_run.Tie.{close}
+use Rattle.list_walk.proofs.+list_chunk+list_run.{statement}
+use Rattle.list_walk.proofs.+list_chunk+list_run.Tie.{close}
 
 abbrev μ-list-chunk : Measures 3 list-chunk-kinds.ps ℕ
 μ-list-chunk κs a = (a .1 .1 .1 .1 .0 - a .1 .1 .1 .0) * 2

@@ -8,9 +8,9 @@ use borrow.Author.Tests.{not-true, not-false}
 use Rattle.rules.specs.Table.{name, counted}
 use Rattle.table_row.specs.Packed.{sizeIn, kindIn}
 use Rattle.sizes.proofs.Sizes.{fixed-is, kind-fixed, kind-name, kind-counted, around-any}
-use Rattle.lister.proofs.Owns.{found-shape, found-leaf}
-use Rattle.lister.proofs.own_length.Statement.{statement}
-use Rattle.lister.proofs.own_length.Tie as tie
+use Rattle.list_walk.proofs.Owns.{found-shape, found-leaf}
+use Rattle.list_walk.proofs.own_length.Statement.{statement}
+use Rattle.list_walk.proofs.own_length.Tie as tie
 
 two : (k : ℕ) → k < 3 → (k ≡ 0 → ⊥) → (k ≡ 1 → ⊥) → k ≡ 2
 two zero h a b = absurd (a refl)

@@ -7,8 +7,9 @@ use lib.ListN.{length}
 use Rattle.rules.specs.Layout.{Run}
 use Rattle.rules.specs.Rules.{Parent}
 use Rattle.rules.specs.Gives.{recordCount}
-use Rattle.lister.specs.Laid.{Lent, first, Laid, Listed}
-use Rattle.lister.proofs.Runs.{rest, split-count, laid-size, FirstAt, listed-end, listed-on}
+use Rattle.record_rows.specs.Lent.{Lent}
+use Rattle.list_walk.specs.Laid.{first, Laid, Listed}
+use Rattle.list_walk.proofs.Runs.{rest, split-count, laid-size, FirstAt, listed-end, listed-on}
 
 -- The run t from `at` to stop has been listed up to `from`: the next record has this number, and the rows are l₁.
 pub record Sofar (s : List ℕ) (stop depth parent : ℕ) (p : Parent) (l : Lent) (at next : ℕ) (t : Run) (l₁ : Lent) (from number : ℕ) : Type 0 where

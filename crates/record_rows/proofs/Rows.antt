@@ -1,18 +1,17 @@
--- Records in a row: six numbers after six, those of a run's first chunk and then those of its rest.
+-- Records in a row: six numbers after six, and records after others.
 use mathlib.Core.Path.{_≡_, refl, sym, ap, _∙_}
 use mathlib.Core.List.{List, [], _∷_, _++_}
 use Prim.Native.Nat.{ℕ, suc, _+_, _*_, _≤_}
 use native.Mathlib.Nat.{mul-add}
 use native.Mathlib.Numerals.{towards-suc}
 use native.Mathlib.Omega.{arith}
-use lib.ListN.{length, length-append, set}
+use lib.ListN.{length, set}
 use lib.Seq.{sets}
 use Rattle.rules.specs.declared.Record.{Record}
 use Rattle.rules.specs.Bytes.{packed}
-use Rattle.rules.specs.Layout.{Run, end, skip, known, size}
-use Rattle.rules.specs.Gives.{recordCount, recordsOf, flat}
+use Rattle.rules.specs.Gives.{flat}
 use Rattle.rules.proofs.Bytes.{length-packed, packed-append}
-use Rattle.lister.specs.Laid.{Lent, Room, written}
+use Rattle.record_rows.specs.Lent.{Lent, Room, written}
 
 -- six stores, one after the other
 pub six-stores : (row : List ℕ) (i id at len depth parent own : ℕ) →
@@ -66,22 +65,3 @@ written-on l next a b n e = rw (sets-even flat-even (l .numbers) next a b n e, s
 -- less room is asked of rows that are as long
 pub room-less : {l l′ : Lent} {m n : ℕ} → length (l′ .numbers) ≡ length (l .numbers) → length (l′ .bytes) ≡ length (l .bytes) → n ≤ m → Room l m → Room l′ n
 room-less e f h r = record { numbers = λ z. omega (arith, r .numbers (omega arith)); bytes = λ z. omega (arith, r .bytes (omega arith)) }
-
-pub length-records : (o depth parent next : ℕ) (t : Run) → length (recordsOf o depth parent next t) ≡ recordCount t
-length-records o depth parent next end = refl
-length-records o depth parent next (skip id body rest) = length-records (o + (6 + length body)) depth parent next rest
-length-records o depth parent next (known id own kids rest) =
-    let a = recordsOf (o + (6 + length own)) (suc depth) next (suc next) kids in
-    let b = recordsOf (o + (6 + length own + size kids)) depth parent (suc (next + recordCount kids)) rest in
-    omega (
-      arith,
-      length-append a b,
-      length-records (o + (6 + length own)) (suc depth) next (suc next) kids,
-      length-records (o + (6 + length own + size kids)) depth parent (suc (next + recordCount kids)) rest,
-    )
-
--- every record has its six header bytes
-pub count-small : (t : Run) → 6 * recordCount t ≤ size t
-count-small end = omega arith
-count-small (skip id body rest) = omega (arith, count-small rest)
-count-small (known id own kids rest) = omega (arith, count-small kids, count-small rest)

@@ -21,9 +21,10 @@ use Rattle.little_endian.proofs.Layouts.{skip-stands, known-stands, known-kids}
 use Rattle.table_row.specs.Packed.{rowOf, outlineIn}
 use Rattle.table_row.proofs.Facts.{row-of-listed, row-of-unlisted, plus-is, shape-is}
 use Rattle.table.proofs.Outlines.{outline-zero, outline-no-row, outline-plus, outline-whole}
-use Rattle.lister.specs.Laid.{Lent, written, first, Laid, Bounds, Listed, Begins}
-use Rattle.lister.proofs.Rows.{written-on}
-use Rattle.lister.proofs.Runs.{unlisted-small, lawful-listed, lawful-small, laid-size, listed-end}
+use Rattle.record_rows.specs.Lent.{Lent, written}
+use Rattle.list_walk.specs.Laid.{first, Laid, Bounds, Listed, Begins}
+use Rattle.record_rows.proofs.Rows.{written-on}
+use Rattle.list_walk.proofs.Runs.{unlisted-small, lawful-listed, lawful-small, laid-size, listed-end}
 
 no-children : (t : Run) → noChild t ≡ true → bytes t ≡ []
 no-children end h = refl

@@ -9,13 +9,13 @@ use lib.Seq.{sets, length-sets}
 use Rattle.rules.specs.Bytes.{packed}
 use Rattle.rules.specs.Gives.{flat}
 use borrow.Author.Needs.{needs}
-use Rattle.lister.proofs.Rows.{sets-empty}
-use Rattle.lister.proofs.put_record.Statement.{statement}
-use Rattle.lister.proofs.put_record.Tie as tie
-use Rattle.lister.proofs.put_record.Reads as reads
-use Rattle.lister.proofs.put_record.Lts as lts
-use Rattle.lister.proofs.put_bytes.Reads as put-bytes-reads
-use Rattle.lister.proofs.put_numbers.Reads as put-numbers-reads
+use Rattle.record_rows.proofs.Rows.{sets-empty}
+use Rattle.record_rows.proofs.put_record.Statement.{statement}
+use Rattle.record_rows.proofs.put_record.Tie as tie
+use Rattle.record_rows.proofs.put_record.Reads as reads
+use Rattle.record_rows.proofs.put_record.Lts as lts
+use Rattle.record_rows.proofs.put_bytes.Reads as put-bytes-reads
+use Rattle.record_rows.proofs.put_numbers.Reads as put-numbers-reads
 
 abbrev calls : lts.Claims
 calls = (put-numbers-reads.Asked, put-numbers-reads.Learnt, put-bytes-reads.Asked, put-bytes-reads.Learnt)

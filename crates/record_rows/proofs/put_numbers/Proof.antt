@@ -1,10 +1,10 @@
 -- Six stores, each within the row.
 use native.Mathlib.Omega.{arith}
 use lib.ListN.{length-set}
-use Rattle.lister.proofs.Rows.{six-stores}
+use Rattle.record_rows.proofs.Rows.{six-stores}
 use borrow.Author.Needs.{needs}
-use Rattle.lister.proofs.put_numbers.Statement.{statement}
-use Rattle.lister.proofs.put_numbers.Tie as tie
+use Rattle.record_rows.proofs.put_numbers.Statement.{statement}
+use Rattle.record_rows.proofs.put_numbers.Tie as tie
 
 mul-records : tie.Need-mul-records
 mul-records c = search needs
