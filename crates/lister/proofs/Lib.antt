@@ -1,6 +1,1 @@
-pub mod Rows
-pub mod Runs
-pub mod Chunks
-pub mod Owns
-pub mod Loop
 pub mod Whole

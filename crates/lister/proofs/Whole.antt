@@ -22,8 +22,11 @@ use Rattle.rules.specs.Walk.{Answer, refused, accepted, verdict}
 use Rattle.rules.specs.Encodings.{Encoding}
 use Rattle.rules.specs.Calls.{Effect, leaving, filled, checkOf, checkCall, listOf, listCall}
 use Rattle.reader.proofs.Accepted.{Accepted, meets-by}
-use Rattle.lister.specs.Laid.{Lent, Room, written, Laid, Bounds, Listed, rowsOf, listRows}
-use Rattle.lister.proofs.Rows.{Even, room-less, length-records}
+use Rattle.record_rows.specs.Lent.{Lent, Room, written}
+use Rattle.list_walk.specs.Laid.{Laid, Bounds, Listed}
+use Rattle.lister.specs.Rows.{rowsOf, listRows}
+use Rattle.record_rows.proofs.Rows.{Even, room-less}
+use Rattle.record_rows.proofs.Counts.{length-records}
 
 -- ---- a refused file
 

@@ -17,7 +17,7 @@ use Rattle.rules.specs.Walk.{Answer, refused, accepted, verdict}
 use Rattle.rules.specs.Gives.{recordCount, list, flat}
 use Rattle.rules.specs.Encodings.{flatRecords}
 use Rattle.rules.specs.Calls.{leaving, filled, countsOf, listOf, listCall}
-use Rattle.lister.proofs.Rows.{length-records}
+use Rattle.record_rows.proofs.Counts.{length-records}
 use Rattle.listing_text.specs.Lines.{refusalLine, countsLine, lines, rowLines}
 use Rattle.listing_text.specs.Listing.{listingOf, listing}
 use Rattle.listing_text.proofs.Rows.{lines-flat}

@@ -1,6 +1,6 @@
 -- The conditions of own data, in their order: the first that is broken, or none.
 use mathlib.Core.Path.{_≡_, refl, sym, ap, _∙_, subst}
-use mathlib.Core.Bool.{Bool, true, false, not, _||_}
+use mathlib.Core.Bool.{Bool, true, false, _||_}
 use mathlib.Core.List.{List, []}
 use mathlib.Core.Option.{Option, none, some}
 use Prim.Native.Nat.{ℕ, _+_, _-_, _≤_, _<_}
@@ -11,10 +11,10 @@ use lib.Seq.{slice, length-slice}
 use borrow.Author.Tests.{le-leb, lt-leb, leb-true, leb-false}
 use Rattle.rules.specs.declared.Refusal.{Refusal}
 use Rattle.rules.specs.declared.Refusal.the-variants.{Name, Length, Number, Index}
-use Rattle.rules.specs.Bytes.{le, value}
+use Rattle.rules.specs.Bytes.{le}
 use Rattle.rules.specs.Table.{Shape, counted, named-words, rows, listed, shape, plus}
 use Rattle.rules.specs.Layout.{end}
-use Rattle.rules.specs.OwnData.{count, ownSize, hasName}
+use Rattle.rules.specs.OwnData.{ownSize, hasName}
 use Rattle.rules.specs.Rules.{Parent, numbersFinite, faceNumbersBelow}
 use Rattle.rules.specs.Walk.{broken, ownConditions}
 use Rattle.rules.proofs.Bytes.{value-le}
@@ -23,9 +23,10 @@ use Rattle.rules.proofs.OwnSize.{own-size-less}
 use Rattle.little_endian.proofs.Slices.{take-slice}
 use Rattle.table_row.specs.Packed.{rowOf, plusIn, plainIn, sizeIn, shapeIn}
 use Rattle.table_row.proofs.Facts.{plus-is, shape-is, Plain, plain-is}
-use Rattle.own_data.specs.declared.Own.{Own}
+use Rattle.sizes.specs.declared.Own.{Own}
+use Rattle.sizes.specs.Own.{Fits, Exceeds, OwnIs, CountIs}
 use Rattle.own_data.specs.declared.Judged.{Judged}
-use Rattle.own_data.specs.Own.{Fits, Exceeds, OwnIs, CountIs, Exact, JudgedIs, Judges}
+use Rattle.own_data.specs.Judges.{Exact, JudgedIs, Judges}
 
 -- some own data with a given count word
 pub some-around : (n : ℕ) → n < 65536 → CountIs (le 2 n) n

@@ -4,18 +4,18 @@ use mathlib.Core.Bool.{Bool, true, false, _&&_}
 use mathlib.Core.List.{List}
 use Prim.Native.Nat.{ℕ, _+_, _-_, _*_, _≤_}
 use native.Mathlib.Omega.{arith}
-use lib.Dec.{eqb}
 use lib.ListN.{length, drop}
 use lib.Seq.{slice, length-slice}
 use borrow.Author.Tests.{ne-eqb}
 use Rattle.rules.specs.Bytes.{numbers, every}
 use Rattle.rules.specs.Layout.{end}
-use Rattle.rules.specs.OwnData.{nameSize, count, vertexNumbers, faceNumbers, finite}
+use Rattle.rules.specs.OwnData.{nameSize, count, vertexNumbers, finite}
 use Rattle.rules.specs.Rules.{Parent, allBelow, numbersFinite, faceNumbersBelow}
 use Rattle.little_endian.specs.Numbers.{wordAt}
 use Rattle.little_endian.proofs.Slices.{word-slice, drop-slice}
 use Rattle.scan.proofs.Parts.{numbers-slice}
-use Rattle.own_data.specs.Own.{CountIs, Exact}
+use Rattle.sizes.specs.Own.{CountIs}
+use Rattle.own_data.specs.Judges.{Exact}
 
 and-true : (b : Bool) → (b && true) ≡ b
 and-true true = refl

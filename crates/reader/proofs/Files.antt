@@ -18,7 +18,7 @@ use Rattle.rules.specs.Table.{rows, listed, limits, atMostOne}
 use Rattle.rules.specs.Layout.{Run, end, skip, known, figure}
 use Rattle.rules.specs.Rules.{Parent, file, inside, limit}
 use Rattle.rules.specs.Gives.{recordCount, headers, owned, skipped}
-use Rattle.rules.specs.Walk.{broken, fileConditions, endConditions, lengthField, Answer, refused, accepted, unless, ended, walk, verdict}
+use Rattle.rules.specs.Walk.{broken, fileConditions, endConditions, lengthField, accepted, unless, ended, walk, verdict}
 use Rattle.rules.specs.Calls.{countsOf, checkOf, checkCall}
 use Rattle.rules.proofs.Conditions.{met, unbroken, broken-here, broken-later}
 use Rattle.rules.proofs.Sound.{length-bytes}
@@ -27,10 +27,12 @@ use Rattle.little_endian.specs.Numbers.{wordAt, longAt}
 use Rattle.table_row.specs.Packed.{places, rowOf}
 use Rattle.marks.specs.declared.Shut.{Shut}
 use Rattle.marks.specs.Marks.{noMarks, Kept, ShutIs}
-use Rattle.reader.specs.declared.Ran.{Ran}
-use Rattle.reader.specs.States.{Context, RunIs, CountsAre, figureAnswer}
-use Rattle.reader.proofs.Contexts.{context-inside}
-use Rattle.reader.proofs.Chunks.{clash, Ran-well, run-refused, run-accepted}
+use Rattle.walk.specs.declared.Ran.{Ran}
+use Rattle.head.specs.Contexts.{Context}
+use Rattle.walk.specs.Runs.{RunIs}
+use Rattle.reader.specs.Figure.{CountsAre, figureAnswer}
+use Rattle.walk.proofs.Contexts.{context-inside}
+use Rattle.walk.proofs.Chunks.{clash, Ran-well, run-refused, run-accepted}
 
 -- ---- the file's own conditions
 

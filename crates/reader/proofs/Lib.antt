@@ -1,9 +1,2 @@
-pub mod Opens
-pub mod Contexts
-pub mod Parts
-pub mod Chunks
-pub mod Entering
-pub mod Runs
-pub mod Loop
 pub mod Files
 pub mod Accepted

@@ -14,7 +14,8 @@ use Rattle.rules.specs.Walk.{Answer, refused, accepted, verdict}
 use Rattle.rules.specs.Gives.{recordCount, list, flat}
 use Rattle.rules.specs.Encodings.{beside, flatRecords}
 use Rattle.rules.specs.Calls.{leaving, filled, listOf, listCall}
-use Rattle.lister.proofs.Rows.{flat-even, length-records}
+use Rattle.record_rows.proofs.Rows.{flat-even}
+use Rattle.record_rows.proofs.Counts.{length-records}
 
 -- numbers that fit into the front of a row
 filled-front : (new row : List ℕ) (end : ℕ) → length new ≤ end → end ≤ length row → filled new (take end row) ++ drop end row ≡ filled new row

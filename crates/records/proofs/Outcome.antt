@@ -18,7 +18,7 @@ use Rattle.rules.specs.Walk.{Answer, refused, accepted, verdict}
 use Rattle.rules.specs.Gives.{recordCount, list, flat}
 use Rattle.rules.specs.Encodings.{beside, flatRecords, recordTable}
 use Rattle.rules.specs.Calls.{Effect, leaving, filled, countsOf, listOf, listCall}
-use Rattle.lister.proofs.Rows.{length-records}
+use Rattle.record_rows.proofs.Counts.{length-records}
 use Rattle.lists.proofs.Fill.{fill-at}
 use Rattle.records.specs.Numbers.{recordNo, taken}
 

@@ -3,8 +3,8 @@ use mathlib.Core.Path.{refl}
 use mathlib.Core.List.{[]}
 use native.Mathlib.Omega.{arith}
 use Rattle.rules.specs.Encodings.{flatRecords}
-use Rattle.lister.specs.Laid.{lent}
-use Rattle.lister.proofs.Rows.{flat-even}
+use Rattle.record_rows.specs.Lent.{lent}
+use Rattle.record_rows.proofs.Rows.{flat-even}
 use Rattle.lister.proofs.Whole.{gives}
 use borrow.Author.Needs.{needs}
 use Rattle.lister.proofs.list.Statement.{statement}

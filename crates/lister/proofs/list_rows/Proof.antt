@@ -5,7 +5,7 @@ use Rattle.rules.proofs.Bytes.{bytes-all}
 use Rattle.rules.specs.Layout.{figure}
 use Rattle.rules.specs.Rules.{file}
 use Rattle.reader.proofs.Accepted.{accepted-by}
-use Rattle.lister.specs.Laid.{lent}
+use Rattle.record_rows.specs.Lent.{lent}
 use Rattle.lister.proofs.Whole.{rows-refused, whole-laid, whole-bounds, whole-room, rows-no-room, rows-filled}
 use borrow.Author.Needs.{needs}
 use Rattle.lister.proofs.list_rows.Statement.{statement}

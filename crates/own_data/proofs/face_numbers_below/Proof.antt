@@ -4,7 +4,6 @@ use native.Mathlib.Omega.{arith}
 use lib.Seq.{slice}
 use borrow.Author.Needs.{needs}
 use Rattle.own_data.proofs.Numbers.{words-room, words-fill, words-below, other-below}
-use borrow.Author.Needs.{needs}
 use Rattle.own_data.proofs.face_numbers_below.Statement.{statement}
 use Rattle.own_data.proofs.face_numbers_below.Tie as tie
 

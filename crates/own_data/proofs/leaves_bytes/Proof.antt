@@ -1,7 +1,6 @@
 -- A row with children, or a test of what is left.
 use borrow.Author.Needs.{needs}
 use Rattle.own_data.proofs.Tests.{lt-is}
-use borrow.Author.Needs.{needs}
 use Rattle.own_data.proofs.leaves_bytes.Statement.{statement}
 use Rattle.own_data.proofs.leaves_bytes.Tie as tie
 

@@ -4,7 +4,6 @@ use native.Mathlib.Omega.{arith}
 use lib.Seq.{slice}
 use borrow.Author.Needs.{needs}
 use Rattle.own_data.proofs.Numbers.{has-word, fills, vertices-finite, pairs-finite, other-finite}
-use borrow.Author.Needs.{needs}
 use Rattle.own_data.proofs.numbers_finite.Statement.{statement}
 use Rattle.own_data.proofs.numbers_finite.Tie as tie
 

@@ -4,13 +4,11 @@ use native.Mathlib.Omega.{arith}
 use borrow.Author.Needs.{needs}
 use mathlib.Core.List.{[]}
 use lib.ListN.{length}
-use lib.Seq.{slice}
 use Rattle.rules.proofs.Bytes.{bytes-all}
 use Rattle.rules.specs.Rules.{file, inside}
-use Rattle.reader.specs.declared.Ran.{Ran}
-use Rattle.reader.specs.States.{RunWithin}
+use Rattle.walk.specs.declared.Ran.{Ran}
+use Rattle.walk.specs.Runs.{RunWithin}
 use Rattle.reader.proofs.Files.{figure-row, top-context, top-run, figure-refused, figure-shut, figure-accepted}
-use borrow.Author.Needs.{needs}
 use Rattle.reader.proofs.check_figure.Statement.{statement}
 use Rattle.reader.proofs.check_figure.Tie as tie
 

@@ -2,7 +2,6 @@
 use native.Mathlib.Omega.{arith}
 use borrow.Author.Needs.{needs}
 use Rattle.reader.proofs.Files.{file-too-long, file-too-short, file-no-figure, file-short, file-overrun, file-trailing, file-fine}
-use borrow.Author.Needs.{needs}
 use Rattle.reader.proofs.judge_file.Statement.{statement}
 use Rattle.reader.proofs.judge_file.Tie as tie
 

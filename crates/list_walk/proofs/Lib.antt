@@ -1,0 +1,4 @@
+pub mod Runs
+pub mod Chunks
+pub mod Owns
+pub mod Loop

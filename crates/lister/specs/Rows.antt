@@ -1,0 +1,23 @@
+-- What the list call answers and leaves in both rows, by the verdict of crate rules.
+use mathlib.Core.Bool.{cond}
+use mathlib.Core.List.{List}
+use Prim.Native.Nat.{ℕ}
+use lib.Dec.{leb}
+use Rattle.rules.specs.declared.Refusal.the-variants.{NoRoom}
+use Rattle.rules.specs.declared.Checked.{Checked}
+use Rattle.rules.specs.Layout.{figure}
+use Rattle.rules.specs.Walk.{Answer, refused, accepted, verdict}
+use Rattle.rules.specs.Gives.{recordCount, list}
+use Rattle.rules.specs.Calls.{Effect, leaving, countsOf}
+use Rattle.record_rows.specs.Lent.{Lent, written}
+
+-- what the call with room for so many records answers and leaves in the rows
+abbrev pub rowsOf : ℕ → Lent → Answer → Effect Checked Lent
+rowsOf room l (refused r) = leaving (Checked.Refused r) l
+rowsOf room l (accepted kids) =
+    cond (leb (recordCount (figure kids)) room)
+    (leaving (Checked.Accepted (countsOf kids)) (written l 0 (list kids)))
+    (leaving (Checked.Refused (NoRoom (recordCount (figure kids)))) l)
+
+unfoldable pub listRows : List ℕ → ℕ → Lent → Effect Checked Lent
+listRows s room l = rowsOf room l (verdict s)

@@ -1,0 +1,472 @@
+-- Chunk and run meet their contracts together. The bytes left, twice, and one more for a run, fall at each call. A chunk
+-- follows what was found at its start (Chunks, Entering); a run goes on from chunk to chunk (Runs, Loop).
+use mathlib.Core.Path.{refl, sym, subst}
+use mathlib.Core.List.{[]}
+use Prim.Native.Nat.{_+_, _-_, _*_, _≤_}
+use native.Mathlib.Omega.{arith}
+use borrow.Author.Needs.{needs}
+use lib.ListN.{length}
+use lib.Seq.{slice}
+use Rattle.rules.proofs.Bytes.{bytes-all}
+use Rattle.rules.specs.Rules.{inside}
+use Rattle.rules.specs.Walk.{step, walk}
+use Rattle.rules.proofs.Steps.{step-says}
+use Rattle.marks.specs.Marks.{noMarks}
+use Rattle.head.specs.declared.Head.{Head}
+use Rattle.walk.specs.declared.Ran.{Ran}
+use Rattle.head.specs.Heads.{HeadIs, HeadWithin}
+use Rattle.walk.specs.Runs.{ChunkIs, ChunkWithin, RunIs, RunWithin}
+use Rattle.walk.proofs.Parts.{bytes-slice, step-parts, walk-part}
+use Rattle.walk.proofs.Chunks.{chunk-fault, chunk-skip, chunk-leaf}
+use Rattle.walk.proofs.Entering.{ent, inner-context, enter-refused, enter-placed, enter-shut, enter-done}
+use Rattle.walk.proofs.Runs.{run-stops, run-goes-on, run-ends}
+use Rattle.walk.proofs.Loop.{Sofar}
+use Prim.Native.Nat.{ℕ, _<_}
+use borrow.Fn.Kinds.{In}
+use borrow.Fn.PlainCycle.{Measures, is, falls, and}
+use Rattle.walk.proofs.chunk.Reads as chunk
+use Rattle.walk.proofs.chunk.Kinds as chunk-kinds
+use Rattle.walk.proofs.+chunk+run.Lts-chunk as chunk-lts
+use Rattle.walk.proofs.run.Reads as run
+use Rattle.walk.proofs.run.Kinds as run-kinds
+use Rattle.walk.proofs.+chunk+run.Lts-run as run-lts
+use Rattle.marks.proofs.at_end.Reads as at-end-reads
+use Rattle.head.proofs.look.Reads as look-reads
+use Rattle.walk.proofs.+chunk+run.{statement}
+use Rattle.walk.proofs.+chunk+run.Tie.{close}
+
+abbrev μ-chunk : Measures 2 chunk-kinds.ps ℕ
+μ-chunk κs a = (a .1 .1 .1 .1 .0 - a .1 .1 .1 .0) * 2
+
+abbrev μ-run : Measures 2 run-kinds.ps ℕ
+μ-run κs a = (a .1 .1 .1 .1 .0 - a .1 .1 .1 .0) * 2 + 1
+
+abbrev chunk-at : ℕ → In 2 chunk-kinds.ps
+chunk-at t = and 2 chunk-kinds.ps (is 2 chunk-kinds.ps μ-chunk t) chunk.Pre
+
+abbrev chunk-below : ℕ → In 2 chunk-kinds.ps
+chunk-below t = and 2 chunk-kinds.ps (falls 2 chunk-kinds.ps _<_ μ-chunk t) chunk.Pre
+
+abbrev run-at : ℕ → In 2 run-kinds.ps
+run-at t = and 2 run-kinds.ps (is 2 run-kinds.ps μ-run t) run.Pre
+
+abbrev run-below : ℕ → In 2 run-kinds.ps
+run-below t = and 2 run-kinds.ps (falls 2 run-kinds.ps _<_ μ-run t) run.Pre
+
+-- what is known of the functions that each of the two calls
+abbrev chunk-calls : ℕ → chunk-lts.Claims
+chunk-calls t = (
+  look-reads.Asked,
+  look-reads.Learnt,
+  run-below t,
+  run.Post,
+  at-end-reads.Asked,
+  at-end-reads.Learnt,
+)
+
+abbrev run-calls : ℕ → run-lts.Claims
+run-calls t = (chunk-below t, chunk.Post)
+
+chunk-look-requires : (t : ℕ) → chunk-lts.Need-look-requires (chunk-calls t) (chunk-at t) chunk.Post
+chunk-look-requires t c κs = (c .before .before .before .pre .1 .0, c .before .before .before .pre .1 .2)
+
+chunk-enum-known-r : (t : ℕ) → chunk-lts.Need-enum-known-r (chunk-calls t) (chunk-at t) chunk.Post
+chunk-enum-known-r t c = search needs
+
+chunk-enum-known-stop : (t : ℕ) → chunk-lts.Need-enum-known-stop (chunk-calls t) (chunk-at t) chunk.Post
+chunk-enum-known-stop t c = search needs
+
+chunk-sub-t24 : (t : ℕ) → chunk-lts.Need-sub-t24 (chunk-calls t) (chunk-at t) chunk.Post
+chunk-sub-t24 t c =
+    let x = c .before .before .before .before .before .before .before .before .before in
+    let w = c .before .before .before .before .before .look in
+    let b = bytes-all (x .args .file .now) (λ i. omega (arith, c .before .before .before .before .before .before .before .before .shared-slice-known .given i)) in
+    let g = c .before .stop .given in
+    let v : HeadWithin (x .args .at) (x .args .end) (Head.Skip (g .0 .0)) = subst (HeadWithin (x .args .at) (x .args .end)) (g .1) (w .ensures .1 .1 .1) in
+    omega arith
+
+chunk-enum-known-stop-2 : (t : ℕ) → chunk-lts.Need-enum-known-stop-2 (chunk-calls t) (chunk-at t) chunk.Post
+chunk-enum-known-stop-2 t c = search needs
+
+chunk-enum-known-id : (t : ℕ) → chunk-lts.Need-enum-known-id (chunk-calls t) (chunk-at t) chunk.Post
+chunk-enum-known-id t c = search needs
+
+chunk-slice-aggregate-run : (t : ℕ) → chunk-lts.Need-slice-aggregate-run (chunk-calls t) (chunk-at t) chunk.Post
+chunk-slice-aggregate-run t c = search needs
+
+chunk-run-requires : (t : ℕ) → chunk-lts.Need-run-requires (chunk-calls t) (chunk-at t) chunk.Post
+chunk-run-requires t c κs =
+    let x = c .before .before .before .before .before .before .before .before .before .before in
+    let w = c .before .before .before .before .before .before .look in
+    let b = bytes-all (x .args .file .now) (λ i. omega (arith, c .before .before .before .before .before .before .before .before .before .shared-slice-known .given i)) in
+    let g = c .before .before .id .given in
+    let v : HeadWithin (x .args .at) (x .args .end) (Head.Enter (g .0 .0) (g .0 .1 .0) (g .0 .1 .1 .0) (g .0 .1 .1 .1 .0) (g .0 .1 .1 .1 .1 .0)) = subst (HeadWithin (x .args .at) (x .args .end)) (g .1) (w .ensures .1 .1 .1) in
+    (omega (arith, v .0, v .1, v .2, x .pre), (v .1, omega (arith, v .0), record { ends = omega (arith, x .pre .1 .2 .ends, v .2); short = x .pre .1 .2 .short; word = v .3; five = refl }, (inside (x .pre .1 .3 .0) (g .0 .0) (ent (x .args .file .now) (x .args .at) (x .args .end) (x .pre .1 .0) (x .pre .1 .2 .ends) b (x .pre .1 .3 .0) (x .pre .1 .3 .1) (x .args .marks .now) (w .last .1 .1 .1 .1 .1 .0) (w .result) (w .ensures .0 (x .pre .1 .3 .0) (x .pre .1 .3 .1) (x .pre .1 .3 .2)) (w .ensures .1 .0 (x .pre .1 .3 .0) (x .pre .1 .3 .1) (x .pre .1 .3 .2)) (g .0 .0) (g .0 .1 .0) (g .0 .1 .1 .0) (g .0 .1 .1 .1 .0) (g .0 .1 .1 .1 .1 .0) (g .1) .own), [], inner-context (x .args .file .now) (x .args .at) (x .args .end) (x .pre .1 .0) (x .pre .1 .2 .ends) b (x .pre .1 .3 .0) (x .pre .1 .3 .1) (x .args .marks .now) (w .last .1 .1 .1 .1 .1 .0) (w .result) (w .ensures .0 (x .pre .1 .3 .0) (x .pre .1 .3 .1) (x .pre .1 .3 .2)) (w .ensures .1 .0 (x .pre .1 .3 .0) (x .pre .1 .3 .1) (x .pre .1 .3 .2)) (g .0 .0) (g .0 .1 .0) (g .0 .1 .1 .0) (g .0 .1 .1 .1 .0) (g .0 .1 .1 .1 .1 .0) (g .1) (v .3))))
+
+chunk-enum-known-r-2 : (t : ℕ) → chunk-lts.Need-enum-known-r-2 (chunk-calls t) (chunk-at t) chunk.Post
+chunk-enum-known-r-2 t c = search needs
+
+chunk-enum-known-records : (t : ℕ) → chunk-lts.Need-enum-known-records (chunk-calls t) (chunk-at t) chunk.Post
+chunk-enum-known-records t c = search needs
+
+chunk-slice-aggregate-at-end : (t : ℕ) → chunk-lts.Need-slice-aggregate-at-end (chunk-calls t) (chunk-at t) chunk.Post
+chunk-slice-aggregate-at-end t c = search needs
+
+chunk-at-end-requires : (t : ℕ) → chunk-lts.Need-at-end-requires (chunk-calls t) (chunk-at t) chunk.Post
+chunk-at-end-requires t c κs =
+    let x = c .before .before .before .before .before .before .before .before .before .before .before .before .before .before .before .before in
+    let w = c .before .before .before .before .before .before .before .before .before .before .before .before .look in
+    let b = bytes-all (x .args .file .now) (λ i. omega (arith, c .before .before .before .before .before .before .before .before .before .before .before .before .before .before .before .shared-slice-known .given i)) in
+    let g = c .before .before .before .before .before .before .before .before .id .given in
+    let v : HeadWithin (x .args .at) (x .args .end) (Head.Enter (g .0 .0) (g .0 .1 .0) (g .0 .1 .1 .0) (g .0 .1 .1 .1 .0) (g .0 .1 .1 .1 .1 .0)) = subst (HeadWithin (x .args .at) (x .args .end)) (g .1) (w .ensures .1 .1 .1) in
+    let h = c .before .before .records .given in
+    let y = c .before .before .before .before .before .run in
+    let f = subst (λ z. RunIs (g .0 .1 .1 .1 .1 .0) 0 0 (g .0 .1 .1 .1 .0) noMarks (walk (inside (x .pre .1 .3 .0) (g .0 .0) (ent (x .args .file .now) (x .args .at) (x .args .end) (x .pre .1 .0) (x .pre .1 .2 .ends) b (x .pre .1 .3 .0) (x .pre .1 .3 .1) (x .args .marks .now) (w .last .1 .1 .1 .1 .1 .0) (w .result) (w .ensures .0 (x .pre .1 .3 .0) (x .pre .1 .3 .1) (x .pre .1 .3 .2)) (w .ensures .1 .0 (x .pre .1 .3 .0) (x .pre .1 .3 .1) (x .pre .1 .3 .2)) (g .0 .0) (g .0 .1 .0) (g .0 .1 .1 .0) (g .0 .1 .1 .1 .0) (g .0 .1 .1 .1 .1 .0) (g .1) .own)) [] (g .0 .1 .1 .1 .0) (slice (g .0 .1 .1 .1 .0) (g .0 .1 .1 .1 .1 .0) (x .args .file .now))) z (y .last .1 .1 .1 .1 .1 .0)) (h .1) (y .ensures .0 (inside (x .pre .1 .3 .0) (g .0 .0) (ent (x .args .file .now) (x .args .at) (x .args .end) (x .pre .1 .0) (x .pre .1 .2 .ends) b (x .pre .1 .3 .0) (x .pre .1 .3 .1) (x .args .marks .now) (w .last .1 .1 .1 .1 .1 .0) (w .result) (w .ensures .0 (x .pre .1 .3 .0) (x .pre .1 .3 .1) (x .pre .1 .3 .2)) (w .ensures .1 .0 (x .pre .1 .3 .0) (x .pre .1 .3 .1) (x .pre .1 .3 .2)) (g .0 .0) (g .0 .1 .0) (g .0 .1 .1 .0) (g .0 .1 .1 .1 .0) (g .0 .1 .1 .1 .1 .0) (g .1) .own)) [] (inner-context (x .args .file .now) (x .args .at) (x .args .end) (x .pre .1 .0) (x .pre .1 .2 .ends) b (x .pre .1 .3 .0) (x .pre .1 .3 .1) (x .args .marks .now) (w .last .1 .1 .1 .1 .1 .0) (w .result) (w .ensures .0 (x .pre .1 .3 .0) (x .pre .1 .3 .1) (x .pre .1 .3 .2)) (w .ensures .1 .0 (x .pre .1 .3 .0) (x .pre .1 .3 .1) (x .pre .1 .3 .2)) (g .0 .0) (g .0 .1 .0) (g .0 .1 .1 .0) (g .0 .1 .1 .1 .0) (g .0 .1 .1 .1 .1 .0) (g .1) (v .3))) in
+    let m = x .pre .1 .2 .short in
+    (y .ensures .1 .0, enter-placed (x .args .file .now) (x .args .at) (x .args .end) (x .pre .1 .0) (x .pre .1 .2 .ends) b (x .pre .1 .3 .0) (x .pre .1 .3 .1) (x .args .marks .now) (w .last .1 .1 .1 .1 .1 .0) (w .result) (w .ensures .0 (x .pre .1 .3 .0) (x .pre .1 .3 .1) (x .pre .1 .3 .2)) (w .ensures .1 .0 (x .pre .1 .3 .0) (x .pre .1 .3 .1) (x .pre .1 .3 .2)) (g .0 .0) (g .0 .1 .0) (g .0 .1 .1 .0) (g .0 .1 .1 .1 .0) (g .0 .1 .1 .1 .1 .0) (g .1) (v .1) (omega (arith, x .pre .1 .2 .ends, v .2)) (omega (arith, v .0)) (y .last .1 .1 .1 .1 .1 .0) (h .0 .0) (h .0 .1 .0) (h .0 .1 .1 .0) f (omega arith), omega arith)
+
+chunk-enum-known-r-3 : (t : ℕ) → chunk-lts.Need-enum-known-r-3 (chunk-calls t) (chunk-at t) chunk.Post
+chunk-enum-known-r-3 t c = search needs
+
+chunk-enum-told : (t : ℕ) → chunk-lts.Need-enum-told (chunk-calls t) (chunk-at t) chunk.Post
+chunk-enum-told t c = search needs
+
+chunk-add-t33 : (t : ℕ) → chunk-lts.Need-add-t33 (chunk-calls t) (chunk-at t) chunk.Post
+chunk-add-t33 t c =
+    let x = c .before .before .before .before .before .before .before .before .before .before .before .before .before .before .before .before .before .before .before in
+    let w = c .before .before .before .before .before .before .before .before .before .before .before .before .before .before .before .look in
+    let g = c .before .before .before .before .before .before .before .before .before .before .before .id .given in
+    let v : HeadWithin (x .args .at) (x .args .end) (Head.Enter (g .0 .0) (g .0 .1 .0) (g .0 .1 .1 .0) (g .0 .1 .1 .1 .0) (g .0 .1 .1 .1 .1 .0)) = subst (HeadWithin (x .args .at) (x .args .end)) (g .1) (w .ensures .1 .1 .1) in
+    let h = c .before .before .before .before .before .records .given in
+    let y = c .before .before .before .before .before .before .before .before .run in
+    let z : RunWithin (g .0 .1 .1 .1 .0) (g .0 .1 .1 .1 .1 .0) (Ran.Done (h .0 .0) (h .0 .1 .0) (h .0 .1 .1 .0)) = subst (RunWithin _ _) (h .1) (y .ensures .1 .1) in
+    let m = x .pre .1 .2 .short in
+    let e = x .pre .1 .2 .ends in
+    omega arith
+
+chunk-same-length : (t : ℕ) → chunk-lts.Need-same-length (chunk-calls t) (chunk-at t) chunk.Post
+chunk-same-length t c = search needs
+
+chunk-returns : (t : ℕ) → chunk-lts.Need-returns (chunk-calls t) (chunk-at t) chunk.Post
+chunk-returns t c =
+    let x = c .before .before .before .before .before .before .before .before .before in
+    let w = c .before .before .before .before .before .look in
+    let b = bytes-all (x .args .file .now) (λ i. omega (arith, c .before .before .before .before .before .before .before .before .shared-slice-known .given i)) in
+    let g = c .before .r .given in
+    (λ q seen k. chunk-fault q (x .args .at) (x .args .marks .now) (w .last .1 .1 .1 .1 .1 .0) (step q seen (x .args .at) (slice (x .args .at) (x .args .end) (x .args .file .now))) (g .0 .0) (subst (HeadIs (x .args .at) (step q seen (x .args .at) (slice (x .args .at) (x .args .end) (x .args .file .now)))) (g .1) (w .ensures .0 q seen k)), (w .ensures .1 .1 .0, tt))
+
+chunk-same-length-2 : (t : ℕ) → chunk-lts.Need-same-length-2 (chunk-calls t) (chunk-at t) chunk.Post
+chunk-same-length-2 t c = search needs
+
+chunk-returns-2 : (t : ℕ) → chunk-lts.Need-returns-2 (chunk-calls t) (chunk-at t) chunk.Post
+chunk-returns-2 t c =
+    let x = c .before .before .before .before .before .before .before .before .before in
+    let w = c .before .before .before .before .before .look in
+    let b = bytes-all (x .args .file .now) (λ i. omega (arith, c .before .before .before .before .before .before .before .before .shared-slice-known .given i)) in
+    let g = c .before .stop .given in
+    let v : HeadWithin (x .args .at) (x .args .end) (Head.Skip (g .0 .0)) = subst (HeadWithin (x .args .at) (x .args .end)) (g .1) (w .ensures .1 .1 .1) in (
+      λ q seen k. chunk-skip q (x .args .at) (x .args .marks .now) (w .last .1 .1 .1 .1 .1 .0) (step q seen (x .args .at) (slice (x .args .at) (x .args .end) (x .args .file .now))) (g .0 .0) (subst (HeadIs (x .args .at) (step q seen (x .args .at) (slice (x .args .at) (x .args .end) (x .args .file .now)))) (g .1) (w .ensures .0 q seen k)) (w .ensures .1 .0 q seen k),
+      (w .ensures .1 .1 .0, omega arith),
+    )
+
+chunk-same-length-3 : (t : ℕ) → chunk-lts.Need-same-length-3 (chunk-calls t) (chunk-at t) chunk.Post
+chunk-same-length-3 t c = search needs
+
+chunk-returns-3 : (t : ℕ) → chunk-lts.Need-returns-3 (chunk-calls t) (chunk-at t) chunk.Post
+chunk-returns-3 t c =
+    let x = c .before .before .before .before .before .before .before .before .before in
+    let w = c .before .before .before .before .before .look in
+    let b = bytes-all (x .args .file .now) (λ i. omega (arith, c .before .before .before .before .before .before .before .before .shared-slice-known .given i)) in
+    let g = c .before .stop2 .given in
+    let v : HeadWithin (x .args .at) (x .args .end) (Head.Leaf (g .0 .0)) = subst (HeadWithin (x .args .at) (x .args .end)) (g .1) (w .ensures .1 .1 .1) in (
+      λ q seen k. chunk-leaf q seen (slice (x .args .at) (x .args .end) (x .args .file .now)) (x .args .at) (x .args .marks .now) (w .last .1 .1 .1 .1 .1 .0) (step q seen (x .args .at) (slice (x .args .at) (x .args .end) (x .args .file .now)))
+          (step-says q seen (x .args .at) (slice (x .args .at) (x .args .end) (x .args .file .now)) (bytes-slice (x .args .file .now) (x .args .at) (x .args .end) b)) (g .0 .0)
+          (subst (HeadIs (x .args .at) (step q seen (x .args .at) (slice (x .args .at) (x .args .end) (x .args .file .now)))) (g .1) (w .ensures .0 q seen k)) (w .ensures .1 .0 q seen k),
+      (w .ensures .1 .1 .0, omega arith),
+    )
+
+chunk-same-length-4 : (t : ℕ) → chunk-lts.Need-same-length-4 (chunk-calls t) (chunk-at t) chunk.Post
+chunk-same-length-4 t c = search needs
+
+chunk-returns-4 : (t : ℕ) → chunk-lts.Need-returns-4 (chunk-calls t) (chunk-at t) chunk.Post
+chunk-returns-4 t c =
+    let x = c .before .before .before .before .before .before .before .before .before .before .before .before .before .before .before in
+    let w = c .before .before .before .before .before .before .before .before .before .before .before .look in
+    let b = bytes-all (x .args .file .now) (λ i. omega (arith, c .before .before .before .before .before .before .before .before .before .before .before .before .before .before .shared-slice-known .given i)) in
+    let g = c .before .before .before .before .before .before .before .id .given in
+    let v : HeadWithin (x .args .at) (x .args .end) (Head.Enter (g .0 .0) (g .0 .1 .0) (g .0 .1 .1 .0) (g .0 .1 .1 .1 .0) (g .0 .1 .1 .1 .1 .0)) = subst (HeadWithin (x .args .at) (x .args .end)) (g .1) (w .ensures .1 .1 .1) in
+    let h = c .before .r2 .given in
+    let y = c .before .before .before .before .run in (
+      λ q seen k. enter-refused (x .args .file .now) (x .args .at) (x .args .end) (x .pre .1 .0) (x .pre .1 .2 .ends) b q seen (x .args .marks .now) (w .last .1 .1 .1 .1 .1 .0) (w .result) (w .ensures .0 q seen k) (w .ensures .1 .0 q seen k) (g .0 .0) (g .0 .1 .0) (g .0 .1 .1 .0) (g .0 .1 .1 .1 .0) (g .0 .1 .1 .1 .1 .0) (g .1) (v .1) (omega (arith, x .pre .1 .2 .ends, v .2)) (omega (arith, v .0)) (y .last .1 .1 .1 .1 .1 .0) (h .0 .0)
+          (subst (λ z. RunIs (g .0 .1 .1 .1 .1 .0) 0 0 (g .0 .1 .1 .1 .0) noMarks (walk (inside q (g .0 .0) (ent (x .args .file .now) (x .args .at) (x .args .end) (x .pre .1 .0) (x .pre .1 .2 .ends) b q seen (x .args .marks .now) (w .last .1 .1 .1 .1 .1 .0) (w .result) (w .ensures .0 q seen k) (w .ensures .1 .0 q seen k) (g .0 .0) (g .0 .1 .0) (g .0 .1 .1 .0) (g .0 .1 .1 .1 .0) (g .0 .1 .1 .1 .1 .0) (g .1) .own)) [] (g .0 .1 .1 .1 .0) (slice (g .0 .1 .1 .1 .0) (g .0 .1 .1 .1 .1 .0) (x .args .file .now))) z (y .last .1 .1 .1 .1 .1 .0)) (h .1) (y .ensures .0 (inside q (g .0 .0) (ent (x .args .file .now) (x .args .at) (x .args .end) (x .pre .1 .0) (x .pre .1 .2 .ends) b q seen (x .args .marks .now) (w .last .1 .1 .1 .1 .1 .0) (w .result) (w .ensures .0 q seen k) (w .ensures .1 .0 q seen k) (g .0 .0) (g .0 .1 .0) (g .0 .1 .1 .0) (g .0 .1 .1 .1 .0) (g .0 .1 .1 .1 .1 .0) (g .1) .own)) [] (inner-context (x .args .file .now) (x .args .at) (x .args .end) (x .pre .1 .0) (x .pre .1 .2 .ends) b q seen (x .args .marks .now) (w .last .1 .1 .1 .1 .1 .0) (w .result) (w .ensures .0 q seen k) (w .ensures .1 .0 q seen k) (g .0 .0) (g .0 .1 .0) (g .0 .1 .1 .0) (g .0 .1 .1 .1 .0) (g .0 .1 .1 .1 .1 .0) (g .1) (v .3)))),
+      (w .ensures .1 .1 .0, tt),
+    )
+
+chunk-same-length-5 : (t : ℕ) → chunk-lts.Need-same-length-5 (chunk-calls t) (chunk-at t) chunk.Post
+chunk-same-length-5 t c = search needs
+
+chunk-returns-5 : (t : ℕ) → chunk-lts.Need-returns-5 (chunk-calls t) (chunk-at t) chunk.Post
+chunk-returns-5 t c =
+    let x = c .before .before .before .before .before .before .before .before .before .before .before .before .before .before .before .before .before .before .before .before in
+    let w = c .before .before .before .before .before .before .before .before .before .before .before .before .before .before .before .before .look in
+    let b = bytes-all (x .args .file .now) (λ i. omega (arith, c .before .before .before .before .before .before .before .before .before .before .before .before .before .before .before .before .before .before .before .shared-slice-known .given i)) in
+    let g = c .before .before .before .before .before .before .before .before .before .before .before .before .id .given in
+    let v : HeadWithin (x .args .at) (x .args .end) (Head.Enter (g .0 .0) (g .0 .1 .0) (g .0 .1 .1 .0) (g .0 .1 .1 .1 .0) (g .0 .1 .1 .1 .1 .0)) = subst (HeadWithin (x .args .at) (x .args .end)) (g .1) (w .ensures .1 .1 .1) in
+    let h = c .before .before .before .before .before .before .records .given in
+    let y = c .before .before .before .before .before .before .before .before .before .run in
+    let u = c .before .before .before .at-end in
+    let d = c .before .r3 .given in (
+      λ q seen k. enter-shut (x .args .file .now) (x .args .at) (x .args .end) (x .pre .1 .0) (x .pre .1 .2 .ends) b q seen (x .args .marks .now) (w .last .1 .1 .1 .1 .1 .0) (w .result) (w .ensures .0 q seen k) (w .ensures .1 .0 q seen k) (g .0 .0) (g .0 .1 .0) (g .0 .1 .1 .0) (g .0 .1 .1 .1 .0) (g .0 .1 .1 .1 .1 .0) (g .1) (v .1) (omega (arith, x .pre .1 .2 .ends, v .2)) (omega (arith, v .0)) (y .last .1 .1 .1 .1 .1 .0) (h .0 .0) (h .0 .1 .0) (h .0 .1 .1 .0) (subst (λ z. RunIs (g .0 .1 .1 .1 .1 .0) 0 0 (g .0 .1 .1 .1 .0) noMarks (walk (inside q (g .0 .0) (ent (x .args .file .now) (x .args .at) (x .args .end) (x .pre .1 .0) (x .pre .1 .2 .ends) b q seen (x .args .marks .now) (w .last .1 .1 .1 .1 .1 .0) (w .result) (w .ensures .0 q seen k) (w .ensures .1 .0 q seen k) (g .0 .0) (g .0 .1 .0) (g .0 .1 .1 .0) (g .0 .1 .1 .1 .0) (g .0 .1 .1 .1 .1 .0) (g .1) .own)) [] (g .0 .1 .1 .1 .0) (slice (g .0 .1 .1 .1 .0) (g .0 .1 .1 .1 .1 .0) (x .args .file .now))) z (y .last .1 .1 .1 .1 .1 .0)) (h .1) (y .ensures .0 (inside q (g .0 .0) (ent (x .args .file .now) (x .args .at) (x .args .end) (x .pre .1 .0) (x .pre .1 .2 .ends) b q seen (x .args .marks .now) (w .last .1 .1 .1 .1 .1 .0) (w .result) (w .ensures .0 q seen k) (w .ensures .1 .0 q seen k) (g .0 .0) (g .0 .1 .0) (g .0 .1 .1 .0) (g .0 .1 .1 .1 .0) (g .0 .1 .1 .1 .1 .0) (g .1) .own)) [] (inner-context (x .args .file .now) (x .args .at) (x .args .end) (x .pre .1 .0) (x .pre .1 .2 .ends) b q seen (x .args .marks .now) (w .last .1 .1 .1 .1 .1 .0) (w .result) (w .ensures .0 q seen k) (w .ensures .1 .0 q seen k) (g .0 .0) (g .0 .1 .0) (g .0 .1 .1 .0) (g .0 .1 .1 .1 .0) (g .0 .1 .1 .1 .1 .0) (g .1) (v .3)))) (u .result) (u .ensures) (d .0 .0) (d .1),
+      (w .ensures .1 .1 .0, tt),
+    )
+
+chunk-same-length-6 : (t : ℕ) → chunk-lts.Need-same-length-6 (chunk-calls t) (chunk-at t) chunk.Post
+chunk-same-length-6 t c = search needs
+
+chunk-returns-6 : (t : ℕ) → chunk-lts.Need-returns-6 (chunk-calls t) (chunk-at t) chunk.Post
+chunk-returns-6 t c =
+    let x = c .before .before .before .before .before .before .before .before .before .before .before .before .before .before .before .before .before .before .before in
+    let w = c .before .before .before .before .before .before .before .before .before .before .before .before .before .before .before .look in
+    let b = bytes-all (x .args .file .now) (λ i. omega (arith, c .before .before .before .before .before .before .before .before .before .before .before .before .before .before .before .before .before .before .shared-slice-known .given i)) in
+    let g = c .before .before .before .before .before .before .before .before .before .before .before .id .given in
+    let v : HeadWithin (x .args .at) (x .args .end) (Head.Enter (g .0 .0) (g .0 .1 .0) (g .0 .1 .1 .0) (g .0 .1 .1 .1 .0) (g .0 .1 .1 .1 .1 .0)) = subst (HeadWithin (x .args .at) (x .args .end)) (g .1) (w .ensures .1 .1 .1) in
+    let h = c .before .before .before .before .before .records .given in
+    let y = c .before .before .before .before .before .before .before .before .run in
+    let u = c .before .before .at-end in
+    let z : RunWithin (g .0 .1 .1 .1 .0) (g .0 .1 .1 .1 .1 .0) (Ran.Done (h .0 .0) (h .0 .1 .0) (h .0 .1 .1 .0)) = subst (RunWithin _ _) (h .1) (y .ensures .1 .1) in (
+      λ q seen k. enter-done (x .args .file .now) (x .args .at) (x .args .end) (x .pre .1 .0) (x .pre .1 .2 .ends) b q seen (x .args .marks .now) (w .last .1 .1 .1 .1 .1 .0) (w .result) (w .ensures .0 q seen k) (w .ensures .1 .0 q seen k) (g .0 .0) (g .0 .1 .0) (g .0 .1 .1 .0) (g .0 .1 .1 .1 .0) (g .0 .1 .1 .1 .1 .0) (g .1) (v .1) (omega (arith, x .pre .1 .2 .ends, v .2)) (omega (arith, v .0)) (y .last .1 .1 .1 .1 .1 .0) (h .0 .0) (h .0 .1 .0) (h .0 .1 .1 .0) (subst (λ z. RunIs (g .0 .1 .1 .1 .1 .0) 0 0 (g .0 .1 .1 .1 .0) noMarks (walk (inside q (g .0 .0) (ent (x .args .file .now) (x .args .at) (x .args .end) (x .pre .1 .0) (x .pre .1 .2 .ends) b q seen (x .args .marks .now) (w .last .1 .1 .1 .1 .1 .0) (w .result) (w .ensures .0 q seen k) (w .ensures .1 .0 q seen k) (g .0 .0) (g .0 .1 .0) (g .0 .1 .1 .0) (g .0 .1 .1 .1 .0) (g .0 .1 .1 .1 .1 .0) (g .1) .own)) [] (g .0 .1 .1 .1 .0) (slice (g .0 .1 .1 .1 .0) (g .0 .1 .1 .1 .1 .0) (x .args .file .now))) z (y .last .1 .1 .1 .1 .1 .0)) (h .1) (y .ensures .0 (inside q (g .0 .0) (ent (x .args .file .now) (x .args .at) (x .args .end) (x .pre .1 .0) (x .pre .1 .2 .ends) b q seen (x .args .marks .now) (w .last .1 .1 .1 .1 .1 .0) (w .result) (w .ensures .0 q seen k) (w .ensures .1 .0 q seen k) (g .0 .0) (g .0 .1 .0) (g .0 .1 .1 .0) (g .0 .1 .1 .1 .0) (g .0 .1 .1 .1 .1 .0) (g .1) .own)) [] (inner-context (x .args .file .now) (x .args .at) (x .args .end) (x .pre .1 .0) (x .pre .1 .2 .ends) b q seen (x .args .marks .now) (w .last .1 .1 .1 .1 .1 .0) (w .result) (w .ensures .0 q seen k) (w .ensures .1 .0 q seen k) (g .0 .0) (g .0 .1 .0) (g .0 .1 .1 .0) (g .0 .1 .1 .1 .0) (g .0 .1 .1 .1 .1 .0) (g .1) (v .3)))) (u .result) (u .ensures) (c .enum-told .given .1),
+      (w .ensures .1 .1 .0, omega arith),
+    )
+
+abbrev run-Inv-loop : run-lts.InvT-loop
+run-Inv-loop file parent count at end marks₀ p₀ records₀ skipped₀ marks p records skipped = Sofar file parent count at end marks₀ marks p records skipped
+
+abbrev run-μ-loop : run-lts.MeasureT-loop
+run-μ-loop file parent count at end marks₀ p₀ records₀ skipped₀ marks p records skipped = end - p
+
+run-loop-holds :
+    (t : ℕ) →
+    run-lts.Need-loop-holds
+    (run-calls t)
+    (run-at t)
+    run.Post
+    run-Inv-loop
+    run-μ-loop
+run-loop-holds t c =
+    let x = c .before .before in
+    record {
+      past = omega arith;
+      before = x .pre .1 .0;
+      five = x .pre .1 .2 .five;
+      within = omega arith;
+      somewhere = x .pre .1 .3;
+      later = λ q seen k. record { seen′ = seen; context = k; tells = λ r ms′ h. h };
+    }
+
+run-chunk-requires :
+    (t : ℕ) →
+    run-lts.Need-chunk-requires
+    (run-calls t)
+    (run-at t)
+    run.Post
+    run-Inv-loop
+    run-μ-loop
+run-chunk-requires t c κs =
+    let x = c .before .before .before .before .before in
+    let i = c .before .before .loop .inv in
+    (omega (arith, i .past, c .before .loop-test .taken, x .pre), (c .before .loop-test .taken, omega (arith, i .past, x .pre .1 .1), record { ends = x .pre .1 .2 .ends; short = x .pre .1 .2 .short; word = x .pre .1 .2 .word; five = i .five }, i .somewhere))
+
+run-enum-known-r :
+    (t : ℕ) →
+    run-lts.Need-enum-known-r
+    (run-calls t)
+    (run-at t)
+    run.Post
+    run-Inv-loop
+    run-μ-loop
+run-enum-known-r t c = search needs
+
+run-same-length :
+    (t : ℕ) →
+    run-lts.Need-same-length
+    (run-calls t)
+    (run-at t)
+    run.Post
+    run-Inv-loop
+    run-μ-loop
+run-same-length t c = search needs
+
+run-returns :
+    (t : ℕ) →
+    run-lts.Need-returns (run-calls t) (run-at t) run.Post run-Inv-loop run-μ-loop
+run-returns t c =
+    let x = c .before .before .before .before .before .before .before .before .before .before .before in
+    let i = c .before .before .before .before .before .before .before .before .loop in
+    let w = c .before .before .before .before .before .chunk in
+    let g = c .before .r .given in (
+      λ q seen k.
+          let j = i .inv .later q seen k in
+          j .tells (Ran.Refused (g .0 .0)) (w .last .1 .1 .1 .1 .1 .0)
+          (subst (λ a. RunIs (x .args .end) (i .records) (i .skipped) (i .p) (i .marks) a (Ran.Refused (g .0 .0)) (w .last .1 .1 .1 .1 .1 .0)) (sym (walk-part (x .args .file .now) (i .p) (x .args .end) (c .before .before .before .before .before .before .before .loop-test .taken) (x .pre .1 .2 .ends) q (j .seen′)))
+          (run-stops q (j .seen′) (x .args .file .now) (i .p) (x .args .end) (i .marks) (i .records) (i .skipped) (w .last .1 .1 .1 .1 .1 .0) (step q (j .seen′) (i .p) (slice (i .p) (x .args .end) (x .args .file .now))) (g .0 .0) (w .last .1 .1 .1 .1 .1 .0) (subst (λ z. ChunkIs q (i .p) (step q (j .seen′) (i .p) (slice (i .p) (x .args .end) (x .args .file .now))) z (i .marks) (w .last .1 .1 .1 .1 .1 .0)) (g .1) (w .ensures .0 q (j .seen′) (j .context))))),
+      (w .ensures .1 .0, tt),
+    )
+
+run-enum-known-next :
+    (t : ℕ) →
+    run-lts.Need-enum-known-next
+    (run-calls t)
+    (run-at t)
+    run.Post
+    run-Inv-loop
+    run-μ-loop
+run-enum-known-next t c = search needs
+
+-- how far the run has come, behind a chunk that was done
+stepped : (t : ℕ) (c : run-lts.After-next (run-calls t) (run-at t) run.Post run-Inv-loop run-μ-loop) →
+    let x = c .before .before .before .before .before .before .before .before .before .before in
+    let i = c .before .before .before .before .before .before .before .loop in
+    let g = c .next .given .0 in
+    ChunkWithin (i .p) (x .args .end) (Ran.Done (g .0) (g .1 .0) (g .1 .1 .0)) × (x .args .end ≤ length (x .args .file .now)) × (length (x .args .file .now) ≤ 1048576) × (6 * i .records + i .skipped ≤ i .p - x .args .at) × (x .args .at ≤ i .p)
+stepped t c =
+    let x = c .before .before .before .before .before .before .before .before .before .before in
+    let i = c .before .before .before .before .before .before .before .loop in
+    (subst (ChunkWithin (i .p) (x .args .end)) (c .next .given .1) (c .before .before .before .before .chunk .ensures .1 .1), x .pre .1 .2 .ends, x .pre .1 .2 .short, i .inv .within, i .inv .past)
+
+run-add-records :
+    (t : ℕ) →
+    run-lts.Need-add-records
+    (run-calls t)
+    (run-at t)
+    run.Post
+    run-Inv-loop
+    run-μ-loop
+run-add-records t c =
+    let f = stepped t (c .before) in
+    omega arith
+
+run-add-skipped :
+    (t : ℕ) →
+    run-lts.Need-add-skipped
+    (run-calls t)
+    (run-at t)
+    run.Post
+    run-Inv-loop
+    run-μ-loop
+run-add-skipped t c =
+    let f = stepped t (c .before) in
+    omega arith
+
+run-loop-less :
+    (t : ℕ) →
+    run-lts.Need-loop-less (run-calls t) (run-at t) run.Post run-Inv-loop run-μ-loop
+run-loop-less t c =
+    let f = stepped t (c .before) in
+    omega arith
+
+run-loop-again :
+    (t : ℕ) →
+    run-lts.Need-loop-again
+    (run-calls t)
+    (run-at t)
+    run.Post
+    run-Inv-loop
+    run-μ-loop
+run-loop-again t c =
+    let x = c .before .before .before .before .before .before .before .before .before .before .before in
+    let i = c .before .before .before .before .before .before .before .before .loop in
+    let w = c .before .before .before .before .before .chunk in
+    let g = c .before .next .given in
+    let f = stepped t (c .before) in
+    let e = x .pre .1 .2 .ends in
+    let a = i .inv .past in
+    let b = bytes-all (x .args .file .now) (λ k. omega (arith, c .before .before .before .before .before .before .before .before .before .before .shared-slice-known .given k)) in
+    let y = i .inv .somewhere in
+    let z = (run-goes-on (y .0) (y .1) (x .args .file .now) (i .p) (x .args .end) (i .marks) (x .args .parent) (x .args .count) (y .2) (i .inv .five) (omega (arith, a, x .pre .1 .1)) (step (y .0) (y .1) (i .p) (slice (i .p) (x .args .end) (x .args .file .now))) (step-says (y .0) (y .1) (i .p) (slice (i .p) (x .args .end) (x .args .file .now)) (bytes-slice (x .args .file .now) (i .p) (x .args .end) b)) (step-parts (x .args .file .now) (i .p) (x .args .end) (c .before .before .before .before .before .before .before .loop-test .taken) e (y .0) (y .1) b) (g .0 .0) (g .0 .1 .0) (g .0 .1 .1 .0) (w .last .1 .1 .1 .1 .1 .0) (subst (λ z. ChunkIs (y .0) (i .p) (step (y .0) (y .1) (i .p) (slice (i .p) (x .args .end) (x .args .file .now))) z (i .marks) (w .last .1 .1 .1 .1 .1 .0)) (g .1) (w .ensures .0 (y .0) (y .1) (y .2)))) in
+    record {
+      past = omega arith;
+      before = f .0 .1;
+      five = w .ensures .1 .0;
+      within = omega arith;
+      somewhere = (y .0, z .seen′, z .context);
+      later = λ q seen k.
+          let j = i .inv .later q seen k in
+          let d = (run-goes-on q (j .seen′) (x .args .file .now) (i .p) (x .args .end) (i .marks) (x .args .parent) (x .args .count) (j .context) (i .inv .five) (omega (arith, a, x .pre .1 .1)) (step q (j .seen′) (i .p) (slice (i .p) (x .args .end) (x .args .file .now))) (step-says q (j .seen′) (i .p) (slice (i .p) (x .args .end) (x .args .file .now)) (bytes-slice (x .args .file .now) (i .p) (x .args .end) b)) (step-parts (x .args .file .now) (i .p) (x .args .end) (c .before .before .before .before .before .before .before .loop-test .taken) e q (j .seen′) b) (g .0 .0) (g .0 .1 .0) (g .0 .1 .1 .0) (w .last .1 .1 .1 .1 .1 .0) (subst (λ z. ChunkIs q (i .p) (step q (j .seen′) (i .p) (slice (i .p) (x .args .end) (x .args .file .now))) z (i .marks) (w .last .1 .1 .1 .1 .1 .0)) (g .1) (w .ensures .0 q (j .seen′) (j .context)))) in
+          record {
+            seen′ = d .seen′;
+            context = d .context;
+            tells = λ r ms′ h. j .tells r ms′ (subst (λ f. RunIs (x .args .end) (i .records) (i .skipped) (i .p) (i .marks) f r ms′) (sym (walk-part (x .args .file .now) (i .p) (x .args .end) (c .before .before .before .before .before .before .before .loop-test .taken) e q (j .seen′))) (d .tells (i .records) (i .skipped) r ms′ h));
+          };
+    }
+
+run-same-length-2 :
+    (t : ℕ) →
+    run-lts.Need-same-length-2
+    (run-calls t)
+    (run-at t)
+    run.Post
+    run-Inv-loop
+    run-μ-loop
+run-same-length-2 t c = search needs
+
+run-returns-2 :
+    (t : ℕ) →
+    run-lts.Need-returns-2 (run-calls t) (run-at t) run.Post run-Inv-loop run-μ-loop
+run-returns-2 t c =
+    let x = c .before .before .before .before in
+    let i = c .before .loop in (
+      λ q seen k.
+          let j = i .inv .later q seen k in
+          j .tells (Ran.Done (x .args .end) (i .records) (i .skipped)) (i .marks) (run-ends q (j .seen′) (x .args .file .now) (i .p) (x .args .end) (i .records) (i .skipped) (i .marks) (c .loop-test .left)),
+      (i .inv .five, omega (arith, i .inv .within, i .inv .before, i .inv .past, c .loop-test .left)),
+    )
+
+pub +chunk+run-spec : {M : Type 1} → statement M
++chunk+run-spec = close μ-chunk μ-run (λ t. chunk-lts.spec (chunk-calls t)
+    (chunk-at t)
+    chunk.Post
+    (chunk-look-requires t)
+    (chunk-enum-known-r t)
+    (chunk-enum-known-stop t)
+    (chunk-sub-t24 t)
+    (chunk-enum-known-stop-2 t)
+    (chunk-enum-known-id t)
+    (chunk-slice-aggregate-run t)
+    (chunk-run-requires t)
+    (chunk-enum-known-r-2 t)
+    (chunk-enum-known-records t)
+    (chunk-slice-aggregate-at-end t)
+    (chunk-at-end-requires t)
+    (chunk-enum-known-r-3 t)
+    (chunk-enum-told t)
+    (chunk-add-t33 t)
+    (chunk-same-length t)
+    (chunk-returns t)
+    (chunk-same-length-2 t)
+    (chunk-returns-2 t)
+    (chunk-same-length-3 t)
+    (chunk-returns-3 t)
+    (chunk-same-length-4 t)
+    (chunk-returns-4 t)
+    (chunk-same-length-5 t)
+    (chunk-returns-5 t)
+    (chunk-same-length-6 t)
+    (chunk-returns-6 t))
+    λ t. run-lts.spec
+    (run-calls t)
+    (run-at t)
+    run.Post
+    run-Inv-loop
+    run-μ-loop
+    (run-loop-holds t)
+    (run-chunk-requires t)
+    (run-enum-known-r t)
+    (run-same-length t)
+    (run-returns t)
+    (run-enum-known-next t)
+    (run-add-records t)
+    (run-add-skipped t)
+    (run-loop-less t)
+    (run-loop-again t)
+    (run-same-length-2 t)
+    (run-returns-2 t)

@@ -1,0 +1,6 @@
+pub mod Contexts
+pub mod Parts
+pub mod Chunks
+pub mod Entering
+pub mod Runs
+pub mod Loop
