@@ -123,8 +123,8 @@ pub fn bounding_box(file: &[u8], mesh: u32) -> Boxed
             if n == 0 {
                 return Boxed::Refused(Refusal::Empty);
             }
-            let around = lists::box_of(file, place.vertices.at, n);
-            Boxed::Around(around, lists::centre_of(around))
+            let around = boxes::box_of(file, place.vertices.at, n);
+            Boxed::Around(around, boxes::centre_of(around))
         }
     }
 }

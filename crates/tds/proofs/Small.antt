@@ -17,7 +17,7 @@ use Rattle.rules.specs.Rules.{limit}
 use Rattle.rules.specs.Calls.{checkCall}
 use Rattle.rules.proofs.Demands.{counts-add}
 use Rattle.reader.proofs.Accepted.{accepted-by, meets-by}
-use Rattle.lists.specs.FiniteBox.{Numbers}
+use Rattle.boxes.specs.FiniteBox.{Numbers}
 use Rattle.mesh.specs.Within.{NameWithin, SizesWithin, BoxNumbers}
 
 pub counts-small : (s : List ℕ) → Bytes s → (c : Counts) → checkCall s ≡ Checked.Accepted c → (c .headers < 2 ^ 32) × (c .own < 2 ^ 32) × (c .skipped < 2 ^ 32)

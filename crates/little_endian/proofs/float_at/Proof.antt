@@ -1,8 +1,8 @@
 -- A finite pattern is no NaN's, so its bits are read as they stand.
-use Rattle.lists.proofs.Finite.{not-nan}
+use Rattle.little_endian.proofs.Finite.{not-nan}
 use borrow.Author.Needs.{needs}
-use Rattle.lists.proofs.float_at.Statement.{statement}
-use Rattle.lists.proofs.float_at.Tie as tie
+use Rattle.little_endian.proofs.float_at.Statement.{statement}
+use Rattle.little_endian.proofs.float_at.Tie as tie
 
 long-at-requires : tie.Need-long-at-requires
 long-at-requires c κs = search needs

@@ -2,8 +2,8 @@
 use mathlib.Core.Path.{_≡_, refl}
 use mathlib.Core.Bool.{Bool, true, false}
 use lib.Ieee.{Float, lt, eq}
-use Rattle.lists.specs.Theorems.{gt}
-use Rattle.lists.proofs.Order.{Finite, never, lt-irrefl, lt-asym, lt-mixed, lt-apart}
+use Rattle.boxes.specs.Around.{gt}
+use Rattle.boxes.proofs.Order.{Finite, never, lt-irrefl, lt-asym, lt-mixed, lt-apart}
 
 pub record Strict (before : Float → Float → Bool) : Type 0 where
   pub irrefl : (x : Float) → Finite x → before x x ≡ false

@@ -5,9 +5,9 @@ use native.Mathlib.Omega.{arith}
 use lib.ListN.{drop}
 use Rattle.rules.specs.Bytes.{numbers}
 use Rattle.rules.specs.Box.{boxOf}
-use Rattle.lists.proofs.Box.{box-one, box-more, vertex-finite}
-use Rattle.lists.proofs.box_of.Statement.{statement}
-use Rattle.lists.proofs.box_of.Tie as tie
+use Rattle.boxes.proofs.Box.{box-one, box-more, vertex-finite}
+use Rattle.boxes.proofs.box_of.Statement.{statement}
+use Rattle.boxes.proofs.box_of.Tie as tie
 
 abbrev Inv-loop : tie.InvT-loop
 Inv-loop s at n b₀ k₀ b k = (0 < k) × (k ≤ n) × (b ≡ boxOf k (numbers 4 (3 * n) (drop at s)))

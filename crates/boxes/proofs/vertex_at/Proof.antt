@@ -1,8 +1,8 @@
 -- Axis by axis.
-use Rattle.lists.specs.Vertices.{vertexAt}
+use Rattle.boxes.specs.Vertices.{vertexAt}
 use borrow.Author.Needs.{needs}
-use Rattle.lists.proofs.vertex_at.Statement.{statement}
-use Rattle.lists.proofs.vertex_at.Tie as tie
+use Rattle.boxes.proofs.vertex_at.Statement.{statement}
+use Rattle.boxes.proofs.vertex_at.Tie as tie
 
 float-at-requires : tie.Need-float-at-requires
 float-at-requires c κs = search needs

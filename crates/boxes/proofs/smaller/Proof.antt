@@ -1,7 +1,7 @@
 -- By the comparison.
-use Rattle.lists.proofs.Box.{lesser-taken, lesser-left}
-use Rattle.lists.proofs.smaller.Statement.{statement}
-use Rattle.lists.proofs.smaller.Tie as tie
+use Rattle.boxes.proofs.Box.{lesser-taken, lesser-left}
+use Rattle.boxes.proofs.smaller.Statement.{statement}
+use Rattle.boxes.proofs.smaller.Tie as tie
 
 returns : tie.Need-returns
 returns c = lesser-taken _ _ (c .if1 .taken)

@@ -1,7 +1,7 @@
 -- By the comparison.
-use Rattle.lists.proofs.Box.{greater-taken, greater-left}
-use Rattle.lists.proofs.larger.Statement.{statement}
-use Rattle.lists.proofs.larger.Tie as tie
+use Rattle.boxes.proofs.Box.{greater-taken, greater-left}
+use Rattle.boxes.proofs.larger.Statement.{statement}
+use Rattle.boxes.proofs.larger.Tie as tie
 
 returns : tie.Need-returns
 returns c = greater-taken _ _ (c .if1 .taken)

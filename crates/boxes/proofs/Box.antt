@@ -10,8 +10,8 @@ use Rattle.rules.specs.Bytes.{numbers, every}
 use Rattle.rules.specs.OwnData.{finite}
 use Rattle.rules.specs.Box.{lesser, greater, float, coordinate, lowest, highest, boxOf}
 use Rattle.little_endian.specs.Numbers.{longAt}
-use Rattle.lists.specs.Vertices.{vertexAt, widened}
-use Rattle.lists.proofs.Numbers.{long-number, long-passes}
+use Rattle.boxes.specs.Vertices.{vertexAt, widened}
+use Rattle.little_endian.proofs.Numbers.{long-number, long-passes}
 
 module _ (a b : Float) where
   pub lesser-taken : lt b a ≡ true → b ≡ lesser a b

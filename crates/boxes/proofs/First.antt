@@ -6,9 +6,9 @@ use Prim.Native.Nat.{ℕ, zero, suc, _<_, _≤_}
 use native.Mathlib.Nat.{eq-or-lt-of-le}
 use native.Mathlib.Omega.{arith}
 use lib.Ieee.{Float}
-use Rattle.lists.specs.Theorems.{FirstOf}
-use Rattle.lists.proofs.Order.{Finite}
-use Rattle.lists.proofs.Strict.{Strict, through}
+use Rattle.boxes.specs.Around.{FirstOf}
+use Rattle.boxes.proofs.Order.{Finite}
+use Rattle.boxes.proofs.Strict.{Strict, through}
 
 module _ (before : Float → Float → Bool) (o : Strict before) (f : ℕ → Float) where
   -- x is the first of the best of f 0 to f n, and comes before each that stands before it

@@ -1,7 +1,7 @@
 -- Axis by axis.
 use borrow.Author.Needs.{needs}
-use Rattle.lists.proofs.centre_of.Statement.{statement}
-use Rattle.lists.proofs.centre_of.Tie as tie
+use Rattle.boxes.proofs.centre_of.Statement.{statement}
+use Rattle.boxes.proofs.centre_of.Tie as tie
 
 half-sum-requires : tie.Need-half-sum-requires
 half-sum-requires c κs = search needs

@@ -15,10 +15,10 @@ use Rattle.rules.specs.Bytes.{every}
 use Rattle.rules.specs.OwnData.{finite}
 use Rattle.rules.specs.Box.{float, coordinate, lesser, greater, lowest, highest, half, middle}
 use Rattle.rules.proofs.Bools.{and-parts}
-use Rattle.lists.specs.FiniteBox.{Number, BoxIsFinite}
-use Rattle.lists.proofs.Order.{Finite}
-use Rattle.lists.proofs.Finite.{float-finite}
-use Rattle.lists.proofs.Middle.{Within, fits-within, middle-within}
+use Rattle.boxes.specs.FiniteBox.{Number, BoxIsFinite}
+use Rattle.boxes.proofs.Order.{Finite}
+use Rattle.boxes.proofs.Finite.{float-finite}
+use Rattle.boxes.proofs.Middle.{Within, fits-within, middle-within}
 
 -- ---- a finite float has finite bits
 

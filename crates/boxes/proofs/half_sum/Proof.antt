@@ -1,8 +1,8 @@
 -- Two products and one sum, as `middle` has them.
 use mathlib.Core.Path.{refl}
 use Rattle.rules.specs.Box.{middle}
-use Rattle.lists.proofs.half_sum.Statement.{statement}
-use Rattle.lists.proofs.half_sum.Tie as tie
+use Rattle.boxes.proofs.half_sum.Statement.{statement}
+use Rattle.boxes.proofs.half_sum.Tie as tie
 
 returns : tie.Need-returns
 unfolding middle

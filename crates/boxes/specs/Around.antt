@@ -1,14 +1,14 @@
--- What document 01 says of the box and of the floats of a table, as statements about the definitions of crate rules.
+-- What document 01 says of the box, as a statement about the definitions of crate rules.
 use mathlib.Core.Path.{_≡_}
 use mathlib.Core.Bool.{Bool, true, false}
-use mathlib.Core.List.{List, map}
+use mathlib.Core.List.{List}
 use Prim.Native.Nat.{ℕ, _*_, _<_}
-use lib.ListN.{length, drop}
-use lib.Ieee.{Float, binary32, lt, eq, toBits}
+use lib.ListN.{length}
+use lib.Ieee.{Float, lt, eq}
 use Rattle.rules.specs.declared.BoundingBox.{BoundingBox}
-use Rattle.rules.specs.Bytes.{Bytes, numbers, every}
+use Rattle.rules.specs.Bytes.{every}
 use Rattle.rules.specs.OwnData.{finite}
-use Rattle.rules.specs.Box.{float, coordinate, boxOf}
+use Rattle.rules.specs.Box.{coordinate, boxOf}
 
 -- x is one of f 0 to f (n - 1), none of them comes before it in an order, and none that stands before it is equal to it
 pub record FirstOf (before : Float → Float → Bool) (f : ℕ → Float) (n : ℕ) (x : Float) : Type 0 where
@@ -34,7 +34,3 @@ pub record Around (n : ℕ) (vertices : List ℕ) (b : BoundingBox) : Type 0 whe
 -- "Each is the smallest or largest of its axis, and among equal ones the first in file order, bit for bit."
 abbrev pub BoxIsAround : Type 0
 BoxIsAround = (n : ℕ) (vertices : List ℕ) → 0 < n → length vertices ≡ 3 * n → every finite vertices ≡ true → Around n vertices (boxOf n vertices)
-
--- what is in a row of floats, read back as bits, is what stands in the file
-abbrev pub BitForBit : Type 0
-BitForBit = (s : List ℕ) → Bytes s → (at n : ℕ) → every finite (numbers 4 n (drop at s)) ≡ true → map (toBits binary32) (map float (numbers 4 n (drop at s))) ≡ numbers 4 n (drop at s)

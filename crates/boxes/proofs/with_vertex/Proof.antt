@@ -1,8 +1,8 @@
 -- Axis by axis.
-use Rattle.lists.specs.Vertices.{widened}
+use Rattle.boxes.specs.Vertices.{widened}
 use borrow.Author.Needs.{needs}
-use Rattle.lists.proofs.with_vertex.Statement.{statement}
-use Rattle.lists.proofs.with_vertex.Tie as tie
+use Rattle.boxes.proofs.with_vertex.Statement.{statement}
+use Rattle.boxes.proofs.with_vertex.Tie as tie
 
 smaller-requires : tie.Need-smaller-requires
 smaller-requires c κs = search needs
