@@ -25,7 +25,7 @@ axis f n h = record {
 
 coordinate-finite : (vertices : List ℕ) (n a : ℕ) → length vertices ≡ 3 * suc n → a < 3 → every finite vertices ≡ true → (k : ℕ) → k ≤ n → Finite (coordinate vertices a k)
 unfolding coordinate
-coordinate-finite vertices n a l b h k m = float-finite _ (every-at finite vertices (3 * k + a) h (omega arith))
+coordinate-finite vertices n a l b h k m = float-finite _ (every-at finite vertices (3 * k + a) 0 (omega arith) h)
 
 pub box-is-around : BoxIsAround
 box-is-around zero vertices p l h = absurd (omega arith)

@@ -24,11 +24,11 @@ unfolding longAt
 long-number s at n j h = numbers-at 4 n j (drop at s) h ∙ ap (λ (l : List ℕ). value (take 4 l)) (drop-drop (4 * j) at s)
 
 -- what passes for each passes for one
-pub every-at : (p : ℕ → Bool) (xs : List ℕ) (j : ℕ) → every p xs ≡ true → j < length xs → p (getD xs j 0) ≡ true
+pub every-at : {A : Type 0} (good : A → Bool) (xs : List A) (i : ℕ) (d : A) → i < length xs → every good xs ≡ true → good (getD xs i d) ≡ true
 unfolding every
-every-at p [] j h l = absurd (omega arith)
-every-at p (x ∷ xs) zero h l = and-parts (p x) (every p xs) h .0
-every-at p (x ∷ xs) (suc j) h l = every-at p xs j (and-parts (p x) (every p xs) h .1) (omega arith)
+every-at good [] i d h e = absurd (omega arith)
+every-at good (x ∷ xs) zero d h e = and-parts (good x) (every good xs) e .0
+every-at good (x ∷ xs) (suc i) d h e = every-at good xs i d (omega arith) (and-parts (good x) (every good xs) e .1)
 
 pub long-passes : (p : ℕ → Bool) (s : List ℕ) (at n : ℕ) → every p (numbers 4 n (drop at s)) ≡ true → (j : ℕ) → j < n → p (longAt s (at + 4 * j)) ≡ true
-long-passes p s at n h j l = rw (← (long-number s at n j l)) (every-at p (numbers 4 n (drop at s)) j h (omega (arith, length-numbers 4 n (drop at s))))
+long-passes p s at n h j l = rw (← (long-number s at n j l)) (every-at p (numbers 4 n (drop at s)) j 0 (omega (arith, length-numbers 4 n (drop at s))) h)

@@ -16,7 +16,7 @@ use Rattle.rules.specs.declared.Corner.{Corner}
 use Rattle.rules.specs.Refusals.{numberOf, placeOf}
 use Rattle.rules.specs.Encodings.{numberBytes}
 use Rattle.rules.specs.Calls.{Effect, leaving, filled, checkCall, nameCall, boxCall}
-use Rattle.writer.specs.declared.Written.{Written}
+use Rattle.writable.specs.declared.Written.{Written}
 
 -- for a refusal its number times 2^32 plus its place, which is capped where it needs more than 32 bits
 abbrev pub refusalCode : Refusal → ℕ

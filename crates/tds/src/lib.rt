@@ -6,7 +6,7 @@ use rules::Named;
 use rules::Record;
 use rules::Refusal;
 use rules::Tabled;
-use writer::Written;
+use writable::Written;
 ghost use mathlib.Core.Path.{_≡_};
 ghost use Prim.Native.Nat.{_+_, _*_, _/_, _<_, _≤_, min};
 ghost use lib.ListN.{length};
