@@ -13,7 +13,7 @@ ghost use lib.ListN.{length};
 ghost use Rattle.rules.specs.Bytes.{packed};
 ghost use Rattle.rules.specs.Encodings.{beside, flatRecords, recordTable, recordBytes, numberBytes};
 ghost use Rattle.rules.specs.Calls.{filled, listCall, tablesCall};
-ghost use Rattle.mesh.specs.Choices.{rows};
+ghost use Rattle.mesh.specs.Rows.{rows};
 ghost use Rattle.writer.specs.Write.{writeCall};
 ghost use Rattle.tds.specs.Codes.{refusalCode, checkCode, recordsOr, sizesOr, sizeOr, give, countsCode, nameCode, boxCode};
 

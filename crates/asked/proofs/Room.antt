@@ -16,10 +16,10 @@ use Rattle.rules.specs.Gives.{Mesh, meshes}
 use Rattle.rules.specs.Calls.{pickMesh}
 use Rattle.find.specs.declared.Place.{Place}
 use Rattle.find.specs.Places.{PlaceIs}
-use Rattle.mesh.specs.declared.Asked.{Asked}
-use Rattle.mesh.specs.Choices.{no, yes, fitting, choose, AskedIs}
-use Rattle.mesh.proofs.Asks.{is-no, is-yes, asked-yes}
-use Rattle.mesh.proofs.Calls.{any-refused, any-goes-on}
+use Rattle.asked.specs.declared.Asked.{Asked}
+use Rattle.asked.specs.Choices.{no, yes, fitting, choose, AskedIs}
+use Rattle.asked.proofs.Asks.{is-no, is-yes, asked-yes}
+use Rattle.asked.proofs.Choices.{any-refused, any-goes-on}
 
 module _ {s : List ℕ} {m : Mesh} {place : Place} (p : PlaceIs s m place) where
   vertex-numbers : length (m .vertices) ≡ 3 * place .vertices .count

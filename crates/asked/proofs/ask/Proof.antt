@@ -3,10 +3,10 @@ use mathlib.Core.Path.{sym, _∙_}
 use native.Mathlib.Omega.{arith}
 use Rattle.rules.proofs.Bytes.{bytes-all}
 use Rattle.reader.proofs.Accepted.{accepted-by, meets-by}
-use Rattle.mesh.proofs.Asks.{file-refused, mesh-there, mesh-nowhere}
+use Rattle.asked.proofs.Asks.{file-refused, mesh-there, mesh-nowhere}
 use borrow.Author.Needs.{needs}
-use Rattle.mesh.proofs.ask.Statement.{statement}
-use Rattle.mesh.proofs.ask.Tie as tie
+use Rattle.asked.proofs.ask.Statement.{statement}
+use Rattle.asked.proofs.ask.Tie as tie
 
 check-requires : tie.Need-check-requires
 check-requires c κs = search needs

@@ -1,10 +1,10 @@
 -- A refusal of the file or of the number, too little room for the vertices or for the corners, or the mesh.
 use native.Mathlib.Omega.{arith}
-use Rattle.mesh.proofs.Asks.{asked-no, asked-yes}
-use Rattle.mesh.proofs.Room.{room-refused, no-room-vertices, no-room-corners, room-there}
+use Rattle.asked.proofs.Asks.{asked-no, asked-yes}
+use Rattle.asked.proofs.Room.{room-refused, no-room-vertices, no-room-corners, room-there}
 use borrow.Author.Needs.{needs}
-use Rattle.mesh.proofs.ask_with_room.Statement.{statement}
-use Rattle.mesh.proofs.ask_with_room.Tie as tie
+use Rattle.asked.proofs.ask_with_room.Statement.{statement}
+use Rattle.asked.proofs.ask_with_room.Tie as tie
 
 ask-requires : tie.Need-ask-requires
 ask-requires c κs = search needs

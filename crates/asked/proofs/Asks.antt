@@ -16,8 +16,8 @@ use Rattle.reader.proofs.Accepted.{Accepted}
 use Rattle.find.specs.declared.Place.{Place}
 use Rattle.find.specs.declared.Found.{Found}
 use Rattle.find.specs.Places.{PlaceIs, FoundIs}
-use Rattle.mesh.specs.declared.Asked.{Asked}
-use Rattle.mesh.specs.Choices.{Choice, no, yes, choose, ChoiceIs, AskedIs}
+use Rattle.asked.specs.declared.Asked.{Asked}
+use Rattle.asked.specs.Choices.{Choice, no, yes, choose, ChoiceIs, AskedIs}
 
 -- ---- from a choice, and back to it
 

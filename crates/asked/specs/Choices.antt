@@ -10,10 +10,10 @@ use Rattle.rules.specs.declared.Refusal.{Refusal}
 use Rattle.rules.specs.declared.Refusal.the-variants.{NoRoom}
 use Rattle.rules.specs.Walk.{Answer, verdict}
 use Rattle.rules.specs.Gives.{Mesh}
-use Rattle.rules.specs.Calls.{ofMesh, Rows}
+use Rattle.rules.specs.Calls.{ofMesh}
 use Rattle.find.specs.declared.Place.{Place}
 use Rattle.find.specs.Places.{PlaceIs}
-use Rattle.mesh.specs.declared.Asked.{Asked}
+use Rattle.asked.specs.declared.Asked.{Asked}
 
 pub data Choice : Type 0 where
   no : Refusal → Choice
@@ -36,7 +36,3 @@ ChoiceIs s (yes m) r = (place : Place) × (r ≡ Asked.Mesh place) × PlaceIs s 
 
 pub record AskedIs (s : List ℕ) (pick : Mesh → Choice) (mesh : ℕ) (r : Asked) : Type 0 where
   pub is : ChoiceIs s (choose pick mesh (verdict s)) r
-
--- the two rows of the tables
-abbrev pub rows : {A B : Type 0} → List A → List B → Rows A B
-rows vertices corners = record { vertices = vertices; corners = corners }
