@@ -4,7 +4,7 @@ use Rattle.rules.specs.declared.Refusal.{Refusal}
 use Rattle.rules.specs.declared.Checked.{Checked}
 use Rattle.rules.specs.declared.Tabled.{Tabled}
 use Rattle.rules.specs.Refusals.{numberOf, placeOf}
-use Rattle.writer.specs.declared.Written.{Written}
+use Rattle.writable.specs.declared.Written.{Written}
 
 -- for a refusal its number times 2^32 plus its place, which is capped where it needs more than 32 bits
 abbrev pub refusalCode : Refusal → ℕ

@@ -2,7 +2,7 @@
 use rules::Checked;
 use rules::Refusal;
 use rules::Tabled;
-use writer::Written;
+use writable::Written;
 ghost use mathlib.Core.Path.{_≡_};
 ghost use Rattle.mesh.specs.Within.{SizesWithin};
 ghost use Rattle.codes.specs.Codes.{refusalCode, recordsOr, sizesOr, sizeOr};

@@ -21,9 +21,10 @@ use Rattle.rules.specs.Gives.{recordCount, Mesh, meshes}
 use Rattle.rules.specs.Encodings.{Encoding}
 use Rattle.rules.specs.Calls.{leaving, countsOf, checkOf, checkCall, listOf, listCall, pickMesh, ofMesh, Rows, tablesOf, tablesCall, nameOf, nameCall, aroundOf, boxCall}
 use Rattle.rules.proofs.Demands.{numbered}
-use Rattle.writer.specs.declared.Written.{Written}
-use Rattle.writer.specs.declared.Written.the-variants.{Size, Refused}
-use Rattle.writer.specs.Write.{judged, writing, writeCall}
+use Rattle.writable.specs.declared.Written.{Written}
+use Rattle.writable.specs.declared.Written.the-variants.{Size, Refused}
+use Rattle.writable.specs.Judged.{judged}
+use Rattle.writer.specs.Write.{writing, writeCall}
 use Rattle.demands.specs.Demand1.{Answered, AnsweredOn, around, Demand1}
 
 -- ---- a refusal

@@ -17,7 +17,7 @@ use Rattle.rules.specs.declared.BoundingBox.{BoundingBox}
 use Rattle.rules.specs.Refusals.{numberOf, Numbered}
 use Rattle.rules.specs.Encodings.{Encoding}
 use Rattle.rules.specs.Calls.{Effect, leaving, checkCall, listCall, Rows, tablesCall, nameCall, boxCall}
-use Rattle.writer.specs.declared.Written.{Written}
+use Rattle.writable.specs.declared.Written.{Written}
 use Rattle.writer.specs.Write.{writeCall}
 
 -- an answer is accepted, or a refusal of the table

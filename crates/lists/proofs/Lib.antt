@@ -1,11 +1,3 @@
-pub mod Finite
-pub mod Order
-pub mod Strict
-pub mod First
-pub mod Numbers
 pub mod Fill
 pub mod Copied
-pub mod Box
-pub mod Theorems
-pub mod Middle
-pub mod FiniteBox
+pub mod BitForBit

@@ -1,3 +1,1 @@
-pub mod Vertices
-pub mod Theorems
-pub mod FiniteBox
+pub mod BitForBit

@@ -1,10 +1,12 @@
-// Little-endian numbers in a slice, read and written, and the test of a 32-bit float's exponent.
+// Little-endian numbers in a slice, read and written, 32-bit floats read, and the test of a float's exponent.
 ghost use mathlib.Core.Path.{_≡_};
+ghost use mathlib.Core.Bool.{true};
 ghost use Prim.Native.Nat.{_+_, _<_, _≤_};
 ghost use lib.ListN.{length, getD};
 ghost use Rattle.rules.specs.Bytes.{le};
 ghost use Rattle.rules.specs.OwnData.{finite};
-ghost use Rattle.little_endian.specs.Numbers.{Word, Long};
+ghost use Rattle.rules.specs.Box.{float};
+ghost use Rattle.little_endian.specs.Numbers.{Word, Long, longAt};
 ghost use Rattle.little_endian.specs.Put.{Put};
 
 fn byte_at(s: &[u8], at: usize) -> u32
@@ -39,6 +41,14 @@ pub fn is_finite(bits: u32) -> bool
     ensures { λ r. ⌜ r ≡ finite bits ⌝ }
 {
     bits / 8388608 % 256 != 255
+}
+
+// The float at a position, whose bits pass the test.
+pub fn float_at(s: &[u8], at: usize) -> f32
+    requires { ⌜ (at + 4 ≤ length (now s)) × (finite (longAt (now s) at) ≡ true) ⌝ }
+    ensures { λ r. ⌜ r ≡ float (longAt (now (s .entry)) at) ⌝ }
+{
+    f32::from_bits(long_at(s, at))
 }
 
 // ---- written

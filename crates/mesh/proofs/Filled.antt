@@ -16,8 +16,9 @@ use Rattle.rules.specs.Encodings.{Encoding}
 use Rattle.rules.specs.Calls.{Effect, Rows, leaving, filled, tablesOf, tablesCall}
 use Rattle.find.specs.declared.Place.{Place}
 use Rattle.find.specs.Places.{PlaceIs}
-use Rattle.mesh.specs.Choices.{Choice, no, yes, fitting, choose, rows}
-use Rattle.mesh.proofs.Calls.{with-choice, call-refused, call-goes-on}
+use Rattle.asked.specs.Choices.{Choice, no, yes, fitting, choose}
+use Rattle.asked.proofs.Choices.{with-choice, call-refused, call-goes-on}
+use Rattle.mesh.specs.Rows.{rows}
 
 -- what a call answers and leaves, in two parts
 pub gives : {A B : Type 0} {x : Effect Tabled (Rows A B)} {answer : Tabled} {left : Rows A B} → x ≡ leaving answer left → (answer ≡ x .answer) × (left ≡ x .rows)

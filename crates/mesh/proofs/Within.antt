@@ -22,8 +22,8 @@ use Rattle.rules.specs.Gives.{Mesh, oneMesh, meshOf, meshesOf, meshes}
 use Rattle.rules.specs.Calls.{pickMesh}
 use Rattle.rules.proofs.Sound.{length-bytes}
 use Rattle.rules.proofs.Verdict.{demand2}
-use Rattle.lists.proofs.FiniteBox.{box-is-finite}
-use Rattle.mesh.specs.Choices.{Choice, no, yes, choose}
+use Rattle.boxes.proofs.FiniteBox.{box-is-finite}
+use Rattle.asked.specs.Choices.{Choice, no, yes, choose}
 use Rattle.mesh.specs.Within.{BoxNumbers}
 
 -- ---- the name of each mesh of a run

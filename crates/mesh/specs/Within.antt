@@ -5,7 +5,7 @@ use Rattle.rules.specs.declared.Named.{Named}
 use Rattle.rules.specs.declared.Tabled.{Tabled}
 use Rattle.rules.specs.declared.Boxed.{Boxed}
 use Rattle.rules.specs.Rules.{limit}
-use Rattle.lists.specs.FiniteBox.{Numbers}
+use Rattle.boxes.specs.FiniteBox.{Numbers}
 
 abbrev pub NameWithin : Named → Type 0
 NameWithin (Named.At span) = span .offset + span .size ≤ limit

@@ -1,9 +1,9 @@
 // The calls about one mesh of a file: its tables, the name of its object, its box and centre. Each answers for every file
 // and every number.
-use find::Found;
-use find::Place;
+use asked::Asked;
+use asked::ask;
+use asked::ask_with_room;
 use rules::Boxed;
-use rules::Checked;
 use rules::Named;
 use rules::Refusal;
 use rules::Sizes;
@@ -12,47 +12,8 @@ use rules::Tabled;
 ghost use mathlib.Core.Path.{_≡_};
 ghost use Rattle.rules.specs.Encodings.{floatRow, cornerRow, numberBytes};
 ghost use Rattle.rules.specs.Calls.{tablesCall, nameCall, boxCall};
-ghost use Rattle.mesh.specs.Choices.{yes, fitting, AskedIs, rows};
+ghost use Rattle.mesh.specs.Rows.{rows};
 ghost use Rattle.mesh.specs.Within.{NameWithin, SizesWithin, BoxNumbers};
-
-// Where the mesh asked for stands; or the refusal of the file, or of the number.
-pub enum Asked {
-    Mesh(Place),
-    Refused(Refusal),
-}
-
-fn ask(file: &[u8], mesh: u32) -> Asked
-    ensures { λ r. ⌜ AskedIs (now (file .entry)) yes mesh r ⌝ }
-{
-    match reader::check(file) {
-        Checked::Refused(r) => Asked::Refused(r),
-        Checked::Accepted(_) => match find::find_mesh(file, mesh as usize) {
-            Found::Mesh(place) => Asked::Mesh(place),
-            Found::Meshes(n) => Asked::Refused(Refusal::NoSuchMesh(n)),
-        },
-    }
-}
-
-// The same, of a mesh for whose tables there is room for so many numbers each. If both have too little, the vertices are
-// spoken of.
-fn ask_with_room(file: &[u8], mesh: u32, vertices: usize, corners: usize) -> Asked
-    ensures { λ r. ⌜ AskedIs (now (file .entry)) (fitting vertices corners) mesh r ⌝ }
-{
-    match ask(file, mesh) {
-        Asked::Refused(r) => Asked::Refused(r),
-        Asked::Mesh(place) => {
-            let numbers = 3 * place.vertices.count;
-            if vertices < numbers {
-                return Asked::Refused(Refusal::NoRoom(numbers));
-            }
-            let words = 3 * place.faces.count;
-            if corners < words {
-                return Asked::Refused(Refusal::NoRoom(words));
-            }
-            Asked::Mesh(place)
-        }
-    }
-}
 
 // The vertices and corners of a mesh, into lent rows: three numbers a vertex, three corners a face. A refusal leaves both
 // rows as they were.
@@ -123,8 +84,8 @@ pub fn bounding_box(file: &[u8], mesh: u32) -> Boxed
             if n == 0 {
                 return Boxed::Refused(Refusal::Empty);
             }
-            let around = lists::box_of(file, place.vertices.at, n);
-            Boxed::Around(around, lists::centre_of(around))
+            let around = boxes::box_of(file, place.vertices.at, n);
+            Boxed::Around(around, boxes::centre_of(around))
         }
     }
 }

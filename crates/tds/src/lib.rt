@@ -6,7 +6,7 @@ ghost use Prim.Native.Nat.{_/_};
 ghost use lib.ListN.{length};
 ghost use Rattle.rules.specs.Encodings.{beside, flatRecords, recordTable, recordBytes, numberBytes};
 ghost use Rattle.rules.specs.Calls.{checkCall, listCall, tablesCall, nameCall, boxCall};
-ghost use Rattle.mesh.specs.Choices.{rows};
+ghost use Rattle.mesh.specs.Rows.{rows};
 ghost use Rattle.writer.specs.Write.{writeCall};
 ghost use Rattle.codes.specs.Codes.{recordsOr, sizesOr, sizeOr};
 ghost use Rattle.answers.specs.Given.{countsGiven, nameGiven, boxGiven};

@@ -3,7 +3,7 @@ use mathlib.Core.Path.{_≡_, refl, sym, ap, _∙_}
 use mathlib.Core.Logic.{_⊎_, inl, inr}
 use Prim.Native.Nat.{ℕ, suc, _+_}
 use native.Mathlib.Omega.{arith}
-use mathlib.Core.Bool.{Bool, true, false, not, true≢false, false≢true}
+use mathlib.Core.Bool.{Bool, true, not, true≢false, false≢true}
 use mathlib.Core.List.{List, [], _∷_, _++_, map, append-assoc}
 use lib.ListN.{length}
 use borrow.Author.Tests.{eqb-true, not-true}
@@ -16,7 +16,7 @@ use Rattle.rules.specs.Rules.{Parent, file, inside, noChild, Lawful, Obeys}
 use Rattle.rules.specs.Gives.{recordCount, recordsOf, skipped}
 use Rattle.rules.proofs.Bools.{and-parts}
 use Rattle.rules.proofs.Verdict.{demand2}
-use Rattle.writer.specs.Bare.{sixChunks}
+use Rattle.bare.specs.Bare.{sixChunks}
 use Rattle.writer.specs.WritesAgain.{JustSix}
 use Rattle.writer.proofs.Repacked.{none}
 

@@ -18,14 +18,16 @@ use Rattle.rules.specs.Calls.{Effect, leaving, filled, Rows, tablesOf}
 use Rattle.rules.proofs.Bools.{every-weaker}
 use Rattle.rules.proofs.Bytes.{value-le}
 use Rattle.rules.proofs.Verdict.{verdict-good}
-use Rattle.writer.specs.Bare.{triples, nameData, vertexData, faceData, bare}
-use Rattle.writer.specs.declared.Written.{Written}
-use Rattle.writer.specs.declared.Written.the-variants.{Size}
-use Rattle.writer.specs.Write.{judged, writeCall}
+use Rattle.writable.specs.Judged.{triples, judged}
+use Rattle.bare.specs.Bare.{nameData, vertexData, faceData, bare}
+use Rattle.writable.specs.declared.Written.{Written}
+use Rattle.writable.specs.declared.Written.the-variants.{Size}
+use Rattle.writer.specs.Write.{writeCall}
 use Rattle.writer.specs.ReadsBack.{Floats32, ReadsBack, WrittenReadsBack}
-use Rattle.writer.proofs.Bare.{behind, name-place, length-vertex-data, length-face-data, length-bare}
+use Rattle.bare.proofs.Bare.{behind, name-place, length-vertex-data, length-face-data, length-bare}
 use Rattle.writer.proofs.Floats.{floats-small, floats-finite, floats-back}
-use Rattle.writer.proofs.Judged.{Ready, ready, called, answered}
+use Rattle.writable.proofs.Judged.{Ready, ready}
+use Rattle.writer.proofs.Called.{called, answered}
 use Rattle.writer.proofs.Six.{Exact, obeys, mesh, name-call, no-other, tables-call, list-call}
 use Rattle.writer.proofs.Unpacked.{numbers-packed, corners-packed, name-size}
 

@@ -4,7 +4,8 @@ use lib.Count.{trailingZeros}
 use lib.Ieee.{span, climb, size, odd, ofFields, ofBits, toBits}
 use Rattle.rules.specs.Bytes.{every}
 use Rattle.rules.specs.Walk.{broken}
-use Rattle.writer.specs.Write.{judged, writeCall}
+use Rattle.writable.specs.Judged.{judged}
+use Rattle.writer.specs.Write.{writeCall}
 use Rattle.writer.specs.Samples.{Samples}
 
 pub samples : Samples

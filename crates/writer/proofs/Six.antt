@@ -21,7 +21,7 @@ use Rattle.rules.specs.Walk.{accepted, verdict}
 use Rattle.rules.specs.Encodings.{flatRecords, floatRow, cornerRow}
 use Rattle.rules.specs.Calls.{leaving, filled, listOf, listCall, ofMesh, Rows, tablesOf, tablesCall, nameOf, nameCall}
 use Rattle.rules.proofs.Bools.{both, and-parts}
-use Rattle.writer.specs.Bare.{sixChunks}
+use Rattle.bare.specs.Bare.{sixChunks}
 use Rattle.writer.specs.ReadsBack.{sixRecords}
 
 -- the rules of one chunk, in the order of the record

@@ -29,13 +29,15 @@ use Rattle.rules.proofs.Bools.{both}
 use Rattle.rules.proofs.Bytes.{bytes-drop, word-small}
 use Rattle.rules.proofs.Conditions.{Met}
 use Rattle.rules.proofs.Verdict.{demand2}
-use Rattle.writer.specs.declared.Written.the-variants.{Size}
-use Rattle.writer.specs.Bare.{triples, nameData, vertexData, faceData, sixChunks, bare}
-use Rattle.writer.specs.Write.{wholeRow, figureSize, writeConditions, judged, writeCall}
+use Rattle.writable.specs.declared.Written.the-variants.{Size}
+use Rattle.writable.specs.Judged.{triples, wholeRow, figureSize, writeConditions, judged}
+use Rattle.bare.specs.Bare.{nameData, vertexData, faceData, sixChunks, bare}
+use Rattle.writer.specs.Write.{writeCall}
 use Rattle.writer.specs.WritesAgain.{faceFlags, WritesAgain}
-use Rattle.writer.proofs.Bare.{leaf-bytes, behind, name-place, length-bare}
+use Rattle.bare.proofs.Bare.{leaf-bytes, behind, name-place, length-bare}
 use Rattle.writer.proofs.Floats.{patterns-finite, patterns-back}
-use Rattle.writer.proofs.Judged.{sized, called}
+use Rattle.writable.proofs.Judged.{sized}
+use Rattle.writer.proofs.Called.{called}
 use Rattle.writer.proofs.Repacked.{numbers-small, packed-corners, name-parts}
 use Rattle.writer.proofs.Six.{Exact, exact, mesh, name-call, tables-call}
 

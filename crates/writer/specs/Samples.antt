@@ -8,8 +8,8 @@ use Rattle.rules.specs.Refusals.{numberOf, placeOf}
 use Rattle.rules.specs.Box.{float}
 use Rattle.rules.specs.Calls.{leaving}
 use Rattle.rules.specs.Samples.{triangle, one}
-use Rattle.writer.specs.declared.Written.{Written}
-use Rattle.writer.specs.declared.Written.the-variants.{Size, Refused}
+use Rattle.writable.specs.declared.Written.{Written}
+use Rattle.writable.specs.declared.Written.the-variants.{Size, Refused}
 use Rattle.writer.specs.Write.{writeCall}
 
 -- an answer as the paper writes it: a refusal's number and place, or the size

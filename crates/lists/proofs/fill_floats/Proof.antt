@@ -8,7 +8,7 @@ use Rattle.rules.specs.Bytes.{numbers}
 use Rattle.rules.specs.OwnData.{finite}
 use Rattle.rules.specs.Box.{float}
 use Rattle.rules.specs.Calls.{filled}
-use Rattle.lists.proofs.Numbers.{long-passes}
+use Rattle.little_endian.proofs.Numbers.{long-passes}
 use Rattle.lists.proofs.Fill.{float-more}
 use Rattle.lists.proofs.fill_floats.Statement.{statement}
 use Rattle.lists.proofs.fill_floats.Tie as tie

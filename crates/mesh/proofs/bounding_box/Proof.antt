@@ -1,7 +1,7 @@
 -- A refusal, an empty mesh, or the box.
 use Prim.Native.Nat.{_<_}
 use native.Mathlib.Omega.{arith}
-use Rattle.mesh.proofs.Asks.{asked-no, asked-yes}
+use Rattle.asked.proofs.Asks.{asked-no, asked-yes}
 use Rattle.mesh.proofs.Within.{box-numbers}
 use Rattle.mesh.proofs.Calls.{box-refused, box-empty, box-goes-on}
 use borrow.Author.Needs.{needs}

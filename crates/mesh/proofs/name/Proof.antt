@@ -1,7 +1,7 @@
 -- A refusal, or the name's place.
 use native.Mathlib.Omega.{arith}
 use Rattle.rules.proofs.Bytes.{bytes-all}
-use Rattle.mesh.proofs.Asks.{asked-no, asked-yes}
+use Rattle.asked.proofs.Asks.{asked-no, asked-yes}
 use Rattle.mesh.proofs.Calls.{name-refused, name-goes-on}
 use Rattle.mesh.proofs.Within.{name-within}
 use borrow.Author.Needs.{needs}

@@ -1,8 +1,8 @@
 -- A refusal, or the mesh's tables.
 use native.Mathlib.Omega.{arith}
 use Rattle.rules.specs.Encodings.{floatRow, cornerRow}
-use Rattle.mesh.proofs.Asks.{asked-no, asked-yes}
-use Rattle.mesh.proofs.Room.{has-room}
+use Rattle.asked.proofs.Asks.{asked-no, asked-yes}
+use Rattle.asked.proofs.Room.{has-room}
 use Rattle.mesh.proofs.Filled.{gives, tables-refused, tables-filled}
 use borrow.Author.Needs.{needs}
 use Rattle.mesh.proofs.tables.Statement.{statement}

@@ -4,9 +4,9 @@ use Rattle.rules.proofs.Bytes.{bytes-all}
 use Rattle.rules.specs.Encodings.{numberBytes}
 use Prim.Native.Nat.{_/_}
 use lib.ListN.{length}
-use Rattle.mesh.specs.Choices.{fitting}
-use Rattle.mesh.proofs.Asks.{asked-no, asked-yes}
-use Rattle.mesh.proofs.Room.{has-room}
+use Rattle.asked.specs.Choices.{fitting}
+use Rattle.asked.proofs.Asks.{asked-no, asked-yes}
+use Rattle.asked.proofs.Room.{has-room}
 use Rattle.mesh.proofs.Filled.{gives, tables-refused, tables-filled}
 use Rattle.mesh.proofs.Within.{limit-by}
 use borrow.Author.Needs.{needs}

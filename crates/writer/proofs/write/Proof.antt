@@ -5,10 +5,11 @@ use native.Mathlib.Omega.{arith}
 use mathlib.Core.List.{List}
 use lib.ListN.{length}
 use Rattle.rules.specs.Calls.{Effect}
-use Rattle.writer.specs.declared.Written.{Written}
-use Rattle.writer.specs.declared.Written.the-variants.{Size}
-use Rattle.writer.proofs.Bare.{length-bare}
-use Rattle.writer.proofs.Judged.{ready, called}
+use Rattle.writable.specs.declared.Written.{Written}
+use Rattle.writable.specs.declared.Written.the-variants.{Size}
+use Rattle.bare.proofs.Bare.{length-bare}
+use Rattle.writable.proofs.Judged.{ready}
+use Rattle.writer.proofs.Called.{called}
 use Rattle.little_endian.proofs.Put.{put-front}
 use borrow.Author.Needs.{needs}
 use Rattle.writer.proofs.write.Statement.{statement}
