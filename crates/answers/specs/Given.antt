@@ -1,6 +1,6 @@
 -- Answers of a few numbers, four bytes each: the answer is how many there are, or 15 with that; and what is left in the
 -- lent bytes.
-use Prim.Native.Nat.{ℕ, _^_, _<_}
+use Prim.Native.Nat.{ℕ}
 use mathlib.Core.Bool.{cond}
 use mathlib.Core.List.{List, [], _∷_, map}
 use lib.Dec.{leb}
@@ -29,11 +29,6 @@ refused out r = leaving (refusalCode r) out
 abbrev pub countsGiven : List ℕ → Checked → Effect ℕ (List ℕ)
 countsGiven out (Checked.Accepted c) = given out (c .headers ∷ c .own ∷ c .skipped ∷ [])
 countsGiven out (Checked.Refused r) = refused out r
-
--- each fits 32 bits
-abbrev pub CountsWithin : Checked → Type 0
-CountsWithin (Checked.Accepted c) = (c .headers < 2 ^ 32) × (c .own < 2 ^ 32) × (c .skipped < 2 ^ 32)
-CountsWithin (Checked.Refused r) = Unit
 
 -- a name's offset and length
 abbrev pub nameGiven : List ℕ → Named → Effect ℕ (List ℕ)

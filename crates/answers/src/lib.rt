@@ -11,8 +11,8 @@ ghost use Prim.Native.Nat.{_*_, _≤_};
 ghost use lib.ListN.{length};
 ghost use Rattle.rules.specs.Bytes.{packed};
 ghost use Rattle.rules.specs.Calls.{filled};
-ghost use Rattle.mesh.specs.Within.{NameWithin, BoxNumbers};
-ghost use Rattle.answers.specs.Given.{given, countsGiven, CountsWithin, nameGiven, boxGiven};
+ghost use Rattle.rules.specs.Within.{CountsWithin, NameWithin, BoxNumbers};
+ghost use Rattle.answers.specs.Given.{given, countsGiven, nameGiven, boxGiven};
 
 // The numbers, into the front of out.
 fn put_numbers(numbers: &[u32], out: &mut [u8])

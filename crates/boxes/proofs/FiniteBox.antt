@@ -15,7 +15,8 @@ use Rattle.rules.specs.Bytes.{every}
 use Rattle.rules.specs.OwnData.{finite}
 use Rattle.rules.specs.Box.{float, coordinate, lesser, greater, lowest, highest, half, middle}
 use Rattle.rules.proofs.Bools.{and-parts}
-use Rattle.boxes.specs.FiniteBox.{Number, BoxIsFinite}
+use Rattle.rules.specs.Within.{Number}
+use Rattle.boxes.specs.FiniteBox.{BoxIsFinite}
 use Rattle.boxes.proofs.Order.{Finite}
 use Rattle.boxes.proofs.Finite.{float-finite}
 use Rattle.boxes.proofs.Middle.{Within, fits-within, middle-within}

@@ -4,7 +4,7 @@ use rules::Refusal;
 use rules::Tabled;
 use writable::Written;
 ghost use mathlib.Core.Path.{_≡_};
-ghost use Rattle.mesh.specs.Within.{SizesWithin};
+ghost use Rattle.rules.specs.Within.{SizesWithin};
 ghost use Rattle.codes.specs.Codes.{refusalCode, recordsOr, sizesOr, sizeOr};
 
 // A refusal. Only the writer can have a place beyond 32 bits; it is answered as the largest.

@@ -20,7 +20,7 @@ use Rattle.rules.specs.Walk.{Answer, refused, accepted, verdict}
 use Rattle.rules.specs.Gives.{recordCount, Mesh, meshes}
 use Rattle.rules.specs.Encodings.{Encoding}
 use Rattle.rules.specs.Calls.{leaving, countsOf, checkOf, checkCall, listOf, listCall, pickMesh, ofMesh, Rows, tablesOf, tablesCall, nameOf, nameCall, aroundOf, boxCall}
-use Rattle.rules.proofs.Demands.{numbered}
+use Rattle.rules.proofs.Theorems.{numbered}
 use Rattle.writable.specs.declared.Written.{Written}
 use Rattle.writable.specs.declared.Written.the-variants.{Size, Refused}
 use Rattle.writable.specs.Judged.{judged}

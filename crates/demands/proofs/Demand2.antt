@@ -22,8 +22,8 @@ use Rattle.rules.specs.Walk.{Answer, refused, accepted, verdict}
 use Rattle.rules.specs.Gives.{recordCount, Mesh, meshes}
 use Rattle.rules.specs.Encodings.{Encoding}
 use Rattle.rules.specs.Calls.{Effect, leaving, checkOf, checkCall, listOf, listCall, pickMesh, ofMesh, Rows, tablesOf, tablesCall, nameCall, boxCall}
-use Rattle.rules.proofs.Verdict.{demand2 as verdict-meets, verdict-good}
-use Rattle.rules.proofs.Demands.{counts-add}
+use Rattle.rules.proofs.Verdict.{accepted-exactly, verdict-good}
+use Rattle.rules.proofs.Theorems.{counts-add}
 use Rattle.writer.proofs.ReadsBack.{written-reads-back}
 use Rattle.demands.specs.Demand2.{RoomFor, Given, Demand2}
 
@@ -50,7 +50,7 @@ found-layout fold {z} never s b = go (verdict s) refl
   where
     go : (a : Answer) → verdict s ≡ a → fold a ≡ z → (kids : Run) × Meets s kids × (fold (accepted kids) ≡ z)
     go (refused r) v e = absurd (never r e)
-    go (accepted kids) v e = (kids, verdict-meets s b kids .0 v, e)
+    go (accepted kids) v e = (kids, accepted-exactly s b kids .0 v, e)
 
 module _ {A R : Type 0} {z : A} where
   -- the mesh

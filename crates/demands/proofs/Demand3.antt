@@ -15,11 +15,11 @@ use Rattle.rules.specs.Layout.{figure, bytes}
 use Rattle.rules.specs.Walk.{accepted, verdict}
 use Rattle.rules.specs.Gives.{list, Mesh, meshes}
 use Rattle.rules.specs.Gaps.{Marked, figureOf, without, with, SameMesh, Pairwise}
-use Rattle.rules.specs.Demands.{putIn, allPut}
+use Rattle.rules.specs.Theorems.{putIn, allPut}
 use Rattle.rules.specs.Calls.{leaving, countsOf, checkCall, listCall, pickMesh, ofMesh, tablesOf, tablesCall, nameOf, nameCall, aroundOf, boxCall}
 use Rattle.rules.proofs.Verdict.{verdict-good}
 use Rattle.rules.proofs.Gaps.{record-count-same}
-use Rattle.rules.proofs.Demands.{demand3 as put-in-or-taken-out}
+use Rattle.rules.proofs.Theorems.{put-in-or-taken-out}
 use Rattle.demands.specs.Demand3.{NameMoved, SameAnswers, Demand3}
 
 -- ---- lists that are related element by element

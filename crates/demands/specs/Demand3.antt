@@ -16,7 +16,7 @@ use Rattle.rules.specs.Bytes.{Bytes}
 use Rattle.rules.specs.Layout.{figure, bytes}
 use Rattle.rules.specs.Rules.{limit, Meets}
 use Rattle.rules.specs.Gaps.{Marked, without, with, InGaps, Piece, before, Moved, Pairwise}
-use Rattle.rules.specs.Demands.{putIn, allPut}
+use Rattle.rules.specs.Theorems.{putIn, allPut}
 use Rattle.rules.specs.Encodings.{Encoding}
 use Rattle.rules.specs.Calls.{leaving, filled, checkCall, listCall, Rows, tablesCall, nameCall, boxCall}
 

@@ -21,10 +21,10 @@ use Rattle.rules.specs.Walk.{Answer, refused, accepted, verdict}
 use Rattle.rules.specs.Gives.{Mesh, oneMesh, meshOf, meshesOf, meshes}
 use Rattle.rules.specs.Calls.{pickMesh}
 use Rattle.rules.proofs.Sound.{length-bytes}
-use Rattle.rules.proofs.Verdict.{demand2}
+use Rattle.rules.proofs.Verdict.{accepted-exactly}
 use Rattle.boxes.proofs.FiniteBox.{box-is-finite}
 use Rattle.asked.specs.Choices.{Choice, no, yes, choose}
-use Rattle.mesh.specs.Within.{BoxNumbers}
+use Rattle.rules.specs.Within.{BoxNumbers}
 
 -- ---- the name of each mesh of a run
 
@@ -72,7 +72,7 @@ module _ (s : List ℕ) (b : Bytes s) (mesh : ℕ) {m : Mesh} where
     where
       go : (a : Answer) → verdict s ≡ a → choose pick mesh a ≡ yes m → length s ≤ limit
       go (refused r) v e = absurd (never-no e)
-      go (accepted kids) v e = demand2 s b kids .0 v .within-limit
+      go (accepted kids) v e = accepted-exactly s b kids .0 v .within-limit
 
   pub name-within : choose yes mesh (verdict s) ≡ yes m → m .nameAt + m .nameLength ≤ limit
   name-within = go (verdict s) refl
@@ -80,7 +80,7 @@ module _ (s : List ℕ) (b : Bytes s) (mesh : ℕ) {m : Mesh} where
       go : (a : Answer) → verdict s ≡ a → choose yes mesh a ≡ yes m → m .nameAt + m .nameLength ≤ limit
       go (refused r) v e = absurd (never-no e)
       go (accepted kids) v e =
-          let q = demand2 s b kids .0 v in
+          let q = accepted-exactly s b kids .0 v in
           let n : size (figure kids) ≡ length s = sym (length-bytes (figure kids)) ∙ ap length (q .is) in
           let z = q .within-limit in
           each-at limit (meshes kids) mesh m (names-within limit 0 0 0 (figure kids) (omega arith) (omega arith)) (picked (length (meshes kids)) (getElem? (meshes kids) mesh) e)

@@ -13,7 +13,7 @@ ghost use mathlib.Core.Path.{_≡_};
 ghost use Rattle.rules.specs.Encodings.{floatRow, cornerRow, numberBytes};
 ghost use Rattle.rules.specs.Calls.{tablesCall, nameCall, boxCall};
 ghost use Rattle.mesh.specs.Rows.{rows};
-ghost use Rattle.mesh.specs.Within.{NameWithin, SizesWithin, BoxNumbers};
+ghost use Rattle.rules.specs.Within.{NameWithin, SizesWithin, BoxNumbers};
 
 // The vertices and corners of a mesh, into lent rows: three numbers a vertex, three corners a face. A refusal leaves both
 // rows as they were.

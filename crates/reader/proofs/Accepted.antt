@@ -10,7 +10,7 @@ use Rattle.rules.specs.Layout.{Run}
 use Rattle.rules.specs.Rules.{Meets}
 use Rattle.rules.specs.Walk.{Answer, refused, accepted, verdict}
 use Rattle.rules.specs.Calls.{countsOf, checkOf, checkCall}
-use Rattle.rules.proofs.Verdict.{demand2}
+use Rattle.rules.proofs.Verdict.{accepted-exactly}
 
 pub record Accepted (s : List ℕ) (counts : Counts) : Type 0 where
   pub kids : Run
@@ -26,4 +26,4 @@ accepted-by s counts = go (verdict s) refl
     go (accepted kids) v e = record { kids = kids; verdict-is = v; counts-are = cc }
 
 pub meets-by : {s : List ℕ} {counts : Counts} → Bytes s → (a : Accepted s counts) → Meets s (a .kids)
-meets-by {s} b a = demand2 s b (a .kids) .0 (a .verdict-is)
+meets-by {s} b a = accepted-exactly s b (a .kids) .0 (a .verdict-is)

@@ -22,7 +22,7 @@ use Rattle.rules.specs.Walk.{broken, fileConditions, endConditions, lengthField
 use Rattle.rules.specs.Calls.{countsOf, checkOf, checkCall}
 use Rattle.rules.proofs.Conditions.{met, unbroken, broken-here, broken-later}
 use Rattle.rules.proofs.Sound.{length-bytes}
-use Rattle.rules.proofs.Demands.{counted-once}
+use Rattle.rules.proofs.Theorems.{counted-once}
 use Rattle.little_endian.specs.Numbers.{wordAt, longAt}
 use Rattle.table_row.specs.Packed.{places, rowOf}
 use Rattle.marks.specs.declared.Shut.{Shut}

@@ -18,7 +18,7 @@ use Rattle.rules.proofs.Conditions.{met, unbroken}
 use Rattle.rules.proofs.Once.{few-nil}
 use Rattle.rules.proofs.Sound.{length-bytes, Closed, Closes, ended-closes, run-tells}
 use Rattle.rules.proofs.Complete.{ended-good, run-complete}
-use Rattle.rules.specs.Demands.{Demand2, OneLayout}
+use Rattle.rules.specs.Theorems.{AcceptedExactly, OneLayout}
 
 -- 4D4D in the file
 abbrev top : Parent
@@ -108,8 +108,8 @@ verdict-good s kids m =
 
 -- ---- the theorems
 
-pub demand2 : Demand2
-demand2 s b kids = (λ e. subst (MeetsIf s) e (verdict-meets s b), verdict-good s kids)
+pub accepted-exactly : AcceptedExactly
+accepted-exactly s b kids = (λ e. subst (MeetsIf s) e (verdict-meets s b), verdict-good s kids)
 
 pub one-layout : OneLayout
 one-layout s kids kids′ m m′ =

@@ -7,9 +7,9 @@ use Rattle.rules.specs.declared.Counts.{Counts}
 use Rattle.rules.specs.declared.Checked.{Checked}
 use Rattle.rules.specs.Bytes.{Bytes}
 use Rattle.rules.specs.Calls.{checkCall}
-use Rattle.rules.proofs.Demands.{counts-add}
+use Rattle.rules.proofs.Theorems.{counts-add}
 use Rattle.reader.proofs.Accepted.{accepted-by, meets-by}
-use Rattle.answers.specs.Given.{CountsWithin}
+use Rattle.rules.specs.Within.{CountsWithin}
 
 pub counts-within : (s : List ℕ) → Bytes s → CountsWithin (checkCall s)
 counts-within s b = go (checkCall s) refl

@@ -11,7 +11,7 @@ use Rattle.rules.specs.Layout.{Run, known, figure, header, size, bytes}
 use Rattle.rules.specs.Rules.{Meets}
 use Rattle.rules.specs.Walk.{verdict, accepted}
 use Rattle.rules.specs.Gives.{list}
-use Rattle.rules.proofs.Verdict.{demand2}
+use Rattle.rules.proofs.Verdict.{accepted-exactly}
 use Rattle.turned.specs.Turned.{withLength}
 use Rattle.turned.proofs.Context.{fill, bytes-plug}
 use Rattle.turned.proofs.Field.{offsetIn, offset-within, field-fill}
@@ -26,7 +26,7 @@ in-range (y ∷ xs) (suc i) x h = omega (arith, in-range xs i x h)
 
 module _ (s : List ℕ) (kids : Run) (i : ℕ) (r : Record) (are-bytes : Bytes s) (reads : verdict s ≡ accepted kids) (in-list : getElem? (list kids) i ≡ some r) where
   pub meets : Meets s kids
-  meets = demand2 s are-bytes kids .0 reads
+  meets = accepted-exactly s are-bytes kids .0 reads
 
   pub found : Found i (figure kids)
   found = find i (figure kids) (omega (arith, in-range (list kids) i r in-list, length-records 0 0 0 0 (figure kids)))

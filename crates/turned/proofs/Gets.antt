@@ -11,7 +11,7 @@ use Rattle.rules.specs.Rules.{file}
 use Rattle.rules.specs.Gives.{recordCount, list, headers, owned, skipped, meshes, meshesOf}
 use Rattle.rules.specs.Calls.{countsOf}
 use Rattle.rules.proofs.Gaps.{record-count-same, headers-same, owned-same}
-use Rattle.rules.proofs.Demands.{counted-once}
+use Rattle.rules.proofs.Theorems.{counted-once}
 use Rattle.turned.specs.Turned.{SameButLength}
 use Rattle.turned.proofs.Bare.{bare, same-of-bare}
 use Rattle.turned.proofs.Field.{offsetIn}

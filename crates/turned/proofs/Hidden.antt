@@ -13,7 +13,7 @@ use Rattle.rules.specs.Rules.{file, noneMissing}
 use Rattle.rules.specs.Walk.{broken, step, walk, verdict}
 use Rattle.rules.specs.Gives.{recordCount, headers, skipped}
 use Rattle.rules.specs.Calls.{checkCall}
-use Rattle.rules.proofs.Demands.{counts-add}
+use Rattle.rules.proofs.Theorems.{counts-add}
 use Rattle.turned.specs.Hidden.{Hidden, NoneSmaller}
 
 pub hidden : Hidden

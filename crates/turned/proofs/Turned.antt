@@ -16,7 +16,7 @@ use Rattle.rules.specs.Rules.{file, Meets}
 use Rattle.rules.specs.Walk.{Answer, verdict, accepted, refused}
 use Rattle.rules.specs.Gives.{recordsOf, list, skipped}
 use Rattle.rules.proofs.Bytes.{bytes-take, bytes-drop}
-use Rattle.rules.proofs.Verdict.{demand2, length-figure}
+use Rattle.rules.proofs.Verdict.{accepted-exactly, length-figure}
 use Rattle.turned.specs.Turned.{withLength, OtherLength, resized, SameOrRefused, RefusedWithoutUnlisted}
 use Rattle.turned.proofs.Bare.{bare-whole}
 use Rattle.turned.proofs.Number.{Found}
@@ -44,7 +44,7 @@ module _ (s : List ℕ) (kids : Run) (i : ℕ) (r : Record) (n : ℕ) (h : Other
   pub read-again : (kids′ : Run) → verdict (withLength (r .offset) n s) ≡ accepted kids′ → Reread file (at .context) (at .id) (at .own) (at .kids) (at .rest) n (figure kids′)
   read-again kids′ e =
       let m : Meets s kids = meets s kids i r (h .are-bytes) (h .reads) (h .in-list) in
-      let m′ = demand2 (withLength (r .offset) n s) (bytes-field (r .offset) n s (h .are-bytes)) kids′ .0 e in
+      let m′ = accepted-exactly (withLength (r .offset) n s) (bytes-field (r .offset) n s (h .are-bytes)) kids′ .0 e in
       let z : size (figure kids′) < 2 ^ 32 = omega (arith, m′ .within-limit, ap length (m′ .is), length-figure kids′) in
       reread file (at .context) (at .id) (at .own) (at .kids) (at .rest) n (figure kids′) (h .in-field) z
       (rw (at .is) (m .chunks)) (m′ .chunks) (m′ .is ∙ with-length s kids i r (h .are-bytes) (h .reads) (h .in-list) n)

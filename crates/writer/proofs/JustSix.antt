@@ -15,7 +15,7 @@ use Rattle.rules.specs.Layout.{Run, end, skip, known, size, figure}
 use Rattle.rules.specs.Rules.{Parent, file, inside, noChild, Lawful, Obeys}
 use Rattle.rules.specs.Gives.{recordCount, recordsOf, skipped}
 use Rattle.rules.proofs.Bools.{and-parts}
-use Rattle.rules.proofs.Verdict.{demand2}
+use Rattle.rules.proofs.Verdict.{accepted-exactly}
 use Rattle.bare.specs.Bare.{sixChunks}
 use Rattle.writer.specs.WritesAgain.{JustSix}
 use Rattle.writer.proofs.Repacked.{none}
@@ -194,4 +194,4 @@ module _ (kids : Run) (obeys : Obeys (inside file 0x4D4D []) kids) (unskipped : 
 pub just-six : JustSix
 just-six s b kids e order unskipped =
     let t : 0x4D4D ∷ (ids kids ++ []) ≡ 0x4D4D ∷ 0x3D3D ∷ 0x4000 ∷ 0x4100 ∷ 0x4110 ∷ 0x4120 ∷ [] = sym (ids-listed 0 0 0 0 (figure kids)) ∙ order in
-    shaped kids (demand2 s b kids .0 e .chunks .1) (omega arith) (cc)
+    shaped kids (accepted-exactly s b kids .0 e .chunks .1) (omega arith) (cc)

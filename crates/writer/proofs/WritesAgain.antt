@@ -28,7 +28,7 @@ use Rattle.rules.specs.Calls.{Effect, leaving, filled, Rows, tablesOf, tablesCa
 use Rattle.rules.proofs.Bools.{both}
 use Rattle.rules.proofs.Bytes.{bytes-drop, word-small}
 use Rattle.rules.proofs.Conditions.{Met}
-use Rattle.rules.proofs.Verdict.{demand2}
+use Rattle.rules.proofs.Verdict.{accepted-exactly}
 use Rattle.writable.specs.declared.Written.the-variants.{Size}
 use Rattle.writable.specs.Judged.{triples, wholeRow, figureSize, writeConditions, judged}
 use Rattle.bare.specs.Bare.{nameData, vertexData, faceData, sixChunks, bare}
@@ -172,7 +172,7 @@ module _ (name vertices faces : List ℕ) (x : Exact name vertices faces) (bv : 
 
 pub writes-again : WritesAgain
 writes-again s b name vertices faces e z name′ vertices′ corners′ r out h =
-    let m = demand2 s b (sixChunks name vertices faces) .0 e in
+    let m = accepted-exactly s b (sixChunks name vertices faces) .0 e in
     let x = exact name vertices faces (m .chunks) in
     let own = own-bytes name vertices faces (subst Bytes (sym (m .is)) b) in
     let n = name-parts name (x .name-ends) in

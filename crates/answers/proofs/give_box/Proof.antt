@@ -1,6 +1,6 @@
 -- A refusal, or the nine numbers, each of which has bits.
 use mathlib.Core.Path.{sym, ap, subst, _∙_}
-use Rattle.mesh.specs.Within.{BoxNumbers}
+use Rattle.rules.specs.Within.{BoxNumbers}
 use Rattle.answers.specs.Given.{boxGiven}
 use Rattle.answers.proofs.Gives.{parts}
 use borrow.Author.Needs.{needs}

@@ -1,7 +1,8 @@
 -- A refusal, or the three counts, each of which fits.
 use mathlib.Core.Path.{sym, ap, subst, _∙_}
 use native.Mathlib.Omega.{arith}
-use Rattle.answers.specs.Given.{countsGiven, CountsWithin}
+use Rattle.rules.specs.Within.{CountsWithin}
+use Rattle.answers.specs.Given.{countsGiven}
 use Rattle.answers.proofs.Gives.{parts}
 use borrow.Author.Needs.{needs}
 use Rattle.answers.proofs.give_counts.Statement.{statement}

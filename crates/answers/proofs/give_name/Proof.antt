@@ -1,7 +1,7 @@
 -- A refusal, or the two numbers of the name.
 use mathlib.Core.Path.{sym, ap, subst, _∙_}
 use native.Mathlib.Omega.{arith}
-use Rattle.mesh.specs.Within.{NameWithin}
+use Rattle.rules.specs.Within.{NameWithin}
 use Rattle.answers.specs.Given.{nameGiven}
 use Rattle.answers.proofs.Gives.{parts}
 use borrow.Author.Needs.{needs}

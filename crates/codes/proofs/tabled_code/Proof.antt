@@ -1,7 +1,7 @@
 -- The sizes, which are within the limit, as one number; or the refusal.
 use mathlib.Core.Path.{sym, ap, subst, _∙_}
 use native.Mathlib.Omega.{arith}
-use Rattle.mesh.specs.Within.{SizesWithin}
+use Rattle.rules.specs.Within.{SizesWithin}
 use Rattle.codes.specs.Codes.{sizesOr}
 use borrow.Author.Needs.{needs}
 use Rattle.codes.proofs.tabled_code.Statement.{statement}

@@ -3,7 +3,8 @@ use mathlib.Core.Path.{sym, ap, subst, _∙_}
 use native.Mathlib.Omega.{arith}
 use Rattle.rules.proofs.Bytes.{bytes-all}
 use Rattle.tds.proofs.Small.{counts-within}
-use Rattle.answers.specs.Given.{countsGiven, CountsWithin}
+use Rattle.rules.specs.Within.{CountsWithin}
+use Rattle.answers.specs.Given.{countsGiven}
 use Rattle.answers.proofs.Gives.{parts}
 use borrow.Author.Needs.{needs}
 use Rattle.tds.proofs.tds_counts.Statement.{statement}
