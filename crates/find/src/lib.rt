@@ -93,7 +93,7 @@ fn object_at(file: &[u8], at: usize) -> Object
     ensures { λ r. ⌜ ((p : Parent) (own : List ℕ) (kids rest : Run) (stop : ℕ) → Spans p (known 0x4000 own kids rest) (now (file .entry)) at stop → ObjectIs at own kids r) ⌝ }
 {
     let stop = at + long_at(file, at + 2) as usize;
-    let name = scan::name_size(file, at + 6, stop);
+    let name = names::name_size(file, at + 6, stop);
     let mesh = next_child(file, 0x4100, at + 6 + name, stop);
     Object {
         size: name - 1,

@@ -80,7 +80,7 @@ fn print_tabled(answer: Tabled) {
 // The answer of the tables, and then the whole of both rows.
 fn show_tables(figure: &[u8], file: &[u8], mesh: u32, vertices: &mut [f32], corners: &mut [u16]) {
     print_call(figure, mesh, b" tables");
-    print_tabled(mesh::tables(file, mesh, vertices, corners));
+    print_tabled(tables::tables(file, mesh, vertices, corners));
     io::write_all(STDOUT_FILENO, b" vertices");
     print_floats(vertices);
     io::write_all(STDOUT_FILENO, b" corners");
@@ -323,7 +323,7 @@ fn show_long(file: &[u8; LONG]) {
     let mut vertices = [7.0f32; NUMBERS];
     let mut corners = [9u16; 3];
     print_call(b"long", 0, b" tables");
-    print_tabled(mesh::tables(file, 0, &mut vertices, &mut corners));
+    print_tabled(tables::tables(file, 0, &mut vertices, &mut corners));
     print_ends(&vertices, &corners);
     end_line();
     show_name(b"long", file, 0);

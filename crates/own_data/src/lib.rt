@@ -37,7 +37,7 @@ fn face_numbers_below(file: &[u8], id: usize, f: u32, at: usize, stop: usize) ->
     ensures { λ r. ⌜ ((p : Parent) → CountIs (p .own) f → r ≡ faceNumbersBelow p id (slice at stop (now (file .entry))) end) ⌝ }
 {
     if id == 0x4130 {
-        let size = scan::name_size(file, at, stop);
+        let size = names::name_size(file, at, stop);
         let n = word_at(file, at + size) as usize;
         return scan::words_below(file, at + size + 2, n, f);
     }

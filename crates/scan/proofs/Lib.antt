@@ -1,4 +1,3 @@
 pub mod Halves
 pub mod Lists
-pub mod Names
 pub mod Parts

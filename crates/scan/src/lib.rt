@@ -1,63 +1,14 @@
-// Scans of own data in a slice: where a name ends, and whether all numbers of a list pass a test. The loops branch on
-// nothing that they read, so that they run as fast as the bytes come.
+// Scans of a list in a slice: whether all its numbers pass a test. The loops branch on nothing that they read, so that they
+// run as fast as the bytes come.
 use little_endian::is_finite;
 use little_endian::word_at;
 ghost use mathlib.Core.Path.{_≡_};
 ghost use Prim.Native.Nat.{_+_, _*_, _≤_, max};
 ghost use lib.ListN.{length, drop};
-ghost use lib.Seq.{slice};
 ghost use Rattle.rules.specs.Bytes.{numbers, every};
-ghost use Rattle.rules.specs.OwnData.{nameSize, corners, finite};
+ghost use Rattle.rules.specs.OwnData.{corners, finite};
 ghost use Rattle.rules.specs.Rules.{allBelow};
-ghost use Rattle.scan.specs.Names.{NoZero, NameOn};
 ghost use Rattle.scan.specs.Halves.{Halves};
-ghost use mathlib.Core.Bool.{true};
-
-// Whether none of the 32 bytes at a position is zero.
-fn no_zero(s: &[u8], at: usize) -> bool
-    requires { ⌜ at + 32 ≤ length (now s) ⌝ }
-    ensures { λ r. ⌜ (r ≡ true → NoZero (now (s .entry)) at 32) ⌝ }
-{
-    let mut none = true;
-    let mut i = 0usize;
-    while i < 32 {
-        if s[at + i] == 0 {
-            none = false;
-        }
-        i += 1;
-    }
-    none
-}
-
-// A position up to which no byte is zero, a block at a time: what is left up to the first zero is short.
-fn skip_blocks(s: &[u8], at: usize, end: usize) -> usize
-    requires { ⌜ (at ≤ end) × (end ≤ length (now s)) ⌝ }
-    ensures { λ r. ⌜ NameOn (now (s .entry)) at r end ⌝ }
-{
-    let mut i = at;
-    while 32 <= end - i {
-        if !no_zero(s, i) {
-            return i;
-        }
-        i += 32;
-    }
-    i
-}
-
-// The bytes of the name at a position, with its zero; one more than there are up to the end, if there is no zero.
-pub fn name_size(s: &[u8], at: usize, end: usize) -> usize
-    requires { ⌜ (at ≤ end) × (end ≤ length (now s)) ⌝ }
-    ensures { λ r. ⌜ r ≡ nameSize (slice at end (now (s .entry))) ⌝ }
-{
-    let mut i = skip_blocks(s, at, end);
-    while i < end {
-        if s[i] == 0 {
-            return i + 1 - at;
-        }
-        i += 1;
-    }
-    i + 1 - at
-}
 
 // The 4-byte number that a part begins with. Its bytes stand at fixed places of the part, so that it is one load.
 fn first_long(s: &[u8]) -> u32

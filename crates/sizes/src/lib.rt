@@ -41,7 +41,7 @@ pub fn name_size(file: &[u8], at: usize, stop: usize) -> Own
     requires { ⌜ (at ≤ stop) × (stop ≤ length (now file)) ⌝ }
     ensures { λ r. ⌜ OwnIs name [] (slice at stop (now (file .entry))) r ⌝ }
 {
-    let size = scan::name_size(file, at, stop);
+    let size = names::name_size(file, at, stop);
     if size <= stop - at {
         Own::Size(size)
     } else {
@@ -54,7 +54,7 @@ fn named_words_size(file: &[u8], at: usize, stop: usize) -> Own
     requires { ⌜ (at ≤ stop) × (stop ≤ length (now file)) ⌝ }
     ensures { λ r. ⌜ OwnIs named-words [] (slice at stop (now (file .entry))) r ⌝ }
 {
-    let size = scan::name_size(file, at, stop);
+    let size = names::name_size(file, at, stop);
     let room = stop - at;
     if room < size {
         return Own::NoName;

@@ -6,7 +6,7 @@ ghost use Prim.Native.Nat.{_/_};
 ghost use lib.ListN.{length};
 ghost use Rattle.rules.specs.Encodings.{beside, flatRecords, recordTable, recordBytes, numberBytes};
 ghost use Rattle.rules.specs.Calls.{checkCall, listCall, tablesCall, nameCall, boxCall};
-ghost use Rattle.mesh.specs.Rows.{rows};
+ghost use Rattle.tables.specs.Rows.{rows};
 ghost use Rattle.writer.specs.Write.{writeCall};
 ghost use Rattle.codes.specs.Codes.{recordsOr, sizesOr, sizeOr};
 ghost use Rattle.answers.specs.Given.{countsGiven, nameGiven, boxGiven};
@@ -44,7 +44,7 @@ pub extern "C" fn tds_tables(file: &[u8], mesh: u32, vertices: &mut [u8], corner
     ensures answer { λ n. ⌜ n ≡ sizesOr (tablesCall (numberBytes 4) (numberBytes 2) (now (file .entry)) mesh (rows (now (vertices .entry)) (now (corners .entry))) .answer) ⌝ }
     ensures rows { λ _. ⌜ rows (now (vertices .exit)) (now (corners .exit)) ≡ tablesCall (numberBytes 4) (numberBytes 2) (now (file .entry)) mesh (rows (now (vertices .entry)) (now (corners .entry))) .rows ⌝ }
 {
-    codes::tabled_code(mesh::tables_bytes(file, mesh, vertices, corners))
+    codes::tabled_code(tables::tables_bytes(file, mesh, vertices, corners))
 }
 
 // The three byte counts, or a refusal.

@@ -2,7 +2,7 @@
 use Prim.Native.Nat.{_<_}
 use native.Mathlib.Omega.{arith}
 use Rattle.asked.proofs.Asks.{asked-no, asked-yes}
-use Rattle.mesh.proofs.Within.{box-numbers}
+use Rattle.mesh.proofs.Numbers.{box-numbers}
 use Rattle.mesh.proofs.Calls.{box-refused, box-empty, box-goes-on}
 use borrow.Author.Needs.{needs}
 use Rattle.mesh.proofs.bounding_box.Statement.{statement}

@@ -3,7 +3,7 @@ use native.Mathlib.Omega.{arith}
 use Rattle.rules.proofs.Bytes.{bytes-all}
 use Rattle.asked.proofs.Asks.{asked-no, asked-yes}
 use Rattle.mesh.proofs.Calls.{name-refused, name-goes-on}
-use Rattle.mesh.proofs.Within.{name-within}
+use Rattle.asked.proofs.Within.{name-within}
 use borrow.Author.Needs.{needs}
 use Rattle.mesh.proofs.name.Statement.{statement}
 use Rattle.mesh.proofs.name.Tie as tie

@@ -1,5 +1,5 @@
--- The numbers of an answer fit: a mesh that was chosen stands in a file within the limit, and its name within the file; by
--- induction over the layout, every mesh of a run has a name in the chunk around it.
+-- A mesh that was chosen stands in a file within the limit, and its name within the file; by induction over the layout, every
+-- mesh of a run has a name in the chunk around it.
 use mathlib.Core.Path.{_≡_, refl, sym, ap, _∙_}
 use mathlib.Core.Bool.{Bool, true, false}
 use mathlib.Core.List.{List, [], _∷_, _++_}
@@ -9,12 +9,7 @@ use native.Mathlib.Omega.{arith}
 use lib.Dec.{eqb}
 use lib.ListN.{length, getElem?}
 use Rattle.rules.specs.declared.Refusal.{Refusal}
-use Rattle.rules.specs.declared.Boxed.{Boxed}
-use Rattle.rules.specs.declared.Corner.{Corner}
-use Rattle.rules.specs.declared.BoundingBox.{BoundingBox}
-use Rattle.rules.specs.Bytes.{Bytes, every}
-use Rattle.rules.specs.OwnData.{finite}
-use Rattle.rules.specs.Box.{boxOf, centreOf}
+use Rattle.rules.specs.Bytes.{Bytes}
 use Rattle.rules.specs.Layout.{Run, end, skip, known, figure, size}
 use Rattle.rules.specs.Rules.{limit}
 use Rattle.rules.specs.Walk.{Answer, refused, accepted, verdict}
@@ -22,9 +17,7 @@ use Rattle.rules.specs.Gives.{Mesh, oneMesh, meshOf, meshesOf, meshes}
 use Rattle.rules.specs.Calls.{pickMesh}
 use Rattle.rules.proofs.Sound.{length-bytes}
 use Rattle.rules.proofs.Verdict.{accepted-exactly}
-use Rattle.boxes.proofs.FiniteBox.{box-is-finite}
 use Rattle.asked.specs.Choices.{Choice, no, yes, choose}
-use Rattle.rules.specs.Within.{BoxNumbers}
 
 -- ---- the name of each mesh of a run
 
@@ -84,10 +77,3 @@ module _ (s : List ℕ) (b : Bytes s) (mesh : ℕ) {m : Mesh} where
           let n : size (figure kids) ≡ length s = sym (length-bytes (figure kids)) ∙ ap length (q .is) in
           let z = q .within-limit in
           each-at limit (meshes kids) mesh m (names-within limit 0 0 0 (figure kids) (omega arith) (omega arith)) (picked (length (meshes kids)) (getElem? (meshes kids) mesh) e)
-
--- ---- its box
-
-pub box-numbers : (n : ℕ) (vertices : List ℕ) → every finite vertices ≡ true → {box : BoundingBox} {centre : Corner} → box ≡ boxOf n vertices → centre ≡ centreOf box → BoxNumbers (Boxed.Around box centre)
-box-numbers n vertices h e f =
-    let q = box-is-finite n vertices h in
-    rw (f, e) (q .low, q .high, q .centre)

@@ -5,9 +5,9 @@ use native.Mathlib.Omega.{arith}
 use mathlib.Core.Bool.{true, false, false≢true}
 use mathlib.Core.Logic.{⊎-elim}
 use borrow.Author.Count.{below-more}
-use Rattle.scan.specs.Names.{NoZero}
-use Rattle.scan.proofs.no_zero.Statement.{statement}
-use Rattle.scan.proofs.no_zero.Tie as tie
+use Rattle.names.specs.Names.{NoZero}
+use Rattle.names.proofs.no_zero.Statement.{statement}
+use Rattle.names.proofs.no_zero.Tie as tie
 
 abbrev Inv-loop : tie.InvT-loop
 Inv-loop s at none₀ i₀ none i = (i ≤ 32) × (none ≡ true → NoZero s at i)

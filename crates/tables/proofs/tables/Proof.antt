@@ -3,10 +3,10 @@ use native.Mathlib.Omega.{arith}
 use Rattle.rules.specs.Encodings.{floatRow, cornerRow}
 use Rattle.asked.proofs.Asks.{asked-no, asked-yes}
 use Rattle.asked.proofs.Room.{has-room}
-use Rattle.mesh.proofs.Filled.{gives, tables-refused, tables-filled}
+use Rattle.tables.proofs.Filled.{gives, tables-refused, tables-filled}
 use borrow.Author.Needs.{needs}
-use Rattle.mesh.proofs.tables.Statement.{statement}
-use Rattle.mesh.proofs.tables.Tie as tie
+use Rattle.tables.proofs.tables.Statement.{statement}
+use Rattle.tables.proofs.tables.Tie as tie
 
 ask-with-room-requires : tie.Need-ask-with-room-requires
 ask-with-room-requires c κs = search needs

@@ -1,10 +1,10 @@
 -- The loop's invariant: the name goes on at least to i; a zero ends it there.
 use Prim.Native.Nat.{_-_}
 use native.Mathlib.Omega.{arith}
-use Rattle.scan.specs.Names.{NameOn}
-use Rattle.scan.proofs.Names.{name-here, name-on, name-nowhere}
-use Rattle.scan.proofs.name_size.Statement.{statement}
-use Rattle.scan.proofs.name_size.Tie as tie
+use Rattle.names.specs.Names.{NameOn}
+use Rattle.names.proofs.Names.{name-here, name-on, name-nowhere}
+use Rattle.names.proofs.name_size.Statement.{statement}
+use Rattle.names.proofs.name_size.Tie as tie
 
 abbrev Inv-loop : tie.InvT-loop
 Inv-loop s at end i₀ i = NameOn s at i end

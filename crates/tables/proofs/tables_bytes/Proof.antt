@@ -7,11 +7,11 @@ use lib.ListN.{length}
 use Rattle.asked.specs.Choices.{fitting}
 use Rattle.asked.proofs.Asks.{asked-no, asked-yes}
 use Rattle.asked.proofs.Room.{has-room}
-use Rattle.mesh.proofs.Filled.{gives, tables-refused, tables-filled}
-use Rattle.mesh.proofs.Within.{limit-by}
+use Rattle.tables.proofs.Filled.{gives, tables-refused, tables-filled}
+use Rattle.asked.proofs.Within.{limit-by}
 use borrow.Author.Needs.{needs}
-use Rattle.mesh.proofs.tables_bytes.Statement.{statement}
-use Rattle.mesh.proofs.tables_bytes.Tie as tie
+use Rattle.tables.proofs.tables_bytes.Statement.{statement}
+use Rattle.tables.proofs.tables_bytes.Tie as tie
 
 ask-with-room-requires : tie.Need-ask-with-room-requires
 ask-with-room-requires c κs = search needs

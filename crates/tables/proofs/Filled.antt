@@ -18,7 +18,7 @@ use Rattle.find.specs.declared.Place.{Place}
 use Rattle.find.specs.Places.{PlaceIs}
 use Rattle.asked.specs.Choices.{Choice, no, yes, fitting, choose}
 use Rattle.asked.proofs.Choices.{with-choice, call-refused, call-goes-on}
-use Rattle.mesh.specs.Rows.{rows}
+use Rattle.tables.specs.Rows.{rows}
 
 -- what a call answers and leaves, in two parts
 pub gives : {A B : Type 0} {x : Effect Tabled (Rows A B)} {answer : Tabled} {left : Rows A B} → x ≡ leaving answer left → (answer ≡ x .answer) × (left ≡ x .rows)

@@ -2,10 +2,10 @@
 use Prim.Native.Nat.{_-_}
 use native.Mathlib.Omega.{arith}
 use borrow.Author.Tests.{not-false}
-use Rattle.scan.specs.Names.{NameOn}
-use Rattle.scan.proofs.Names.{name-past}
-use Rattle.scan.proofs.skip_blocks.Statement.{statement}
-use Rattle.scan.proofs.skip_blocks.Tie as tie
+use Rattle.names.specs.Names.{NameOn}
+use Rattle.names.proofs.Names.{name-past}
+use Rattle.names.proofs.skip_blocks.Statement.{statement}
+use Rattle.names.proofs.skip_blocks.Tie as tie
 
 abbrev Inv-loop : tie.InvT-loop
 Inv-loop s at end i₀ i = NameOn s at i end

@@ -9,7 +9,7 @@ use lib.ListN.{length, getD, drop-of-length-le, length-take, take}
 use lib.Seq.{slice, slice-cons}
 use borrow.Author.Tests.{eq-eqb, ne-eqb}
 use Rattle.rules.specs.OwnData.{nameSize}
-use Rattle.scan.specs.Names.{NoZero}
+use Rattle.names.specs.Names.{NoZero}
 
 pub name-here : (s : List ℕ) (i e : ℕ) → i < e → e ≤ length s → getD s i 0 ≡ 0 → nameSize (slice i e s) ≡ 1
 name-here s i e h l z = rw (slice-cons i e s 0 h l, eq-eqb _ _ z)
