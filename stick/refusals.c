@@ -8,8 +8,9 @@
 #define AGAIN "copy this figure again"
 #define ADVICE                                                                                     \
     "Copy this figure again from the master and check it once more. If the new\n"                  \
-    "copy is refused with the same number at the same place, the master itself\n"                  \
-    "is damaged: leave it off the stick and tell whoever made the figure.\n"
+    "copy is refused with the same number at the same place, the copying is not to\n"              \
+    "blame: the master is damaged, or a program made it that keeps other rules.\n"                 \
+    "Leave it off the stick and tell whoever made the figure.\n"
 #define PROGRAM "tell whoever looks after this program"
 #define PROGRAM_ADVICE                                                                             \
     "The figure is good; the program that asked made the mistake. Tell whoever\n"                  \
@@ -67,8 +68,9 @@ static const struct refusal table[] = {
      AGAIN, ADVICE},
     {TDS_LENGTH, "LENGTH", "a chunk is too long or too short for what it holds",
      "What a chunk holds says how long the chunk must be: three vertices take 38\n"
-     "bytes, not 37 or 50. The length of this one, or the count inside it, was\n"
-     "damaged. The place is where the chunk begins.\n",
+     "bytes, not 37 or 50. Mostly the length of this one, or the count inside it,\n"
+     "was damaged; some programs also put more into a camera than the rules allow.\n"
+     "The place is where the chunk begins.\n",
      AGAIN, ADVICE},
     {TDS_NUMBER, "NUMBER", "a coordinate is infinite or not a number",
      "The coordinates of a vertex, or of its mapping, must be numbers that can be\n"
