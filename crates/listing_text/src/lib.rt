@@ -8,7 +8,6 @@ use printing::put_text;
 use rules::Checked;
 use rules::Counts;
 use rules::Refusal;
-ghost use mathlib.Core.Path.{_≡_};
 ghost use Prim.Native.Nat.{_+_, _*_, _<_, _≤_};
 ghost use lib.ListN.{length};
 ghost use Rattle.io.specs.Counts.{Counts as Io·Counts};

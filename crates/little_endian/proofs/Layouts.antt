@@ -6,7 +6,7 @@ use native.Mathlib.Omega.{arith}
 use lib.ListN.{length, take, drop, length-append}
 use lib.Seq.{slice, length-slice, take-at, drop-at}
 use Rattle.rules.specs.Bytes.{value}
-use Rattle.rules.specs.Layout.{Run, end, skip, known, size, header, bytes}
+use Rattle.rules.specs.Layout.{Run, skip, known, size, header, bytes}
 use Rattle.rules.proofs.Bytes.{value-le}
 use Rattle.rules.proofs.Sound.{length-bytes}
 use Rattle.little_endian.specs.Numbers.{wordAt, longAt}

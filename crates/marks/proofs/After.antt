@@ -9,7 +9,7 @@ use lib.Dec.{eqb}
 use lib.ListN.{length, getD, set, length-set}
 use lib.Seq.{getD-set-same, getD-set-other}
 use borrow.Author.Tests.{eqb-true, eqb-false, eq-eqb, ne-eqb}
-use Rattle.rules.specs.Table.{under, among}
+use Rattle.rules.specs.Table.{among}
 use Rattle.rules.specs.Layout.{Run, end, skip, known, size, identifiers, offsetOf}
 use Rattle.rules.specs.Rules.{Parent, Obeys}
 use Rattle.table_row.specs.Packed.{slotOf}

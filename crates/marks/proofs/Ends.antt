@@ -4,7 +4,7 @@ use mathlib.Core.Logic.{inl, inr, _↔_}
 use mathlib.Core.Bool.{Bool, true, false, not, _&&_, _||_, cond, true≢false, false≢true}
 use mathlib.Core.List.{List, [], _∷_}
 use mathlib.Core.Option.{Option, none, some}
-use Prim.Native.Nat.{ℕ, _+_, _*_, _-_, _≤_, _<_, _^_}
+use Prim.Native.Nat.{ℕ, _+_, _*_, _≤_, _<_, _^_}
 use native.Mathlib.Omega.{arith}
 use lib.Dec.{eqb, leb}
 use lib.ListN.{length, drop, getD, getD-replicate}
@@ -14,7 +14,7 @@ use Rattle.rules.specs.declared.Refusal.{Refusal}
 use Rattle.rules.specs.Bytes.{every}
 use Rattle.rules.specs.Table.{listed, among, limits, needs, atMostOne, atLeastOne, rows, Shape, shape, counted}
 use Rattle.rules.specs.OwnData.{count, corners, faceCorners, ownSize}
-use Rattle.rules.specs.Layout.{Run, size, bytes, identifiers, child, offsetOf}
+use Rattle.rules.specs.Layout.{Run, size, identifiers, child, offsetOf}
 use Rattle.rules.specs.Rules.{Parent, inside, tally, few, allBelow, noneMissing}
 use Rattle.rules.specs.Walk.{Condition, must, broken, endConditions, meshConditions}
 use Rattle.rules.proofs.Bools.{and-parts}
@@ -24,7 +24,7 @@ use Rattle.little_endian.specs.Numbers.{wordAt}
 use Rattle.little_endian.proofs.Slices.{word-slice, drop-slice}
 use Rattle.scan.proofs.Parts.{corners-slice}
 use Rattle.table_row.specs.Packed.{places, slotOf, rowOf}
-use Rattle.table_row.proofs.Facts.{SlotTest, same, same-is}
+use Rattle.table_row.proofs.Facts.{SlotTest, same-is}
 use Rattle.marks.specs.declared.Shut.{Shut}
 use Rattle.marks.specs.Marks.{tallySlot, noMarks, Kept, ShutIs, Placed, countAt, cornersAt, pairsAt, MeshPlaced, meshBroken}
 use Rattle.marks.proofs.Slots.{allSlot, tally-slot, groups-slotted}

@@ -1,25 +1,26 @@
 -- A run, one chunk after the other: what the rest of the run comes to is what the whole comes to.
 use mathlib.Core.Path.{_≡_, refl, sym, ap, _∙_, subst}
 use mathlib.Core.List.{List, [], _∷_}
-use Prim.Native.Nat.{ℕ, suc, _+_, _-_, _≤_}
+use Prim.Native.Nat.{ℕ, suc, _+_, _≤_, _<_}
 use native.Mathlib.Omega.{arith}
 use lib.ListN.{length, take, set, drop-of-length-le, length-take}
 use lib.Seq.{slice}
 use Rattle.rules.specs.declared.Refusal.{Refusal}
+use Rattle.rules.specs.Bytes.{Bytes}
 use Rattle.rules.specs.Layout.{Run, size}
 use Rattle.rules.specs.Rules.{Parent, inside}
 use Rattle.rules.specs.Gives.{recordCount, skipped}
-use Rattle.rules.specs.Walk.{Step, stop, pass, enter, Answer, refused, accepted, ended, withSkip, withKnown, taken, walk}
+use Rattle.rules.specs.Walk.{Step, stop, pass, enter, Answer, refused, accepted, ended, withSkip, withKnown, step, taken, walk}
 use Rattle.rules.proofs.Once.{few-nil}
 use Rattle.rules.proofs.Sound.{length-bytes, Closes, ended-closes}
-use Rattle.rules.proofs.Steps.{Says}
+use Rattle.rules.proofs.Steps.{Says, step-says}
 use Rattle.rules.proofs.Fuel.{walk-nil}
 use Rattle.table_row.specs.Packed.{slotOf}
 use Rattle.walk.specs.declared.Ran.{Ran}
 use Rattle.head.specs.Contexts.{Context}
 use Rattle.walk.specs.Runs.{ClosedIs, ChunkIs, RunIs}
 use Rattle.walk.proofs.Contexts.{context-next}
-use Rattle.walk.proofs.Parts.{PartsAt}
+use Rattle.walk.proofs.Parts.{bytes-slice, PartsAt, step-parts, walk-part}
 use Rattle.walk.proofs.Chunks.{clash, walk-tells}
 
 module _ (end records skips at : ℕ) (ms : List ℕ) (r : Ran) (ms′ : List ℕ) where
@@ -43,7 +44,7 @@ module _ (end records skips at : ℕ) (ms : List ℕ) (r : Ran) (ms′ : List �
 
 module _ (p : Parent) (seen : List ℕ) (s : List ℕ) (at end : ℕ) (ms : List ℕ) where
   -- a chunk that is refused ends the run
-  pub run-stops : (records skips : ℕ) (ms′ : List ℕ) (x : Step) (y : Refusal) (ms₁ : List ℕ) → ChunkIs p at x (Ran.Refused y) ms ms₁ → RunIs end records skips at ms (taken walk p seen at x) (Ran.Refused y) ms′
+  run-stops : (records skips : ℕ) (ms′ : List ℕ) (x : Step) (y : Refusal) (ms₁ : List ℕ) → ChunkIs p at x (Ran.Refused y) ms ms₁ → RunIs end records skips at ms (taken walk p seen at x) (Ran.Refused y) ms′
   run-stops records skips ms′ (stop z) y ms₁ h = h
   run-stops records skips ms′ (pass id body rest) y ms₁ h = let q = h .0 in absurd (clash (cc))
   run-stops records skips ms′ (enter id own kids rest) y ms₁ h = go (ended p at id own (walk (inside p id own) [] (at + (6 + length own)) kids)) (h .0)
@@ -58,7 +59,7 @@ module _ (p : Parent) (seen : List ℕ) (s : List ℕ) (at end : ℕ) (ms : List
     pub context : Context p seen′ row word ms₁
     pub tells : (records skips : ℕ) (r : Ran) (ms′ : List ℕ) → RunIs end (records + n) (skips + k) next ms₁ (walk p seen′ next (slice next end s)) r ms′ → RunIs end records skips at ms whole r ms′
 
-  pub run-goes-on : (row word : ℕ) → Context p seen row word ms → length ms ≡ 5 → 1 ≤ at → (x : Step) → Says p seen (slice at end s) x → PartsAt s at end x → (next n k : ℕ) (ms₁ : List ℕ) →
+  run-goes-on : (row word : ℕ) → Context p seen row word ms → length ms ≡ 5 → 1 ≤ at → (x : Step) → Says p seen (slice at end s) x → PartsAt s at end x → (next n k : ℕ) (ms₁ : List ℕ) →
       ChunkIs p at x (Ran.Done next n k) ms ms₁ → GoesOn row word (taken walk p seen at x) next n k ms₁
   run-goes-on row word c five o (stop z) g f next n k ms₁ h = absurd (clash (cc))
   run-goes-on row word c five o (pass id body rest) g f next n k ms₁ h =
@@ -92,6 +93,21 @@ module _ (p : Parent) (seen : List ℕ) (s : List ℕ) (at end : ℕ) (ms : List
                 (rw (f .rest-is) (subst (λ (m : List ℕ). RunIs end (records + (recordCount t + 1)) (skips + skipped t) (at + (6 + length own + length kids)) m (walk p (id ∷ seen) (at + (6 + length own + length kids)) (slice (at + (6 + length own + length kids)) end s)) r ms′) (h .1)
                 (rw (n-is, k-is, next-is) at w)));
           }
+
+-- the same of the walk of a part that is not empty, by its first step
+module _ (p : Parent) (seen s : List ℕ) (at end : ℕ) (ms : List ℕ) (o : at < end) (l : end ≤ length s) where
+  begun : (records skips : ℕ) (r : Ran) (ms′ : List ℕ) → RunIs end records skips at ms (taken walk p seen at (step p seen at (slice at end s))) r ms′ → RunIs end records skips at ms (walk p seen at (slice at end s)) r ms′
+  begun records skips r ms′ h = subst (λ (a : Answer). RunIs end records skips at ms a r ms′) (sym (walk-part s at end o l p seen)) h
+
+  pub stops-here : (records skips : ℕ) (y : Refusal) (ms₁ : List ℕ) → ChunkIs p at (step p seen at (slice at end s)) (Ran.Refused y) ms ms₁ → RunIs end records skips at ms (walk p seen at (slice at end s)) (Ran.Refused y) ms₁
+  stops-here records skips y ms₁ h = begun records skips (Ran.Refused y) ms₁ (run-stops p seen s at end ms records skips ms₁ (step p seen at (slice at end s)) y ms₁ h)
+
+  pub goes-on : (row word : ℕ) → Context p seen row word ms → length ms ≡ 5 → 1 ≤ at → Bytes s → (next n k : ℕ) (ms₁ : List ℕ) → ChunkIs p at (step p seen at (slice at end s)) (Ran.Done next n k) ms ms₁ →
+      GoesOn p seen s at end ms row word (walk p seen at (slice at end s)) next n k ms₁
+  goes-on row word c five z b next n k ms₁ h =
+      let says = step-says p seen at (slice at end s) (bytes-slice s at end b) in
+      let g = run-goes-on p seen s at end ms row word c five z (step p seen at (slice at end s)) says (step-parts s at end o l p seen b) next n k ms₁ h in
+      record { seen′ = g .seen′; context = g .context; tells = λ records skips r ms′ t. begun records skips r ms′ (g .tells records skips r ms′ t) }
 
 -- the end of a run
 pub run-ends : (p : Parent) (seen s : List ℕ) (at end records skips : ℕ) (ms : List ℕ) → end ≤ at → RunIs end records skips at ms (walk p seen at (slice at end s)) (Ran.Done end records skips) ms

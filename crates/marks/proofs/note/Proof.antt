@@ -2,8 +2,6 @@
 use mathlib.Core.Path.{refl, sym}
 use native.Mathlib.Omega.{arith}
 use borrow.Author.Needs.{needs}
-use mathlib.Core.Bool.{not}
-use lib.ListN.{set, length}
 use lib.Seq.{set-out}
 use borrow.Author.Tests.{le-leb, lt-leb, ne-eqb, eq-eqb}
 use Rattle.marks.specs.Marks.{free}

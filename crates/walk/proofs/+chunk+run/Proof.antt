@@ -1,25 +1,27 @@
 -- Chunk and run meet their contracts together. The bytes left, twice, and one more for a run, fall at each call. A chunk
 -- follows what was found at its start (Chunks, Entering); a run goes on from chunk to chunk (Runs, Loop).
-use mathlib.Core.Path.{refl, sym, subst}
-use mathlib.Core.List.{[]}
+use mathlib.Core.Path.{_≡_, refl, subst}
+use mathlib.Core.List.{List, []}
 use Prim.Native.Nat.{_+_, _-_, _*_, _≤_}
 use native.Mathlib.Omega.{arith}
 use borrow.Author.Needs.{needs}
 use lib.ListN.{length}
 use lib.Seq.{slice}
 use Rattle.rules.proofs.Bytes.{bytes-all}
-use Rattle.rules.specs.Rules.{inside}
+use Rattle.rules.specs.Bytes.{Bytes}
+use Rattle.rules.specs.Rules.{Parent, inside}
 use Rattle.rules.specs.Walk.{step, walk}
 use Rattle.rules.proofs.Steps.{step-says}
 use Rattle.marks.specs.Marks.{noMarks}
 use Rattle.head.specs.declared.Head.{Head}
 use Rattle.walk.specs.declared.Ran.{Ran}
 use Rattle.head.specs.Heads.{HeadIs, HeadWithin}
-use Rattle.walk.specs.Runs.{ChunkIs, ChunkWithin, RunIs, RunWithin}
-use Rattle.walk.proofs.Parts.{bytes-slice, step-parts, walk-part}
+use Rattle.head.specs.Contexts.{Room, Context}
+use Rattle.walk.specs.Runs.{ChunkIs, ChunkWithin, RunWithin}
+use Rattle.walk.proofs.Parts.{bytes-slice}
 use Rattle.walk.proofs.Chunks.{chunk-fault, chunk-skip, chunk-leaf}
-use Rattle.walk.proofs.Entering.{ent, inner-context, enter-refused, enter-placed, enter-shut, enter-done}
-use Rattle.walk.proofs.Runs.{run-stops, run-goes-on, run-ends}
+use Rattle.walk.proofs.Entering.{Opened, ent, inner-context, children, enter-refused, enter-placed, enter-shut, enter-done}
+use Rattle.walk.proofs.Runs.{GoesOn, stops-here, goes-on, run-ends}
 use Rattle.walk.proofs.Loop.{Sofar}
 use Prim.Native.Nat.{ℕ, _<_}
 use borrow.Fn.Kinds.{In}
@@ -70,6 +72,21 @@ run-calls t = (chunk-below t, chunk.Post)
 chunk-look-requires : (t : ℕ) → chunk-lts.Need-look-requires (chunk-calls t) (chunk-at t) chunk.Post
 chunk-look-requires t c κs = (c .before .before .before .pre .1 .0, c .before .before .before .pre .1 .2)
 
+-- what the look at the chunk's start has told: where what it found stands
+found-within : (t : ℕ) (d : chunk-lts.After-look (chunk-calls t) (chunk-at t) chunk.Post) {h : Head} → d .look .result ≡ h → HeadWithin (d .before .before .before .before .args .at) (d .before .before .before .before .args .end) h
+found-within t d e = subst (HeadWithin (d .before .before .before .before .args .at) (d .before .before .before .before .args .end)) e (d .look .ensures .1 .1 .1)
+
+-- and the step of the walk that it is, in each context of the run
+found : (t : ℕ) (d : chunk-lts.After-look (chunk-calls t) (chunk-at t) chunk.Post) {h : Head} → d .look .result ≡ h →
+    let x = d .before .before .before .before .args in
+    (q : Parent) (seen : List ℕ) → Context q seen (x .parent) (x .count) (x .marks .now) → HeadIs (x .at) (step q seen (x .at) (slice (x .at) (x .end) (x .file .now))) h
+found t d e q seen k =
+    let x = d .before .before .before .before .args in
+    subst (HeadIs (x .at) (step q seen (x .at) (slice (x .at) (x .end) (x .file .now)))) e (d .look .ensures .0 q seen k)
+
+file-bytes : (t : ℕ) (d : chunk-lts.After-look (chunk-calls t) (chunk-at t) chunk.Post) → Bytes (d .before .before .before .before .args .file .now)
+file-bytes t d = bytes-all (d .before .before .before .before .args .file .now) (λ i. omega (arith, d .before .before .before .shared-slice-known .given i))
+
 chunk-enum-known-r : (t : ℕ) → chunk-lts.Need-enum-known-r (chunk-calls t) (chunk-at t) chunk.Post
 chunk-enum-known-r t c = search needs
 
@@ -78,11 +95,7 @@ chunk-enum-known-stop t c = search needs
 
 chunk-sub-t24 : (t : ℕ) → chunk-lts.Need-sub-t24 (chunk-calls t) (chunk-at t) chunk.Post
 chunk-sub-t24 t c =
-    let x = c .before .before .before .before .before .before .before .before .before in
-    let w = c .before .before .before .before .before .look in
-    let b = bytes-all (x .args .file .now) (λ i. omega (arith, c .before .before .before .before .before .before .before .before .shared-slice-known .given i)) in
-    let g = c .before .stop .given in
-    let v : HeadWithin (x .args .at) (x .args .end) (Head.Skip (g .0 .0)) = subst (HeadWithin (x .args .at) (x .args .end)) (g .1) (w .ensures .1 .1 .1) in
+    let v = found-within t (c .before .before .before .before .before) (c .before .stop .given .1) in
     omega arith
 
 chunk-enum-known-stop-2 : (t : ℕ) → chunk-lts.Need-enum-known-stop-2 (chunk-calls t) (chunk-at t) chunk.Post
@@ -94,14 +107,32 @@ chunk-enum-known-id t c = search needs
 chunk-slice-aggregate-run : (t : ℕ) → chunk-lts.Need-slice-aggregate-run (chunk-calls t) (chunk-at t) chunk.Post
 chunk-slice-aggregate-run t c = search needs
 
+-- a chunk that is entered, as it was found, in each context of the run that it stands in
+opened : (t : ℕ) (d : chunk-lts.After-id (chunk-calls t) (chunk-at t) chunk.Post) →
+    let x = d .before .before .before .before .before .before .before .before .args in
+    let g = d .id .given .0 in
+    (q : Parent) (seen : List ℕ) → Context q seen (x .parent) (x .count) (x .marks .now) →
+    Opened (x .file .now) (x .at) (x .end) q seen (x .marks .now) (d .before .before .before .before .look .last .1 .1 .1 .1 .1 .0) (g .0) (g .1 .0) (g .1 .1 .0) (g .1 .1 .1 .0) (g .1 .1 .1 .1 .0)
+opened t d q seen k =
+    let x = d .before .before .before .before .before .before .before .before in
+    let l = d .before .before .before .before in
+    record {
+      starts = x .pre .1 .0;
+      ends = x .pre .1 .2 .ends;
+      are-bytes = file-bytes t l;
+      head = found t l (d .id .given .1) q seen k;
+      marks = l .look .ensures .1 .0 q seen k;
+      within = found-within t l (d .id .given .1);
+    }
+
 chunk-run-requires : (t : ℕ) → chunk-lts.Need-run-requires (chunk-calls t) (chunk-at t) chunk.Post
 chunk-run-requires t c κs =
     let x = c .before .before .before .before .before .before .before .before .before .before in
-    let w = c .before .before .before .before .before .before .look in
-    let b = bytes-all (x .args .file .now) (λ i. omega (arith, c .before .before .before .before .before .before .before .before .before .shared-slice-known .given i)) in
-    let g = c .before .before .id .given in
-    let v : HeadWithin (x .args .at) (x .args .end) (Head.Enter (g .0 .0) (g .0 .1 .0) (g .0 .1 .1 .0) (g .0 .1 .1 .1 .0) (g .0 .1 .1 .1 .1 .0)) = subst (HeadWithin (x .args .at) (x .args .end)) (g .1) (w .ensures .1 .1 .1) in
-    (omega (arith, v .0, v .1, v .2, x .pre), (v .1, omega (arith, v .0), record { ends = omega (arith, x .pre .1 .2 .ends, v .2); short = x .pre .1 .2 .short; word = v .3; five = refl }, (inside (x .pre .1 .3 .0) (g .0 .0) (ent (x .args .file .now) (x .args .at) (x .args .end) (x .pre .1 .0) (x .pre .1 .2 .ends) b (x .pre .1 .3 .0) (x .pre .1 .3 .1) (x .args .marks .now) (w .last .1 .1 .1 .1 .1 .0) (w .result) (w .ensures .0 (x .pre .1 .3 .0) (x .pre .1 .3 .1) (x .pre .1 .3 .2)) (w .ensures .1 .0 (x .pre .1 .3 .0) (x .pre .1 .3 .1) (x .pre .1 .3 .2)) (g .0 .0) (g .0 .1 .0) (g .0 .1 .1 .0) (g .0 .1 .1 .1 .0) (g .0 .1 .1 .1 .1 .0) (g .1) .own), [], inner-context (x .args .file .now) (x .args .at) (x .args .end) (x .pre .1 .0) (x .pre .1 .2 .ends) b (x .pre .1 .3 .0) (x .pre .1 .3 .1) (x .args .marks .now) (w .last .1 .1 .1 .1 .1 .0) (w .result) (w .ensures .0 (x .pre .1 .3 .0) (x .pre .1 .3 .1) (x .pre .1 .3 .2)) (w .ensures .1 .0 (x .pre .1 .3 .0) (x .pre .1 .3 .1) (x .pre .1 .3 .2)) (g .0 .0) (g .0 .1 .0) (g .0 .1 .1 .0) (g .0 .1 .1 .1 .0) (g .0 .1 .1 .1 .1 .0) (g .1) (v .3))))
+    let p = x .pre .1 .3 in
+    let e = opened t (c .before .before) (p .0) (p .1) (p .2) in
+    let v = e .within in
+    let room : Room (c .before .before .id .given .0 .1 .1 .1 .1 .0) (c .before .before .id .given .0 .1 .1 .0) (x .args .file .now) noMarks = record { ends = omega (arith, x .pre .1 .2 .ends, v .2); short = x .pre .1 .2 .short; word = v .3; five = refl } in
+    (omega (arith, v .0, v .1, v .2, x .pre), (v .1, omega (arith, v .0), room, (inside (p .0) (c .before .before .id .given .0 .0) (ent e .own), [], inner-context e)))
 
 chunk-enum-known-r-2 : (t : ℕ) → chunk-lts.Need-enum-known-r-2 (chunk-calls t) (chunk-at t) chunk.Post
 chunk-enum-known-r-2 t c = search needs
@@ -115,15 +146,11 @@ chunk-slice-aggregate-at-end t c = search needs
 chunk-at-end-requires : (t : ℕ) → chunk-lts.Need-at-end-requires (chunk-calls t) (chunk-at t) chunk.Post
 chunk-at-end-requires t c κs =
     let x = c .before .before .before .before .before .before .before .before .before .before .before .before .before .before .before .before in
-    let w = c .before .before .before .before .before .before .before .before .before .before .before .before .look in
-    let b = bytes-all (x .args .file .now) (λ i. omega (arith, c .before .before .before .before .before .before .before .before .before .before .before .before .before .before .before .shared-slice-known .given i)) in
-    let g = c .before .before .before .before .before .before .before .before .id .given in
-    let v : HeadWithin (x .args .at) (x .args .end) (Head.Enter (g .0 .0) (g .0 .1 .0) (g .0 .1 .1 .0) (g .0 .1 .1 .1 .0) (g .0 .1 .1 .1 .1 .0)) = subst (HeadWithin (x .args .at) (x .args .end)) (g .1) (w .ensures .1 .1 .1) in
-    let h = c .before .before .records .given in
+    let p = x .pre .1 .3 in
+    let e = opened t (c .before .before .before .before .before .before .before .before) (p .0) (p .1) (p .2) in
     let y = c .before .before .before .before .before .run in
-    let f = subst (λ z. RunIs (g .0 .1 .1 .1 .1 .0) 0 0 (g .0 .1 .1 .1 .0) noMarks (walk (inside (x .pre .1 .3 .0) (g .0 .0) (ent (x .args .file .now) (x .args .at) (x .args .end) (x .pre .1 .0) (x .pre .1 .2 .ends) b (x .pre .1 .3 .0) (x .pre .1 .3 .1) (x .args .marks .now) (w .last .1 .1 .1 .1 .1 .0) (w .result) (w .ensures .0 (x .pre .1 .3 .0) (x .pre .1 .3 .1) (x .pre .1 .3 .2)) (w .ensures .1 .0 (x .pre .1 .3 .0) (x .pre .1 .3 .1) (x .pre .1 .3 .2)) (g .0 .0) (g .0 .1 .0) (g .0 .1 .1 .0) (g .0 .1 .1 .1 .0) (g .0 .1 .1 .1 .1 .0) (g .1) .own)) [] (g .0 .1 .1 .1 .0) (slice (g .0 .1 .1 .1 .0) (g .0 .1 .1 .1 .1 .0) (x .args .file .now))) z (y .last .1 .1 .1 .1 .1 .0)) (h .1) (y .ensures .0 (inside (x .pre .1 .3 .0) (g .0 .0) (ent (x .args .file .now) (x .args .at) (x .args .end) (x .pre .1 .0) (x .pre .1 .2 .ends) b (x .pre .1 .3 .0) (x .pre .1 .3 .1) (x .args .marks .now) (w .last .1 .1 .1 .1 .1 .0) (w .result) (w .ensures .0 (x .pre .1 .3 .0) (x .pre .1 .3 .1) (x .pre .1 .3 .2)) (w .ensures .1 .0 (x .pre .1 .3 .0) (x .pre .1 .3 .1) (x .pre .1 .3 .2)) (g .0 .0) (g .0 .1 .0) (g .0 .1 .1 .0) (g .0 .1 .1 .1 .0) (g .0 .1 .1 .1 .1 .0) (g .1) .own)) [] (inner-context (x .args .file .now) (x .args .at) (x .args .end) (x .pre .1 .0) (x .pre .1 .2 .ends) b (x .pre .1 .3 .0) (x .pre .1 .3 .1) (x .args .marks .now) (w .last .1 .1 .1 .1 .1 .0) (w .result) (w .ensures .0 (x .pre .1 .3 .0) (x .pre .1 .3 .1) (x .pre .1 .3 .2)) (w .ensures .1 .0 (x .pre .1 .3 .0) (x .pre .1 .3 .1) (x .pre .1 .3 .2)) (g .0 .0) (g .0 .1 .0) (g .0 .1 .1 .0) (g .0 .1 .1 .1 .0) (g .0 .1 .1 .1 .1 .0) (g .1) (v .3))) in
     let m = x .pre .1 .2 .short in
-    (y .ensures .1 .0, enter-placed (x .args .file .now) (x .args .at) (x .args .end) (x .pre .1 .0) (x .pre .1 .2 .ends) b (x .pre .1 .3 .0) (x .pre .1 .3 .1) (x .args .marks .now) (w .last .1 .1 .1 .1 .1 .0) (w .result) (w .ensures .0 (x .pre .1 .3 .0) (x .pre .1 .3 .1) (x .pre .1 .3 .2)) (w .ensures .1 .0 (x .pre .1 .3 .0) (x .pre .1 .3 .1) (x .pre .1 .3 .2)) (g .0 .0) (g .0 .1 .0) (g .0 .1 .1 .0) (g .0 .1 .1 .1 .0) (g .0 .1 .1 .1 .1 .0) (g .1) (v .1) (omega (arith, x .pre .1 .2 .ends, v .2)) (omega (arith, v .0)) (y .last .1 .1 .1 .1 .1 .0) (h .0 .0) (h .0 .1 .0) (h .0 .1 .1 .0) f (omega arith), omega arith)
+    (y .ensures .1 .0, enter-placed e (children e (y .ensures .0) (c .before .before .records .given .1)) (omega arith), omega arith)
 
 chunk-enum-known-r-3 : (t : ℕ) → chunk-lts.Need-enum-known-r-3 (chunk-calls t) (chunk-at t) chunk.Post
 chunk-enum-known-r-3 t c = search needs
@@ -131,42 +158,44 @@ chunk-enum-known-r-3 t c = search needs
 chunk-enum-told : (t : ℕ) → chunk-lts.Need-enum-told (chunk-calls t) (chunk-at t) chunk.Post
 chunk-enum-told t c = search needs
 
+-- six bytes for each record of its children, and the skipped ones
+children-within : (t : ℕ) (d : chunk-lts.After-records (chunk-calls t) (chunk-at t) chunk.Post) →
+    let g = d .before .before .before .before .before .before .id .given .0 in
+    let h = d .records .given .0 in
+    RunWithin (g .1 .1 .1 .0) (g .1 .1 .1 .1 .0) (Ran.Done (h .0) (h .1 .0) (h .1 .1 .0))
+children-within t d = subst (RunWithin _ _) (d .records .given .1) (d .before .before .before .run .ensures .1 .1)
+
 chunk-add-t33 : (t : ℕ) → chunk-lts.Need-add-t33 (chunk-calls t) (chunk-at t) chunk.Post
 chunk-add-t33 t c =
-    let x = c .before .before .before .before .before .before .before .before .before .before .before .before .before .before .before .before .before .before .before in
-    let w = c .before .before .before .before .before .before .before .before .before .before .before .before .before .before .before .look in
-    let g = c .before .before .before .before .before .before .before .before .before .before .before .id .given in
-    let v : HeadWithin (x .args .at) (x .args .end) (Head.Enter (g .0 .0) (g .0 .1 .0) (g .0 .1 .1 .0) (g .0 .1 .1 .1 .0) (g .0 .1 .1 .1 .1 .0)) = subst (HeadWithin (x .args .at) (x .args .end)) (g .1) (w .ensures .1 .1 .1) in
-    let h = c .before .before .before .before .before .records .given in
-    let y = c .before .before .before .before .before .before .before .before .run in
-    let z : RunWithin (g .0 .1 .1 .1 .0) (g .0 .1 .1 .1 .1 .0) (Ran.Done (h .0 .0) (h .0 .1 .0) (h .0 .1 .1 .0)) = subst (RunWithin _ _) (h .1) (y .ensures .1 .1) in
-    let m = x .pre .1 .2 .short in
-    let e = x .pre .1 .2 .ends in
-    omega arith
+    let x = c .before .before .before .before .before .before .before .before .before .before .before .before .before .before .before .before .before .before .before .pre .1 .2 in
+    let v = found-within t (c .before .before .before .before .before .before .before .before .before .before .before .before .before .before .before) (c .before .before .before .before .before .before .before .before .before .before .before .id .given .1) in
+    let z = children-within t (c .before .before .before .before .before) in
+    omega (arith, x .short, x .ends)
 
 chunk-same-length : (t : ℕ) → chunk-lts.Need-same-length (chunk-calls t) (chunk-at t) chunk.Post
 chunk-same-length t c = search needs
 
 chunk-returns : (t : ℕ) → chunk-lts.Need-returns (chunk-calls t) (chunk-at t) chunk.Post
 chunk-returns t c =
-    let x = c .before .before .before .before .before .before .before .before .before in
-    let w = c .before .before .before .before .before .look in
-    let b = bytes-all (x .args .file .now) (λ i. omega (arith, c .before .before .before .before .before .before .before .before .shared-slice-known .given i)) in
+    let d = c .before .before .before .before .before in
+    let x = d .before .before .before .before .args in
+    let ms = d .look .last .1 .1 .1 .1 .1 .0 in
     let g = c .before .r .given in
-    (λ q seen k. chunk-fault q (x .args .at) (x .args .marks .now) (w .last .1 .1 .1 .1 .1 .0) (step q seen (x .args .at) (slice (x .args .at) (x .args .end) (x .args .file .now))) (g .0 .0) (subst (HeadIs (x .args .at) (step q seen (x .args .at) (slice (x .args .at) (x .args .end) (x .args .file .now)))) (g .1) (w .ensures .0 q seen k)), (w .ensures .1 .1 .0, tt))
+    (λ q seen k. chunk-fault q (x .at) (x .marks .now) ms (step q seen (x .at) (slice (x .at) (x .end) (x .file .now))) (g .0 .0) (found t d (g .1) q seen k), (d .look .ensures .1 .1 .0, tt))
 
 chunk-same-length-2 : (t : ℕ) → chunk-lts.Need-same-length-2 (chunk-calls t) (chunk-at t) chunk.Post
 chunk-same-length-2 t c = search needs
 
 chunk-returns-2 : (t : ℕ) → chunk-lts.Need-returns-2 (chunk-calls t) (chunk-at t) chunk.Post
 chunk-returns-2 t c =
-    let x = c .before .before .before .before .before .before .before .before .before in
-    let w = c .before .before .before .before .before .look in
-    let b = bytes-all (x .args .file .now) (λ i. omega (arith, c .before .before .before .before .before .before .before .before .shared-slice-known .given i)) in
+    let d = c .before .before .before .before .before in
+    let x = d .before .before .before .before .args in
+    let ms = d .look .last .1 .1 .1 .1 .1 .0 in
     let g = c .before .stop .given in
-    let v : HeadWithin (x .args .at) (x .args .end) (Head.Skip (g .0 .0)) = subst (HeadWithin (x .args .at) (x .args .end)) (g .1) (w .ensures .1 .1 .1) in (
-      λ q seen k. chunk-skip q (x .args .at) (x .args .marks .now) (w .last .1 .1 .1 .1 .1 .0) (step q seen (x .args .at) (slice (x .args .at) (x .args .end) (x .args .file .now))) (g .0 .0) (subst (HeadIs (x .args .at) (step q seen (x .args .at) (slice (x .args .at) (x .args .end) (x .args .file .now)))) (g .1) (w .ensures .0 q seen k)) (w .ensures .1 .0 q seen k),
-      (w .ensures .1 .1 .0, omega arith),
+    let v = found-within t d (g .1) in (
+      λ q seen k.
+          chunk-skip q (x .at) (x .marks .now) ms (step q seen (x .at) (slice (x .at) (x .end) (x .file .now))) (g .0 .0) (found t d (g .1) q seen k) (d .look .ensures .1 .0 q seen k),
+      (d .look .ensures .1 .1 .0, omega arith),
     )
 
 chunk-same-length-3 : (t : ℕ) → chunk-lts.Need-same-length-3 (chunk-calls t) (chunk-at t) chunk.Post
@@ -174,15 +203,16 @@ chunk-same-length-3 t c = search needs
 
 chunk-returns-3 : (t : ℕ) → chunk-lts.Need-returns-3 (chunk-calls t) (chunk-at t) chunk.Post
 chunk-returns-3 t c =
-    let x = c .before .before .before .before .before .before .before .before .before in
-    let w = c .before .before .before .before .before .look in
-    let b = bytes-all (x .args .file .now) (λ i. omega (arith, c .before .before .before .before .before .before .before .before .shared-slice-known .given i)) in
+    let d = c .before .before .before .before .before in
+    let x = d .before .before .before .before .args in
+    let body = slice (x .at) (x .end) (x .file .now) in
+    let ms = d .look .last .1 .1 .1 .1 .1 .0 in
     let g = c .before .stop2 .given in
-    let v : HeadWithin (x .args .at) (x .args .end) (Head.Leaf (g .0 .0)) = subst (HeadWithin (x .args .at) (x .args .end)) (g .1) (w .ensures .1 .1 .1) in (
-      λ q seen k. chunk-leaf q seen (slice (x .args .at) (x .args .end) (x .args .file .now)) (x .args .at) (x .args .marks .now) (w .last .1 .1 .1 .1 .1 .0) (step q seen (x .args .at) (slice (x .args .at) (x .args .end) (x .args .file .now)))
-          (step-says q seen (x .args .at) (slice (x .args .at) (x .args .end) (x .args .file .now)) (bytes-slice (x .args .file .now) (x .args .at) (x .args .end) b)) (g .0 .0)
-          (subst (HeadIs (x .args .at) (step q seen (x .args .at) (slice (x .args .at) (x .args .end) (x .args .file .now)))) (g .1) (w .ensures .0 q seen k)) (w .ensures .1 .0 q seen k),
-      (w .ensures .1 .1 .0, omega arith),
+    let v = found-within t d (g .1) in (
+      λ q seen k.
+          chunk-leaf q seen body (x .at) (x .marks .now) ms (step q seen (x .at) body) (step-says q seen (x .at) body (bytes-slice (x .file .now) (x .at) (x .end) (file-bytes t d)))
+          (g .0 .0) (found t d (g .1) q seen k) (d .look .ensures .1 .0 q seen k),
+      (d .look .ensures .1 .1 .0, omega arith),
     )
 
 chunk-same-length-4 : (t : ℕ) → chunk-lts.Need-same-length-4 (chunk-calls t) (chunk-at t) chunk.Post
@@ -190,16 +220,9 @@ chunk-same-length-4 t c = search needs
 
 chunk-returns-4 : (t : ℕ) → chunk-lts.Need-returns-4 (chunk-calls t) (chunk-at t) chunk.Post
 chunk-returns-4 t c =
-    let x = c .before .before .before .before .before .before .before .before .before .before .before .before .before .before .before in
-    let w = c .before .before .before .before .before .before .before .before .before .before .before .look in
-    let b = bytes-all (x .args .file .now) (λ i. omega (arith, c .before .before .before .before .before .before .before .before .before .before .before .before .before .before .shared-slice-known .given i)) in
-    let g = c .before .before .before .before .before .before .before .id .given in
-    let v : HeadWithin (x .args .at) (x .args .end) (Head.Enter (g .0 .0) (g .0 .1 .0) (g .0 .1 .1 .0) (g .0 .1 .1 .1 .0) (g .0 .1 .1 .1 .1 .0)) = subst (HeadWithin (x .args .at) (x .args .end)) (g .1) (w .ensures .1 .1 .1) in
-    let h = c .before .r2 .given in
-    let y = c .before .before .before .before .run in (
-      λ q seen k. enter-refused (x .args .file .now) (x .args .at) (x .args .end) (x .pre .1 .0) (x .pre .1 .2 .ends) b q seen (x .args .marks .now) (w .last .1 .1 .1 .1 .1 .0) (w .result) (w .ensures .0 q seen k) (w .ensures .1 .0 q seen k) (g .0 .0) (g .0 .1 .0) (g .0 .1 .1 .0) (g .0 .1 .1 .1 .0) (g .0 .1 .1 .1 .1 .0) (g .1) (v .1) (omega (arith, x .pre .1 .2 .ends, v .2)) (omega (arith, v .0)) (y .last .1 .1 .1 .1 .1 .0) (h .0 .0)
-          (subst (λ z. RunIs (g .0 .1 .1 .1 .1 .0) 0 0 (g .0 .1 .1 .1 .0) noMarks (walk (inside q (g .0 .0) (ent (x .args .file .now) (x .args .at) (x .args .end) (x .pre .1 .0) (x .pre .1 .2 .ends) b q seen (x .args .marks .now) (w .last .1 .1 .1 .1 .1 .0) (w .result) (w .ensures .0 q seen k) (w .ensures .1 .0 q seen k) (g .0 .0) (g .0 .1 .0) (g .0 .1 .1 .0) (g .0 .1 .1 .1 .0) (g .0 .1 .1 .1 .1 .0) (g .1) .own)) [] (g .0 .1 .1 .1 .0) (slice (g .0 .1 .1 .1 .0) (g .0 .1 .1 .1 .1 .0) (x .args .file .now))) z (y .last .1 .1 .1 .1 .1 .0)) (h .1) (y .ensures .0 (inside q (g .0 .0) (ent (x .args .file .now) (x .args .at) (x .args .end) (x .pre .1 .0) (x .pre .1 .2 .ends) b q seen (x .args .marks .now) (w .last .1 .1 .1 .1 .1 .0) (w .result) (w .ensures .0 q seen k) (w .ensures .1 .0 q seen k) (g .0 .0) (g .0 .1 .0) (g .0 .1 .1 .0) (g .0 .1 .1 .1 .0) (g .0 .1 .1 .1 .1 .0) (g .1) .own)) [] (inner-context (x .args .file .now) (x .args .at) (x .args .end) (x .pre .1 .0) (x .pre .1 .2 .ends) b q seen (x .args .marks .now) (w .last .1 .1 .1 .1 .1 .0) (w .result) (w .ensures .0 q seen k) (w .ensures .1 .0 q seen k) (g .0 .0) (g .0 .1 .0) (g .0 .1 .1 .0) (g .0 .1 .1 .1 .0) (g .0 .1 .1 .1 .1 .0) (g .1) (v .3)))),
-      (w .ensures .1 .1 .0, tt),
+    let d = c .before .before .before .before .before .before .before in (
+      λ q seen k. let e = opened t d q seen k in enter-refused e (children e (c .before .before .before .before .run .ensures .0) (c .before .r2 .given .1)),
+      (d .before .before .before .before .look .ensures .1 .1 .0, tt),
     )
 
 chunk-same-length-5 : (t : ℕ) → chunk-lts.Need-same-length-5 (chunk-calls t) (chunk-at t) chunk.Post
@@ -207,17 +230,11 @@ chunk-same-length-5 t c = search needs
 
 chunk-returns-5 : (t : ℕ) → chunk-lts.Need-returns-5 (chunk-calls t) (chunk-at t) chunk.Post
 chunk-returns-5 t c =
-    let x = c .before .before .before .before .before .before .before .before .before .before .before .before .before .before .before .before .before .before .before .before in
-    let w = c .before .before .before .before .before .before .before .before .before .before .before .before .before .before .before .before .look in
-    let b = bytes-all (x .args .file .now) (λ i. omega (arith, c .before .before .before .before .before .before .before .before .before .before .before .before .before .before .before .before .before .before .before .shared-slice-known .given i)) in
-    let g = c .before .before .before .before .before .before .before .before .before .before .before .before .id .given in
-    let v : HeadWithin (x .args .at) (x .args .end) (Head.Enter (g .0 .0) (g .0 .1 .0) (g .0 .1 .1 .0) (g .0 .1 .1 .1 .0) (g .0 .1 .1 .1 .1 .0)) = subst (HeadWithin (x .args .at) (x .args .end)) (g .1) (w .ensures .1 .1 .1) in
-    let h = c .before .before .before .before .before .before .records .given in
-    let y = c .before .before .before .before .before .before .before .before .before .run in
-    let u = c .before .before .before .at-end in
-    let d = c .before .r3 .given in (
-      λ q seen k. enter-shut (x .args .file .now) (x .args .at) (x .args .end) (x .pre .1 .0) (x .pre .1 .2 .ends) b q seen (x .args .marks .now) (w .last .1 .1 .1 .1 .1 .0) (w .result) (w .ensures .0 q seen k) (w .ensures .1 .0 q seen k) (g .0 .0) (g .0 .1 .0) (g .0 .1 .1 .0) (g .0 .1 .1 .1 .0) (g .0 .1 .1 .1 .1 .0) (g .1) (v .1) (omega (arith, x .pre .1 .2 .ends, v .2)) (omega (arith, v .0)) (y .last .1 .1 .1 .1 .1 .0) (h .0 .0) (h .0 .1 .0) (h .0 .1 .1 .0) (subst (λ z. RunIs (g .0 .1 .1 .1 .1 .0) 0 0 (g .0 .1 .1 .1 .0) noMarks (walk (inside q (g .0 .0) (ent (x .args .file .now) (x .args .at) (x .args .end) (x .pre .1 .0) (x .pre .1 .2 .ends) b q seen (x .args .marks .now) (w .last .1 .1 .1 .1 .1 .0) (w .result) (w .ensures .0 q seen k) (w .ensures .1 .0 q seen k) (g .0 .0) (g .0 .1 .0) (g .0 .1 .1 .0) (g .0 .1 .1 .1 .0) (g .0 .1 .1 .1 .1 .0) (g .1) .own)) [] (g .0 .1 .1 .1 .0) (slice (g .0 .1 .1 .1 .0) (g .0 .1 .1 .1 .1 .0) (x .args .file .now))) z (y .last .1 .1 .1 .1 .1 .0)) (h .1) (y .ensures .0 (inside q (g .0 .0) (ent (x .args .file .now) (x .args .at) (x .args .end) (x .pre .1 .0) (x .pre .1 .2 .ends) b q seen (x .args .marks .now) (w .last .1 .1 .1 .1 .1 .0) (w .result) (w .ensures .0 q seen k) (w .ensures .1 .0 q seen k) (g .0 .0) (g .0 .1 .0) (g .0 .1 .1 .0) (g .0 .1 .1 .1 .0) (g .0 .1 .1 .1 .1 .0) (g .1) .own)) [] (inner-context (x .args .file .now) (x .args .at) (x .args .end) (x .pre .1 .0) (x .pre .1 .2 .ends) b q seen (x .args .marks .now) (w .last .1 .1 .1 .1 .1 .0) (w .result) (w .ensures .0 q seen k) (w .ensures .1 .0 q seen k) (g .0 .0) (g .0 .1 .0) (g .0 .1 .1 .0) (g .0 .1 .1 .1 .0) (g .0 .1 .1 .1 .1 .0) (g .1) (v .3)))) (u .result) (u .ensures) (d .0 .0) (d .1),
-      (w .ensures .1 .1 .0, tt),
+    let d = c .before .before .before .before .before .before .before .before .before .before .before .before in (
+      λ q seen k.
+          let e = opened t d q seen k in
+          enter-shut e (children e (c .before .before .before .before .before .before .before .before .before .run .ensures .0) (c .before .before .before .before .before .before .records .given .1)) (c .before .before .before .at-end .result) (c .before .before .before .at-end .ensures) (c .before .r3 .given .1),
+      (d .before .before .before .before .look .ensures .1 .1 .0, tt),
     )
 
 chunk-same-length-6 : (t : ℕ) → chunk-lts.Need-same-length-6 (chunk-calls t) (chunk-at t) chunk.Post
@@ -225,17 +242,13 @@ chunk-same-length-6 t c = search needs
 
 chunk-returns-6 : (t : ℕ) → chunk-lts.Need-returns-6 (chunk-calls t) (chunk-at t) chunk.Post
 chunk-returns-6 t c =
-    let x = c .before .before .before .before .before .before .before .before .before .before .before .before .before .before .before .before .before .before .before in
-    let w = c .before .before .before .before .before .before .before .before .before .before .before .before .before .before .before .look in
-    let b = bytes-all (x .args .file .now) (λ i. omega (arith, c .before .before .before .before .before .before .before .before .before .before .before .before .before .before .before .before .before .before .shared-slice-known .given i)) in
-    let g = c .before .before .before .before .before .before .before .before .before .before .before .id .given in
-    let v : HeadWithin (x .args .at) (x .args .end) (Head.Enter (g .0 .0) (g .0 .1 .0) (g .0 .1 .1 .0) (g .0 .1 .1 .1 .0) (g .0 .1 .1 .1 .1 .0)) = subst (HeadWithin (x .args .at) (x .args .end)) (g .1) (w .ensures .1 .1 .1) in
-    let h = c .before .before .before .before .before .records .given in
-    let y = c .before .before .before .before .before .before .before .before .run in
-    let u = c .before .before .at-end in
-    let z : RunWithin (g .0 .1 .1 .1 .0) (g .0 .1 .1 .1 .1 .0) (Ran.Done (h .0 .0) (h .0 .1 .0) (h .0 .1 .1 .0)) = subst (RunWithin _ _) (h .1) (y .ensures .1 .1) in (
-      λ q seen k. enter-done (x .args .file .now) (x .args .at) (x .args .end) (x .pre .1 .0) (x .pre .1 .2 .ends) b q seen (x .args .marks .now) (w .last .1 .1 .1 .1 .1 .0) (w .result) (w .ensures .0 q seen k) (w .ensures .1 .0 q seen k) (g .0 .0) (g .0 .1 .0) (g .0 .1 .1 .0) (g .0 .1 .1 .1 .0) (g .0 .1 .1 .1 .1 .0) (g .1) (v .1) (omega (arith, x .pre .1 .2 .ends, v .2)) (omega (arith, v .0)) (y .last .1 .1 .1 .1 .1 .0) (h .0 .0) (h .0 .1 .0) (h .0 .1 .1 .0) (subst (λ z. RunIs (g .0 .1 .1 .1 .1 .0) 0 0 (g .0 .1 .1 .1 .0) noMarks (walk (inside q (g .0 .0) (ent (x .args .file .now) (x .args .at) (x .args .end) (x .pre .1 .0) (x .pre .1 .2 .ends) b q seen (x .args .marks .now) (w .last .1 .1 .1 .1 .1 .0) (w .result) (w .ensures .0 q seen k) (w .ensures .1 .0 q seen k) (g .0 .0) (g .0 .1 .0) (g .0 .1 .1 .0) (g .0 .1 .1 .1 .0) (g .0 .1 .1 .1 .1 .0) (g .1) .own)) [] (g .0 .1 .1 .1 .0) (slice (g .0 .1 .1 .1 .0) (g .0 .1 .1 .1 .1 .0) (x .args .file .now))) z (y .last .1 .1 .1 .1 .1 .0)) (h .1) (y .ensures .0 (inside q (g .0 .0) (ent (x .args .file .now) (x .args .at) (x .args .end) (x .pre .1 .0) (x .pre .1 .2 .ends) b q seen (x .args .marks .now) (w .last .1 .1 .1 .1 .1 .0) (w .result) (w .ensures .0 q seen k) (w .ensures .1 .0 q seen k) (g .0 .0) (g .0 .1 .0) (g .0 .1 .1 .0) (g .0 .1 .1 .1 .0) (g .0 .1 .1 .1 .1 .0) (g .1) .own)) [] (inner-context (x .args .file .now) (x .args .at) (x .args .end) (x .pre .1 .0) (x .pre .1 .2 .ends) b q seen (x .args .marks .now) (w .last .1 .1 .1 .1 .1 .0) (w .result) (w .ensures .0 q seen k) (w .ensures .1 .0 q seen k) (g .0 .0) (g .0 .1 .0) (g .0 .1 .1 .0) (g .0 .1 .1 .1 .0) (g .0 .1 .1 .1 .1 .0) (g .1) (v .3)))) (u .result) (u .ensures) (c .enum-told .given .1),
-      (w .ensures .1 .1 .0, omega arith),
+    let d = c .before .before .before .before .before .before .before .before .before .before .before in
+    let v = found-within t (d .before .before .before .before) (d .id .given .1) in
+    let z = children-within t (c .before .before .before .before .before) in (
+      λ q seen k.
+          let e = opened t d q seen k in
+          enter-done e (children e (c .before .before .before .before .before .before .before .before .run .ensures .0) (c .before .before .before .before .before .records .given .1)) (c .before .before .at-end .result) (c .before .before .at-end .ensures) (c .enum-told .given .1),
+      (d .before .before .before .before .look .ensures .1 .1 .0, omega arith),
     )
 
 abbrev run-Inv-loop : run-lts.InvT-loop
@@ -296,20 +309,30 @@ run-same-length :
     run-μ-loop
 run-same-length t c = search needs
 
-run-returns :
-    (t : ℕ) →
-    run-lts.Need-returns (run-calls t) (run-at t) run.Post run-Inv-loop run-μ-loop
+-- what the chunk at hand came to, in each context of the run
+came : (t : ℕ) (d : run-lts.After-chunk (run-calls t) (run-at t) run.Post run-Inv-loop run-μ-loop) {r : Ran} → d .chunk .result ≡ r →
+    let x = d .before .before .before .before .before .before .args in
+    let i = d .before .before .before .loop in
+    (q : Parent) (seen : List ℕ) → Context q seen (x .parent) (x .count) (i .marks) →
+    ChunkIs q (i .p) (step q seen (i .p) (slice (i .p) (x .end) (x .file .now))) r (i .marks) (d .chunk .last .1 .1 .1 .1 .1 .0)
+came t d e q seen k =
+    let x = d .before .before .before .before .before .before .args in
+    let i = d .before .before .before .loop in
+    subst (λ r. ChunkIs q (i .p) (step q seen (i .p) (slice (i .p) (x .end) (x .file .now))) r (i .marks) (d .chunk .last .1 .1 .1 .1 .1 .0)) e (d .chunk .ensures .0 q seen k)
+
+run-returns : (t : ℕ) → run-lts.Need-returns (run-calls t) (run-at t) run.Post run-Inv-loop run-μ-loop
 run-returns t c =
-    let x = c .before .before .before .before .before .before .before .before .before .before .before in
-    let i = c .before .before .before .before .before .before .before .before .loop in
-    let w = c .before .before .before .before .before .chunk in
+    let d = c .before .before .before .before .before in
+    let x = d .before .before .before .before .before .before in
+    let i = d .before .before .before .loop in
+    let ms = d .chunk .last .1 .1 .1 .1 .1 .0 in
     let g = c .before .r .given in (
       λ q seen k.
           let j = i .inv .later q seen k in
-          j .tells (Ran.Refused (g .0 .0)) (w .last .1 .1 .1 .1 .1 .0)
-          (subst (λ a. RunIs (x .args .end) (i .records) (i .skipped) (i .p) (i .marks) a (Ran.Refused (g .0 .0)) (w .last .1 .1 .1 .1 .1 .0)) (sym (walk-part (x .args .file .now) (i .p) (x .args .end) (c .before .before .before .before .before .before .before .loop-test .taken) (x .pre .1 .2 .ends) q (j .seen′)))
-          (run-stops q (j .seen′) (x .args .file .now) (i .p) (x .args .end) (i .marks) (i .records) (i .skipped) (w .last .1 .1 .1 .1 .1 .0) (step q (j .seen′) (i .p) (slice (i .p) (x .args .end) (x .args .file .now))) (g .0 .0) (w .last .1 .1 .1 .1 .1 .0) (subst (λ z. ChunkIs q (i .p) (step q (j .seen′) (i .p) (slice (i .p) (x .args .end) (x .args .file .now))) z (i .marks) (w .last .1 .1 .1 .1 .1 .0)) (g .1) (w .ensures .0 q (j .seen′) (j .context))))),
-      (w .ensures .1 .0, tt),
+          j .tells (Ran.Refused (g .0 .0)) ms
+          (stops-here q (j .seen′) (x .args .file .now) (i .p) (x .args .end) (i .marks) (d .before .before .loop-test .taken) (x .pre .1 .2 .ends)
+          (i .records) (i .skipped) (g .0 .0) ms (came t d (g .1) q (j .seen′) (j .context))),
+      (d .chunk .ensures .1 .0, tt),
     )
 
 run-enum-known-next :
@@ -364,39 +387,39 @@ run-loop-less t c =
     let f = stepped t (c .before) in
     omega arith
 
-run-loop-again :
-    (t : ℕ) →
-    run-lts.Need-loop-again
-    (run-calls t)
-    (run-at t)
-    run.Post
-    run-Inv-loop
-    run-μ-loop
+-- where the run goes on, in each context
+went-on : (t : ℕ) (c : run-lts.After-next (run-calls t) (run-at t) run.Post run-Inv-loop run-μ-loop) →
+    let x = c .before .before .before .before .before .before .before .before .before .before .args in
+    let i = c .before .before .before .before .before .before .before .loop in
+    let g = c .next .given .0 in
+    (q : Parent) (seen : List ℕ) → Context q seen (x .parent) (x .count) (i .marks) →
+    GoesOn q seen (x .file .now) (i .p) (x .end) (i .marks) (x .parent) (x .count) (walk q seen (i .p) (slice (i .p) (x .end) (x .file .now)))
+    (g .0) (g .1 .0) (g .1 .1 .0) (c .before .before .before .before .chunk .last .1 .1 .1 .1 .1 .0)
+went-on t c q seen k =
+    let x = c .before .before .before .before .before .before .before .before .before .before in
+    let i = c .before .before .before .before .before .before .before .loop in
+    let g = c .next .given in
+    let s = x .args .file .now in
+    let b = bytes-all s (λ n. omega (arith, c .before .before .before .before .before .before .before .before .before .shared-slice-known .given n)) in
+    goes-on q seen s (i .p) (x .args .end) (i .marks) (c .before .before .before .before .before .before .loop-test .taken) (x .pre .1 .2 .ends) (x .args .parent) (x .args .count) k (i .inv .five)
+    (omega (arith, i .inv .past, x .pre .1 .1)) b (g .0 .0) (g .0 .1 .0) (g .0 .1 .1 .0) (c .before .before .before .before .chunk .last .1 .1 .1 .1 .1 .0) (came t (c .before .before .before .before) (g .1) q seen k)
+
+run-loop-again : (t : ℕ) → run-lts.Need-loop-again (run-calls t) (run-at t) run.Post run-Inv-loop run-μ-loop
 run-loop-again t c =
-    let x = c .before .before .before .before .before .before .before .before .before .before .before in
     let i = c .before .before .before .before .before .before .before .before .loop in
-    let w = c .before .before .before .before .before .chunk in
-    let g = c .before .next .given in
     let f = stepped t (c .before) in
-    let e = x .pre .1 .2 .ends in
-    let a = i .inv .past in
-    let b = bytes-all (x .args .file .now) (λ k. omega (arith, c .before .before .before .before .before .before .before .before .before .before .shared-slice-known .given k)) in
     let y = i .inv .somewhere in
-    let z = (run-goes-on (y .0) (y .1) (x .args .file .now) (i .p) (x .args .end) (i .marks) (x .args .parent) (x .args .count) (y .2) (i .inv .five) (omega (arith, a, x .pre .1 .1)) (step (y .0) (y .1) (i .p) (slice (i .p) (x .args .end) (x .args .file .now))) (step-says (y .0) (y .1) (i .p) (slice (i .p) (x .args .end) (x .args .file .now)) (bytes-slice (x .args .file .now) (i .p) (x .args .end) b)) (step-parts (x .args .file .now) (i .p) (x .args .end) (c .before .before .before .before .before .before .before .loop-test .taken) e (y .0) (y .1) b) (g .0 .0) (g .0 .1 .0) (g .0 .1 .1 .0) (w .last .1 .1 .1 .1 .1 .0) (subst (λ z. ChunkIs (y .0) (i .p) (step (y .0) (y .1) (i .p) (slice (i .p) (x .args .end) (x .args .file .now))) z (i .marks) (w .last .1 .1 .1 .1 .1 .0)) (g .1) (w .ensures .0 (y .0) (y .1) (y .2)))) in
+    let z = went-on t (c .before) (y .0) (y .1) (y .2) in
     record {
       past = omega arith;
       before = f .0 .1;
-      five = w .ensures .1 .0;
+      five = c .before .before .before .before .before .chunk .ensures .1 .0;
       within = omega arith;
       somewhere = (y .0, z .seen′, z .context);
       later = λ q seen k.
           let j = i .inv .later q seen k in
-          let d = (run-goes-on q (j .seen′) (x .args .file .now) (i .p) (x .args .end) (i .marks) (x .args .parent) (x .args .count) (j .context) (i .inv .five) (omega (arith, a, x .pre .1 .1)) (step q (j .seen′) (i .p) (slice (i .p) (x .args .end) (x .args .file .now))) (step-says q (j .seen′) (i .p) (slice (i .p) (x .args .end) (x .args .file .now)) (bytes-slice (x .args .file .now) (i .p) (x .args .end) b)) (step-parts (x .args .file .now) (i .p) (x .args .end) (c .before .before .before .before .before .before .before .loop-test .taken) e q (j .seen′) b) (g .0 .0) (g .0 .1 .0) (g .0 .1 .1 .0) (w .last .1 .1 .1 .1 .1 .0) (subst (λ z. ChunkIs q (i .p) (step q (j .seen′) (i .p) (slice (i .p) (x .args .end) (x .args .file .now))) z (i .marks) (w .last .1 .1 .1 .1 .1 .0)) (g .1) (w .ensures .0 q (j .seen′) (j .context)))) in
-          record {
-            seen′ = d .seen′;
-            context = d .context;
-            tells = λ r ms′ h. j .tells r ms′ (subst (λ f. RunIs (x .args .end) (i .records) (i .skipped) (i .p) (i .marks) f r ms′) (sym (walk-part (x .args .file .now) (i .p) (x .args .end) (c .before .before .before .before .before .before .before .loop-test .taken) e q (j .seen′))) (d .tells (i .records) (i .skipped) r ms′ h));
-          };
+          let d = went-on t (c .before) q (j .seen′) (j .context) in
+          record { seen′ = d .seen′; context = d .context; tells = λ r ms′ h. j .tells r ms′ (d .tells (i .records) (i .skipped) r ms′ h) };
     }
 
 run-same-length-2 :
