@@ -6,27 +6,24 @@ use mathlib.Core.Option.{Option, none, some}
 use Prim.Native.Nat.{ℕ, _+_, _-_, _≤_, _<_}
 use native.Mathlib.Omega.{arith}
 use lib.Dec.{leb}
-use lib.ListN.{length, take, drop, take-append-drop}
+use lib.ListN.{length, take, drop}
 use lib.Seq.{slice, length-slice}
 use borrow.Author.Tests.{le-leb, lt-leb, leb-true, leb-false}
 use Rattle.rules.specs.declared.Refusal.{Refusal}
 use Rattle.rules.specs.declared.Refusal.the-variants.{Name, Length, Number, Index}
 use Rattle.rules.specs.Bytes.{le}
-use Rattle.rules.specs.Table.{Shape, counted, named-words, rows, listed, shape, plus}
+use Rattle.rules.specs.Table.{Shape, listed, shape, plus}
 use Rattle.rules.specs.Layout.{end}
 use Rattle.rules.specs.OwnData.{ownSize, hasName}
 use Rattle.rules.specs.Rules.{Parent, numbersFinite, faceNumbersBelow}
 use Rattle.rules.specs.Walk.{broken, ownConditions}
 use Rattle.rules.proofs.Bytes.{value-le}
 use Rattle.rules.proofs.Conditions.{broken-here, broken-later, unbroken}
-use Rattle.rules.proofs.OwnSize.{own-size-less}
-use Rattle.little_endian.proofs.Slices.{take-slice}
-use Rattle.table_row.specs.Packed.{rowOf, plusIn, plainIn, sizeIn, shapeIn}
-use Rattle.table_row.proofs.Facts.{plus-is, shape-is, Plain, plain-is}
-use Rattle.sizes.specs.declared.Own.{Own}
-use Rattle.sizes.specs.Own.{Fits, Exceeds, OwnIs, CountIs}
+use Rattle.table_row.specs.Packed.{rowOf, plainIn, sizeIn}
+use Rattle.table_row.proofs.Facts.{Plain, plain-is}
+use Rattle.sizes.specs.Own.{Fits, Exceeds, CountIs}
 use Rattle.own_data.specs.declared.Judged.{Judged}
-use Rattle.own_data.specs.Judges.{Exact, JudgedIs, Judges}
+use Rattle.own_data.specs.Judges.{JudgedIs, Judges}
 
 -- some own data with a given count word
 pub some-around : (n : ℕ) → n < 65536 → CountIs (le 2 n) n
@@ -106,45 +103,3 @@ module _ (s : List ℕ) (at past id row k : ℕ) (order : at + 6 ≤ past) (stay
 
   pub plain-chunk-fault : (past - at ≡ 6 + k → ⊥) → Judges p at id (slice (at + 6) past s) (Judged.Fault (Length at))
   plain-chunk-fault ne = plain-fault p at id (slice (at + 6) past s) row-plain (λ f. ne (omega (arith, f, body-length, size-of, order)))
-
--- ---- own data in the file
-
--- what was found of the row's shape is so of the identifier's
-module _ (id row : ℕ) (l : listed id ≡ true) (e : row ≡ rowOf id) (around body : List ℕ) (r : Own) (found : OwnIs (shapeIn row) around body r) where
-  pub own-of-row : (x : Own) → r ≡ x → OwnIs (shape id) around body x
-  own-of-row x f = subst (OwnIs (shape id) around body) f (subst (λ (sh : Shape). OwnIs sh around body r) (ap shapeIn e ∙ shape-is id l) found)
-
-module _ (s : List ℕ) (a stop : ℕ) (order : a ≤ stop) (stays : stop ≤ length s) (id : ℕ) (around : List ℕ) (k : ℕ) (fits : Fits (shape id) around (slice a stop s) k) where
-  pub own-ends : a + k ≤ stop
-  own-ends = omega (arith, length-slice a stop s stays, fits .within)
-
-  pub own-is : take k (slice a stop s) ≡ slice a (a + k) s
-  own-is = take-slice k a stop s own-ends
-
-  own-length : length (slice a (a + k) s) ≡ k
-  own-length = length-slice a (a + k) s (omega (arith, own-ends)) ∙ omega arith
-
-  -- own data that was found is just as long as its shape says
-  own-exact : ownSize (shape id) around (slice a (a + k) s) ≡ length (slice a (a + k) s)
-  own-exact =
-      own-size-less (shape id) around (slice a (a + k) s) (drop k (slice a stop s))
-      (rw (← own-is, take-append-drop k (slice a stop s), own-is, own-length) (sym (fits .is)))
-
-  shape-at : (x : ℕ) (sh : Shape) → shape x ≡ sh → id ≡ x → ownSize sh around (slice a (a + k) s) ≡ length (slice a (a + k) s)
-  shape-at x sh e i = rw (← e, ← i) own-exact
-
-  pub exact : Exact id (slice a (a + k) s)
-  unfolding shape rows
-  exact = record {
-    vertices = λ i. sym (shape-at 0x4110 (counted 12) refl i);
-    pairs = λ i. sym (shape-at 0x4140 (counted 8) refl i);
-    words = λ i. sym (shape-at 0x4130 named-words refl i);
-  }
-
-  -- bytes are left behind it just where the chunk goes on
-  pub left-over-is : (row : ℕ) → listed id ≡ true → row ≡ rowOf id → (plus id || leb (length (slice a stop s)) k) ≡ (plusIn row || leb stop (a + k))
-  left-over-is row l e = rw (length-slice a stop s stays, e, plus-is id l) (ap (λ (b : Bool). plus id || b) (go (leb stop (a + k)) refl))
-    where
-      go : (b : Bool) → leb stop (a + k) ≡ b → leb (stop - a) k ≡ b
-      go true h = le-leb (stop - a) k (omega (arith, leb-true stop (a + k) h))
-      go false h = lt-leb (stop - a) k (omega (arith, leb-false stop (a + k) h))

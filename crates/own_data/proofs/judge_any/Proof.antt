@@ -1,15 +1,14 @@
 -- Each test of the code answers one condition.
-use mathlib.Core.Path.{sym, ap, _∙_}
+use mathlib.Core.Path.{sym, _∙_}
 use native.Mathlib.Omega.{arith}
 use borrow.Author.Needs.{needs}
 use Prim.Native.Nat.{_+_}
 use lib.Seq.{slice}
 use borrow.Author.Tests.{not-true, not-false}
 use Rattle.rules.specs.Bytes.{le}
-use Rattle.rules.specs.Layout.{end}
-use Rattle.rules.specs.Rules.{numbersFinite, faceNumbersBelow}
 use Rattle.sizes.specs.declared.Own.{Own}
-use Rattle.own_data.proofs.Conditions.{some-around, judge-no-name, judge-too-long, judge-left-over, judge-number, judge-index, judge-fine, own-of-row, own-ends, own-is, exact, left-over-is}
+use Rattle.own_data.proofs.Conditions.{some-around, judge-no-name, judge-too-long}
+use Rattle.own_data.proofs.Sized.{own-of-row, sized, own-ends, exact, is-left-over, has-bad-number, has-bad-index, is-fine}
 use Rattle.own_data.proofs.judge_any.Statement.{statement}
 use Rattle.own_data.proofs.judge_any.Tie as tie
 
@@ -36,9 +35,8 @@ add-from-2 c =
     let x = c .before .before .before .before .before in
     let g = c .before .size .given in
     let w = c .before .before .before .own-size in
-    let f₀ = own-of-row (x .args .id) (x .args .row) (x .pre .3) (x .pre .4) (le 2 (x .args .count)) (slice (x .args .at + 6) (x .args .stop) (x .args .file .now)) (w .result) (w .ensures _ (some-around (x .args .count) (x .pre .2))) (Own.Size (g .0 .0)) (g .1) in
-    let z = own-ends (x .args .file .now) (x .args .at + 6) (x .args .stop) (x .pre .0) (x .pre .1) (x .args .id) (le 2 (x .args .count)) (g .0 .0) f₀ in
-    omega arith
+    let z = sized (x .pre .0) (x .pre .1) (x .pre .3) (x .pre .4) (le 2 (x .args .count)) (w .result) (w .ensures _ (some-around (x .args .count) (x .pre .2))) (g .1) in
+    omega (arith, own-ends z)
 
 leaves-bytes-requires : tie.Need-leaves-bytes-requires
 leaves-bytes-requires c κs = search needs
@@ -48,8 +46,8 @@ returns c = λ p h.
     let x = c .before .before .before .before .before .before .before in
     let g = c .before .before .before .size .given in
     let w = c .before .before .before .before .before .own-size in
-    let f₀ = own-of-row (x .args .id) (x .args .row) (x .pre .3) (x .pre .4) (p .own) (slice (x .args .at + 6) (x .args .stop) (x .args .file .now)) (w .result) (w .ensures (p .own) h) (Own.Size (g .0 .0)) (g .1) in
-    judge-left-over p (x .args .at) (x .args .id) (slice (x .args .at + 6) (x .args .stop) (x .args .file .now)) (g .0 .0) f₀ (left-over-is (x .args .file .now) (x .args .at + 6) (x .args .stop) (x .pre .0) (x .pre .1) (x .args .id) (p .own) (g .0 .0) f₀ (x .args .row) (x .pre .3) (x .pre .4) ∙ not-true _ (sym (c .before .leaves-bytes .ensures) ∙ c .if1 .taken))
+    let z = sized (x .pre .0) (x .pre .1) (x .pre .3) (x .pre .4) (p .own) (w .result) (w .ensures (p .own) h) (g .1) in
+    is-left-over p z (sym (c .before .leaves-bytes .ensures) ∙ c .if1 .taken)
 
 add-numbers-finite : tie.Need-add-numbers-finite
 add-numbers-finite c = search needs
@@ -59,18 +57,17 @@ numbers-finite-requires c κs =
     let x = c .before .before .before .before .before .before .before in
     let g = c .before .before .before .size .given in
     let w = c .before .before .before .before .before .own-size in
-    let f₀ = own-of-row (x .args .id) (x .args .row) (x .pre .3) (x .pre .4) (le 2 (x .args .count)) (slice (x .args .at + 6) (x .args .stop) (x .args .file .now)) (w .result) (w .ensures _ (some-around (x .args .count) (x .pre .2))) (Own.Size (g .0 .0)) (g .1) in
-    let z = own-ends (x .args .file .now) (x .args .at + 6) (x .args .stop) (x .pre .0) (x .pre .1) (x .args .id) (le 2 (x .args .count)) (g .0 .0) f₀ in
-    (omega arith, omega arith, exact (x .args .file .now) (x .args .at + 6) (x .args .stop) (x .pre .0) (x .pre .1) (x .args .id) (le 2 (x .args .count)) (g .0 .0) f₀)
+    let z = sized (x .pre .0) (x .pre .1) (x .pre .3) (x .pre .4) (le 2 (x .args .count)) (w .result) (w .ensures _ (some-around (x .args .count) (x .pre .2))) (g .1) in
+    (omega arith, omega (arith, own-ends z), exact z)
 
 returns-2 : tie.Need-returns-2
 returns-2 c = λ p h.
     let x = c .before .before .before .before .before .before .before .before .before in
     let g = c .before .before .before .before .before .size .given in
     let w = c .before .before .before .before .before .before .before .own-size in
-    let f₀ = own-of-row (x .args .id) (x .args .row) (x .pre .3) (x .pre .4) (p .own) (slice (x .args .at + 6) (x .args .stop) (x .args .file .now)) (w .result) (w .ensures (p .own) h) (Own.Size (g .0 .0)) (g .1) in
-    judge-number p (x .args .at) (x .args .id) (slice (x .args .at + 6) (x .args .stop) (x .args .file .now)) (g .0 .0) f₀ (left-over-is (x .args .file .now) (x .args .at + 6) (x .args .stop) (x .pre .0) (x .pre .1) (x .args .id) (p .own) (g .0 .0) f₀ (x .args .row) (x .pre .3) (x .pre .4) ∙ not-false _ (sym (c .before .before .before .leaves-bytes .ensures) ∙ c .before .before .if1 .left))
-    (ap (λ own. numbersFinite p (x .args .id) own end) (own-is (x .args .file .now) (x .args .at + 6) (x .args .stop) (x .pre .0) (x .pre .1) (x .args .id) (p .own) (g .0 .0) f₀) ∙ sym (c .before .numbers-finite .ensures p) ∙ not-true _ (c .if2 .taken))
+    let z = sized (x .pre .0) (x .pre .1) (x .pre .3) (x .pre .4) (p .own) (w .result) (w .ensures (p .own) h) (g .1) in
+    let l = sym (c .before .before .before .leaves-bytes .ensures) ∙ c .before .before .if1 .left in
+    has-bad-number p z l (sym (c .before .numbers-finite .ensures p) ∙ not-true _ (c .if2 .taken))
 
 add-face-numbers-below : tie.Need-add-face-numbers-below
 add-face-numbers-below c = search needs
@@ -80,19 +77,18 @@ face-numbers-below-requires c κs =
     let x = c .before .before .before .before .before .before .before .before .before in
     let g = c .before .before .before .before .before .size .given in
     let w = c .before .before .before .before .before .before .before .own-size in
-    let f₀ = own-of-row (x .args .id) (x .args .row) (x .pre .3) (x .pre .4) (le 2 (x .args .count)) (slice (x .args .at + 6) (x .args .stop) (x .args .file .now)) (w .result) (w .ensures _ (some-around (x .args .count) (x .pre .2))) (Own.Size (g .0 .0)) (g .1) in
-    let z = own-ends (x .args .file .now) (x .args .at + 6) (x .args .stop) (x .pre .0) (x .pre .1) (x .args .id) (le 2 (x .args .count)) (g .0 .0) f₀ in
-    (omega arith, omega arith, exact (x .args .file .now) (x .args .at + 6) (x .args .stop) (x .pre .0) (x .pre .1) (x .args .id) (le 2 (x .args .count)) (g .0 .0) f₀)
+    let z = sized (x .pre .0) (x .pre .1) (x .pre .3) (x .pre .4) (le 2 (x .args .count)) (w .result) (w .ensures _ (some-around (x .args .count) (x .pre .2))) (g .1) in
+    (omega arith, omega (arith, own-ends z), exact z)
 
 returns-3 : tie.Need-returns-3
 returns-3 c = λ p h.
     let x = c .before .before .before .before .before .before .before .before .before .before .before in
     let g = c .before .before .before .before .before .before .before .size .given in
     let w = c .before .before .before .before .before .before .before .before .before .own-size in
-    let f₀ = own-of-row (x .args .id) (x .args .row) (x .pre .3) (x .pre .4) (p .own) (slice (x .args .at + 6) (x .args .stop) (x .args .file .now)) (w .result) (w .ensures (p .own) h) (Own.Size (g .0 .0)) (g .1) in
-    judge-index p (x .args .at) (x .args .id) (slice (x .args .at + 6) (x .args .stop) (x .args .file .now)) (g .0 .0) f₀ (left-over-is (x .args .file .now) (x .args .at + 6) (x .args .stop) (x .pre .0) (x .pre .1) (x .args .id) (p .own) (g .0 .0) f₀ (x .args .row) (x .pre .3) (x .pre .4) ∙ not-false _ (sym (c .before .before .before .before .before .leaves-bytes .ensures) ∙ c .before .before .before .before .if1 .left))
-    (ap (λ own. numbersFinite p (x .args .id) own end) (own-is (x .args .file .now) (x .args .at + 6) (x .args .stop) (x .pre .0) (x .pre .1) (x .args .id) (p .own) (g .0 .0) f₀) ∙ sym (c .before .before .before .numbers-finite .ensures p) ∙ not-false _ (c .before .before .if2 .left))
-    (ap (λ own. faceNumbersBelow p (x .args .id) own end) (own-is (x .args .file .now) (x .args .at + 6) (x .args .stop) (x .pre .0) (x .pre .1) (x .args .id) (p .own) (g .0 .0) f₀) ∙ sym (c .before .face-numbers-below .ensures p h) ∙ not-true _ (c .if3 .taken))
+    let z = sized (x .pre .0) (x .pre .1) (x .pre .3) (x .pre .4) (p .own) (w .result) (w .ensures (p .own) h) (g .1) in
+    let l = sym (c .before .before .before .before .before .leaves-bytes .ensures) ∙ c .before .before .before .before .if1 .left in
+    let n = sym (c .before .before .before .numbers-finite .ensures p) ∙ not-false _ (c .before .before .if2 .left) in
+    has-bad-index p z l n (sym (c .before .face-numbers-below .ensures p h) ∙ not-true _ (c .if3 .taken))
 
 returns-4 : tie.Need-returns-4
 returns-4 c = λ p h.
@@ -113,10 +109,10 @@ returns-6 c = λ p h.
     let x = c .before .before .before .before .before .before .before .before .before .before .before in
     let g = c .before .before .before .before .before .before .before .size .given in
     let w = c .before .before .before .before .before .before .before .before .before .own-size in
-    let f₀ = own-of-row (x .args .id) (x .args .row) (x .pre .3) (x .pre .4) (p .own) (slice (x .args .at + 6) (x .args .stop) (x .args .file .now)) (w .result) (w .ensures (p .own) h) (Own.Size (g .0 .0)) (g .1) in
-    judge-fine p (x .args .at) (x .args .id) (slice (x .args .at + 6) (x .args .stop) (x .args .file .now)) (g .0 .0) f₀ (left-over-is (x .args .file .now) (x .args .at + 6) (x .args .stop) (x .pre .0) (x .pre .1) (x .args .id) (p .own) (g .0 .0) f₀ (x .args .row) (x .pre .3) (x .pre .4) ∙ not-false _ (sym (c .before .before .before .before .before .leaves-bytes .ensures) ∙ c .before .before .before .before .if1 .left))
-    (ap (λ own. numbersFinite p (x .args .id) own end) (own-is (x .args .file .now) (x .args .at + 6) (x .args .stop) (x .pre .0) (x .pre .1) (x .args .id) (p .own) (g .0 .0) f₀) ∙ sym (c .before .before .before .numbers-finite .ensures p) ∙ not-false _ (c .before .before .if2 .left))
-    (ap (λ own. faceNumbersBelow p (x .args .id) own end) (own-is (x .args .file .now) (x .args .at + 6) (x .args .stop) (x .pre .0) (x .pre .1) (x .args .id) (p .own) (g .0 .0) f₀) ∙ sym (c .before .face-numbers-below .ensures p h) ∙ not-false _ (c .if3 .left))
+    let z = sized (x .pre .0) (x .pre .1) (x .pre .3) (x .pre .4) (p .own) (w .result) (w .ensures (p .own) h) (g .1) in
+    let l = sym (c .before .before .before .before .before .leaves-bytes .ensures) ∙ c .before .before .before .before .if1 .left in
+    let n = sym (c .before .before .before .numbers-finite .ensures p) ∙ not-false _ (c .before .before .if2 .left) in
+    is-fine p z l n (sym (c .before .face-numbers-below .ensures p h) ∙ not-false _ (c .if3 .left))
 
 pub judge-any-spec : {M : Type 1} → statement M
 judge-any-spec =
