@@ -19,13 +19,19 @@ one() {
     all_failed=$((all_failed + ${counts#* }))
 }
 
+# The longest of them runs beside the others.
+side=$(mktemp "${TMPDIR:-/tmp}/tds-side.XXXXXX") || exit 2
+trap 'rm -f "$side"' EXIT
+sh tests/c/stick_test.sh >"$side" 2>&1 &
+
 one sh tests/c/header_test.sh
 # RUN is a command with its arguments, so it is split.
 # shellcheck disable=SC2086
 one ${RUN:-} "$BUILD/c-test/boundary_test"
 one sh tests/c/samples_test.sh
 one sh tests/c/viewer_test.sh
-one sh tests/c/stick_test.sh
 one sh tests/c/install_test.sh
+wait
+one cat "$side"
 echo "c-test: $all_passed passed, $all_failed failed"
 [ "$all_failed" -eq 0 ]
