@@ -16,24 +16,26 @@ use Rattle.rules.specs.Encodings.{numberBytes}
 use Rattle.rules.specs.Calls.{Effect, leaving, filled}
 use Rattle.codes.specs.Codes.{refusalCode}
 
+-- a refusal leaves the bytes as they were
+abbrev pub untouched : List ℕ → Refusal → Effect ℕ (List ℕ)
+untouched out r = leaving (refusalCode r) out
+
+-- numbers, where there is room for them
 abbrev pub given : List ℕ → List ℕ → Effect ℕ (List ℕ)
 given out ns =
     cond (leb (length ns) (numberBytes 4 .room (length out)))
     (leaving (length ns) (filled (numberBytes 4 .encode ns) out))
-    (leaving (refusalCode (NoRoom (length ns))) out)
-
-abbrev pub refused : List ℕ → Refusal → Effect ℕ (List ℕ)
-refused out r = leaving (refusalCode r) out
+    (untouched out (NoRoom (length ns)))
 
 -- the three byte counts
 abbrev pub countsGiven : List ℕ → Checked → Effect ℕ (List ℕ)
 countsGiven out (Checked.Accepted c) = given out (c .headers ∷ c .own ∷ c .skipped ∷ [])
-countsGiven out (Checked.Refused r) = refused out r
+countsGiven out (Checked.Refused r) = untouched out r
 
 -- a name's offset and length
 abbrev pub nameGiven : List ℕ → Named → Effect ℕ (List ℕ)
 nameGiven out (Named.At span) = given out (span .offset ∷ span .size ∷ [])
-nameGiven out (Named.Refused r) = refused out r
+nameGiven out (Named.Refused r) = untouched out r
 
 -- the low corner of a box, the high one, and the centre
 abbrev pub nine : Corner → Corner → Corner → List Float
@@ -41,4 +43,4 @@ nine low high centre = low .x ∷ low .y ∷ low .z ∷ high .x ∷ high .y ∷ 
 
 abbrev pub boxGiven : List ℕ → Boxed → Effect ℕ (List ℕ)
 boxGiven out (Boxed.Around box centre) = given out (map (toBits binary32) (nine (box .low) (box .high) centre))
-boxGiven out (Boxed.Refused r) = refused out r
+boxGiven out (Boxed.Refused r) = untouched out r
