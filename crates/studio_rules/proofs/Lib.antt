@@ -1,0 +1,16 @@
+pub mod Headers
+pub mod Corners
+pub mod Rows
+pub mod Apart
+pub mod Once
+pub mod OwnSize
+pub mod Steps
+pub mod Sound
+pub mod Complete
+pub mod Verdict
+pub mod Fuel
+pub mod Gaps
+pub mod Pieces
+pub mod Moved
+pub mod Theorems
+pub mod Samples
