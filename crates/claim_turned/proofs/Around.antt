@@ -8,7 +8,7 @@ use mathlib.Core.Option.{some, Option·some-ne-none}
 use lib.ListN.{length, length-append, getElem?, set}
 use Rattle.studio_rules.specs.declared.Record.{Record}
 use Rattle.studio_rules.specs.Layout.{Run, end, skip, known, size}
-use Rattle.studio_rules.specs.Gives.{recordCount, recordsOf, meshesOf}
+use Rattle.studio_rules.specs.Gives.{recordCount, recordOf, recordsOf, meshesOf}
 use Rattle.studio_rules.specs.Readings.{_then_}
 use Rattle.studio_rules.proofs.Gaps.{record-count-same}
 use Rattle.claim_turned.specs.Turned.{resized}
@@ -73,7 +73,7 @@ pub record Listed (n len i ahead : ℕ) (o depth parent next : ℕ) (t u : Run) 
 pub listed-first : (id : ℕ) (own : List ℕ) (kids rest kids′ rest′ : Run) (n : ℕ) → Same id own kids rest kids′ rest′ → n ≡ 6 + length own + size kids′ → (o depth parent next : ℕ) →
     Listed n (6 + length own + size kids) 0 0 o depth parent next (known id own kids rest) (known id own kids′ rest′)
 listed-first id own kids rest kids′ rest′ n h e o depth parent next = record {
-  r = record { identifier = id; offset = o; len = 6 + length own + size kids; depth = depth; parent = parent; own = length own };
+  r = recordOf o depth parent id own kids;
   at = omega arith;
   long = refl;
   changed = (refl, rw (h .laters o depth parent next, ← e));

@@ -3,15 +3,16 @@ use mathlib.Core.Path.{_≡_, refl, sym, ap, _∙_}
 use mathlib.Core.Logic.{_⊎_, inl, inr}
 use Prim.Native.Nat.{ℕ, _+_, _≤_}
 use native.Mathlib.Omega.{arith}
-use mathlib.Core.Bool.{Bool, true, false}
-use mathlib.Core.List.{List}
+use mathlib.Core.Bool.{Bool, true, false, _||_}
+use mathlib.Core.List.{List, []}
 use lib.ListN.{length}
 use Rattle.studio_rules.specs.declared.Record.{Record}
 use Rattle.studio_rules.specs.Table.{plus}
 use Rattle.studio_rules.specs.Layout.{Run, known, figure, size, bytes}
-use Rattle.studio_rules.specs.Rules.{Parent, file, limit, noChild, Lawful, Meets}
+use Rattle.studio_rules.specs.Rules.{file, limit, noChild, version, Meets}
 use Rattle.shared_words.specs.Conditions.{accepted}
 use Rattle.studio_rules.specs.Walk.{verdict}
+use Rattle.studio_rules.specs.Parses.{inFile}
 use Rattle.shared_words.proofs.Bools.{or-second}
 use Rattle.studio_rules.proofs.Complete.{no-bytes}
 use Rattle.studio_rules.proofs.Sound.{length-bytes}
@@ -20,25 +21,25 @@ use Rattle.claim_turned.specs.Turned.{withLength, OtherLength}
 use Rattle.claim_turned.specs.Exact.{TakesIn, GivesUp, Exact}
 use Rattle.claim_turned.proofs.Then.{size-then}
 use Rattle.claim_turned.proofs.TwoWays.{Takes}
-use Rattle.claim_turned.proofs.Context.{around, obeys-there}
 use Rattle.claim_turned.proofs.Number.{Found}
 use Rattle.claim_turned.proofs.Chunk.{meets, len-is, with-length}
 use Rattle.claim_turned.proofs.Reread.{Reread}
 use Rattle.claim_turned.proofs.Turned.{at, read-again}
 use Rattle.claim_turned.proofs.Figure.{first-alone}
+use Rattle.claim_turned.proofs.Allowed.{parentAt, seenAt, obeys-there}
 use Rattle.claim_turned.proofs.Accepted.{by-either, again, obeys-again, size-again, bytes-again}
 
 -- ---- accepted, so chunks change their parent
 
 -- a chunk that takes bytes in has children, so its row ends in "+"
-row-plus : (p : Parent) (id : ℕ) (own : List ℕ) (kids : Run) → Lawful p id own kids → ¬ (size kids ≡ 0) → plus id ≡ true
-row-plus p id own kids l h = go (plus id) refl
+row-plus : (id : ℕ) (kids : Run) → (plus id || noChild kids) ≡ true → ¬ (size kids ≡ 0) → plus id ≡ true
+row-plus id kids l h = go (plus id) refl
   where
     go : (b : Bool) → plus id ≡ b → b ≡ true
     go true e = refl
-    go false e = absurd (h (omega (arith, length-bytes kids, ap length (no-bytes kids (or-second (plus id) (noChild kids) (l .children-in-plus) e)))))
+    go false e = absurd (h (omega (arith, length-bytes kids, ap length (no-bytes kids (or-second (plus id) (noChild kids) l e)))))
 
-module _ (i len n : ℕ) (kids kids₁ : Run) (f : Found i (figure kids)) (q : Reread file (f .context) (f .id) (f .own) (f .kids) (f .rest) n (figure kids₁))
+module _ (i len n : ℕ) (kids kids₁ : Run) (f : Found i (figure kids)) (q : Reread inFile (f .context) (f .id) (f .own) (f .kids) (f .rest) n (figure kids₁))
     (long : len ≡ 6 + length (f .own) + size (f .kids)) (another : ¬ (n ≡ len)) where
   gives-up : Takes (q .kids′) (q .rest′) (f .kids) (f .rest) → GivesUp i len n (f .kids)
   gives-up h =
@@ -58,7 +59,7 @@ module _ (i len n : ℕ) (kids kids₁ : Run) (f : Found i (figure kids)) (q : R
         first = h .fewer;
         none-known = h .none-known;
         new-end = omega (arith, q .len-is);
-        row-ends-in-plus = row-plus (around file (f .context)) (f .id) (f .own) (q .kids′) (q .lawful) (λ e. another (omega (arith, q .len-is)));
+        row-ends-in-plus = row-plus (f .id) (q .kids′) (q .in-plus) (λ e. another (omega (arith, q .len-is)));
       }
 
   changes : TakesIn (f .id) len n (f .rest) ⊎ GivesUp i len n (f .kids)
@@ -82,8 +83,8 @@ module _ (s : List ℕ) (kids : Run) (i : ℕ) (r : Record) (n : ℕ) (h : Other
 
   accepted-again : TakesIn (f .id) (r .len) n (f .rest) ⊎ GivesUp i (r .len) n (f .kids) → (kids₁ : Run) × (verdict (withLength (r .offset) n s) ≡ accepted kids₁)
   accepted-again x =
-      let o = obeys-there file (f .context) (known (f .id) (f .own) (f .kids) (f .rest)) (rw (f .is) (m .chunks)) in
-      let g = by-either (around file (f .context)) i (f .id) (f .own) (f .kids) (f .rest) (r .len) n long o x in
+      let o = obeys-there (file (version kids)) [] (f .context) (known (f .id) (f .own) (f .kids) (f .rest)) (rw (f .is) (m .chunks)) in
+      let g = by-either (parentAt (file (version kids)) [] (f .context)) (seenAt [] (f .context)) i (f .id) (f .own) (f .kids) (f .rest) (r .len) n long o x in
       let kids₁ : Run = again kids i n f (m .chunks) g .0 in
       let is : bytes (figure kids₁) ≡ withLength (r .offset) n s = bytes-again kids i n f (m .chunks) g ∙ sym (with-length s kids i r (h .are-bytes) (h .reads) (h .in-list) n) in
       let l : length (withLength (r .offset) n s) ≤ limit = omega (arith, m .within-limit, ap length (m .is), length-bytes (figure kids), ap length is, length-bytes (figure kids₁), size-again kids i n f (m .chunks) g) in

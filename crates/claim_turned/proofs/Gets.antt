@@ -7,9 +7,9 @@ use mathlib.Core.Option.{some}
 use lib.ListN.{length, getElem?}
 use Rattle.studio_rules.specs.declared.Record.{Record}
 use Rattle.studio_rules.specs.Layout.{Run, known, figure, size}
-use Rattle.studio_rules.specs.Rules.{file}
 use Rattle.studio_rules.specs.Gives.{recordCount, list, headers, owned, skipped, meshes, meshesOf}
 use Rattle.studio_rules.specs.Calls.{countsOf}
+use Rattle.studio_rules.specs.Parses.{inFile}
 use Rattle.studio_rules.proofs.Gaps.{record-count-same, headers-same, owned-same}
 use Rattle.studio_rules.proofs.Theorems.{counted-once}
 use Rattle.claim_turned.specs.Turned.{SameButLength}
@@ -20,7 +20,7 @@ use Rattle.claim_turned.proofs.Exchange.{Same, same}
 use Rattle.claim_turned.proofs.Around.{size-plug, bare-plug, meshes-plug, Listed, listed-first, listed-plug}
 use Rattle.claim_turned.proofs.Reread.{Reread}
 
-module _ (kids kids′ : Run) (i n : ℕ) (f : Found i (figure kids)) (q : Reread file (f .context) (f .id) (f .own) (f .kids) (f .rest) n (figure kids′)) where
+module _ (kids kids′ : Run) (i n : ℕ) (f : Found i (figure kids)) (q : Reread inFile (f .context) (f .id) (f .own) (f .kids) (f .rest) n (figure kids′)) where
   abbrev old : Run
   old = known (f .id) (f .own) (f .kids) (f .rest)
 
@@ -41,6 +41,9 @@ module _ (kids kids′ : Run) (i n : ℕ) (f : Found i (figure kids)) (q : Rerea
 
   meshes-same : meshes kids′ ≡ meshes kids
   meshes-same = ap (meshesOf 0 0 0) (q .is) ∙ meshes-plug (f .context) old new new-size (chunk-same .bares) (chunk-same .meshes) 0 0 0 ∙ ap (meshesOf 0 0 0) (f .is)
+
+  pub kids-bare : bare kids′ ≡ bare kids
+  kids-bare = let b = bare-same in cc
 
   listed : Listed n (6 + length (f .own) + size (f .kids)) i (offsetIn (f .context)) 0 0 0 0 (figure kids) (figure kids′)
   listed =

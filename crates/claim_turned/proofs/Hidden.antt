@@ -1,7 +1,7 @@
 -- The length field of an unlisted chunk: the worked cases by computation, and none smaller by the byte counts.
 use mathlib.Core.Path.{_≡_, refl}
 use mathlib.Core.Logic.{_⊎_, inl, inr}
-use Prim.Native.Nat.{_+_, _*_, _≤_, _<_}
+use Prim.Native.Nat.{ℕ, _+_, _*_, _≤_, _<_}
 use native.Mathlib.Omega.{arith}
 use mathlib.Core.Bool.{true, false, false≢true}
 use mathlib.Core.List.{[]}
@@ -9,16 +9,16 @@ use Rattle.shared_words.specs.Lists.{every}
 use Rattle.studio_rules.specs.Table.{rows, atMostOne, atLeastOne, listed, under, shape, plus, limits, needs}
 use Rattle.shared_words.specs.Floats.{finite}
 use Rattle.studio_rules.specs.Layout.{Run, end, skip, known, figure, identifiers}
-use Rattle.studio_rules.specs.Rules.{file, noneMissing}
+use Rattle.studio_rules.specs.Rules.{noneMissing, version}
 use Rattle.shared_words.specs.Conditions.{broken}
-use Rattle.studio_rules.specs.Walk.{step, walk, verdict}
+use Rattle.studio_rules.specs.Walk.{step, walk, versionIn, top, verdict}
 use Rattle.studio_rules.specs.Gives.{recordCount, headers, skipped}
 use Rattle.studio_rules.specs.Calls.{checkCall}
 use Rattle.studio_rules.proofs.Theorems.{counts-add}
 use Rattle.claim_turned.specs.Hidden.{Hidden, NoneSmaller}
 
 pub hidden : Hidden
-unfolding every rows atMostOne atLeastOne listed under shape plus limits needs finite broken step walk verdict checkCall
+unfolding every rows atMostOne atLeastOne listed under shape plus limits needs finite broken step walk versionIn verdict checkCall
 hidden = record { there = refl; gone = refl; there-bit = refl; gone-bit = refl; known-refused = refl; apart = refl; taken-in = refl }
 
 -- ---- none smaller: 4D4D, 3D3D, one known chunk more and an unlisted one are four headers
@@ -44,13 +44,13 @@ no-identifiers (skip id body t) n = no-identifiers t n
 no-identifiers (known id own kids t) n = absurd (omega arith)
 
 -- a 4D4D without a known child lacks its 3D3D
-has-scene : (kids : Run) → noneMissing file 0x4D4D [] kids ≡ true → ¬ (recordCount kids ≡ 0)
+has-scene : (v : ℕ) (kids : Run) → noneMissing (top v) kids ≡ true → ¬ (recordCount kids ≡ 0)
 unfolding needs atLeastOne every
-has-scene kids h n = false≢true (rw (no-identifiers kids n) at h)
+has-scene v kids h n = false≢true (rw (no-identifiers kids n) at h)
 
 pub none-smaller : NoneSmaller
 none-smaller s s′ kids kids′ m m′ l k =
-    omega (arith, counts-add s kids m, headers-six (figure kids), has-scene kids′ (m′ .chunks .0 .none-missing), go (skipped-six (figure kids)) k)
+    omega (arith, counts-add s kids m, headers-six (figure kids), has-scene (version kids′) kids′ (m′ .chunks .1 .none-missing), go (skipped-six (figure kids)) k)
   where
     go : (skipped (figure kids) ≡ 0) ⊎ (6 ≤ skipped (figure kids)) → 0 < skipped (figure kids) → 6 ≤ skipped (figure kids)
     go (inl z) k = absurd (omega arith)

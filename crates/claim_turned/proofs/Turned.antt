@@ -12,10 +12,12 @@ use Rattle.shared_words.specs.declared.Refusal.{Refusal}
 use Rattle.studio_rules.specs.declared.Counts.{Counts}
 use Rattle.shared_words.specs.Bytes.{le, Bytes}
 use Rattle.studio_rules.specs.Layout.{Run, figure, size}
-use Rattle.studio_rules.specs.Rules.{file, Meets}
+use Rattle.studio_rules.specs.Rules.{file, version, Meets}
 use Rattle.shared_words.specs.Conditions.{Answer, accepted, refused}
 use Rattle.studio_rules.specs.Walk.{verdict}
 use Rattle.studio_rules.specs.Gives.{recordsOf, list, skipped}
+use Rattle.studio_rules.specs.Parses.{inFile}
+use Rattle.studio_rules.proofs.Parses.{parses}
 use Rattle.shared_words.proofs.Bytes.{bytes-take, bytes-drop}
 use Rattle.studio_rules.proofs.Verdict.{accepted-exactly, length-figure}
 use Rattle.claim_turned.specs.Turned.{withLength, OtherLength, resized, SameOrRefused, RefusedWithoutUnlisted}
@@ -42,13 +44,13 @@ module _ (s : List ℕ) (kids : Run) (i : ℕ) (r : Record) (n : ℕ) (h : Other
   at = found s kids i r (h .are-bytes) (h .reads) (h .in-list)
 
   -- an accepted result is another reading
-  pub read-again : (kids′ : Run) → verdict (withLength (r .offset) n s) ≡ accepted kids′ → Reread file (at .context) (at .id) (at .own) (at .kids) (at .rest) n (figure kids′)
+  pub read-again : (kids′ : Run) → verdict (withLength (r .offset) n s) ≡ accepted kids′ → Reread inFile (at .context) (at .id) (at .own) (at .kids) (at .rest) n (figure kids′)
   read-again kids′ e =
       let m : Meets s kids = meets s kids i r (h .are-bytes) (h .reads) (h .in-list) in
       let m′ = accepted-exactly (withLength (r .offset) n s) (bytes-field (r .offset) n s (h .are-bytes)) kids′ .0 e in
       let z : size (figure kids′) < 2 ^ 32 = omega (arith, m′ .within-limit, ap length (m′ .is), length-figure kids′) in
-      reread file (at .context) (at .id) (at .own) (at .kids) (at .rest) n (figure kids′) (h .in-field) z
-      (rw (at .is) (m .chunks)) (m′ .chunks) (m′ .is ∙ with-length s kids i r (h .are-bytes) (h .reads) (h .in-list) n)
+      reread inFile (at .context) (at .id) (at .own) (at .kids) (at .rest) n (figure kids′) (h .in-field) z
+      (rw (at .is) (parses (file (version kids)) [] (figure kids) (m .chunks))) (parses (file (version kids′)) [] (figure kids′) (m′ .chunks)) (m′ .is ∙ with-length s kids i r (h .are-bytes) (h .reads) (h .in-list) n)
 
 -- ANY OTHER VALUE
 pub same-or-refused : SameOrRefused

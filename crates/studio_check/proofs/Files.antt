@@ -16,10 +16,10 @@ use Rattle.studio_rules.specs.declared.Checked.{Checked}
 use Rattle.shared_words.specs.Bytes.{Bytes, value}
 use Rattle.studio_rules.specs.Table.{rows, listed, limits, atMostOne}
 use Rattle.studio_rules.specs.Layout.{Run, end, skip, known, figure}
-use Rattle.studio_rules.specs.Rules.{Parent, file, inside, limit}
+use Rattle.studio_rules.specs.Rules.{Parent, file, limit}
 use Rattle.studio_rules.specs.Gives.{recordCount, headers, owned, skipped}
 use Rattle.shared_words.specs.Conditions.{broken, accepted, unless}
-use Rattle.studio_rules.specs.Walk.{fileConditions, endConditions, lengthField, ended, walk, verdict}
+use Rattle.studio_rules.specs.Walk.{fileConditions, endConditions, lengthField, ended, walk, versionIn, top, figureAt, verdict}
 use Rattle.studio_rules.specs.Calls.{countsOf, checkOf, checkCall}
 use Rattle.shared_words.proofs.Conditions.{met, unbroken, broken-here, broken-later}
 use Rattle.studio_rules.proofs.Sound.{length-bytes}
@@ -93,7 +93,7 @@ module _ (s : List ℕ) where
   unfolding checkCall verdict
   file-refused y r e h = go (broken (fileConditions s (lengthField s))) h
     where
-      go : (x : Option Refusal) → ShutIs x r → Checked.Refused y ≡ checkOf (unless x (ended file 0 0x4D4D [] (walk (inside file 0x4D4D []) [] 6 (drop 6 s))))
+      go : (x : Option Refusal) → ShutIs x r → Checked.Refused y ≡ checkOf (unless x (figureAt (top (versionIn (drop 6 s))) (drop 6 s)))
       go (some x) h = cc
       go none h = absurd (clash (cc))
 
@@ -121,14 +121,18 @@ pub figure-row : 0x00_1_0_5_004_1 ≡ rowOf 0x4D4D
 unfolding rows limits atMostOne places rowOf
 figure-row = refl
 
-pub top-context : (row : ℕ) → row ≡ rowOf 0x4D4D → Context (inside file 0x4D4D []) [] row 0 noMarks
-top-context row e = context-inside file 0x4D4D [] row 0 top-listed e record { is = refl; small = omega arith }
+pub top-context : (v row : ℕ) → row ≡ rowOf 0x4D4D → Context (top v) [] row 0 noMarks
+top-context v row e = context-inside (file v) [] 0x4D4D [] row 0 top-listed e record { is = refl; small = omega arith }
+
+-- 4D4D, in a file of the version that its bytes tell
+abbrev pub told : List ℕ → Parent
+told s = top (versionIn (drop 6 s))
 
 -- what the code found of the children of 4D4D, said of the walk
 pub top-run : (s : List ℕ) (row : ℕ) → row ≡ rowOf 0x4D4D → (r : Ran) (ms : List ℕ) →
     ((p : Parent) (seen : List ℕ) → Context p seen row 0 noMarks → RunIs (length s) 0 0 6 noMarks (walk p seen 6 (slice 6 (length s) s)) r ms) →
-    {r′ : Ran} → r ≡ r′ → RunIs (length s) 0 0 6 noMarks (walk (inside file 0x4D4D []) [] 6 (slice 6 (length s) s)) r′ ms
-top-run s row e r ms h is = subst (λ z. RunIs (length s) 0 0 6 noMarks (walk (inside file 0x4D4D []) [] 6 (slice 6 (length s) s)) z ms) is (h (inside file 0x4D4D []) [] (top-context row e))
+    {r′ : Ran} → r ≡ r′ → RunIs (length s) 0 0 6 noMarks (walk (told s) [] 6 (slice 6 (length s) s)) r′ ms
+top-run s row e r ms h is = subst (λ z. RunIs (length s) 0 0 6 noMarks (walk (told s) [] 6 (slice 6 (length s) s)) z ms) is (h (told s) [] (top-context (versionIn (drop 6 s)) row e))
 
 abbrev four : ℕ → ℕ → ℕ → ℕ → Counts
 four records headers own skips = record { records = records; headers = headers; own = own; skipped = skips }
@@ -148,27 +152,27 @@ module _ (s : List ℕ) (b : Bytes s) (six : 6 ≤ length s) (short : length s �
   whole : slice 6 (length s) s ≡ drop 6 s
   whole = ap (drop 6) (take-length s)
 
-  answer-is : figureAnswer s ≡ ended file 0 0x4D4D [] (walk (inside file 0x4D4D []) [] 6 (slice 6 (length s) s))
+  answer-is : figureAnswer s ≡ ended (told s) 0 (walk (told s) [] 6 (slice 6 (length s) s))
   unfolding figureAnswer
   answer-is = rw whole
 
-  pub figure-refused : (y : Refusal) → RunIs (length s) 0 0 6 noMarks (walk (inside file 0x4D4D []) [] 6 (slice 6 (length s) s)) (Ran.Refused y) inner → Checked.Refused y ≡ checkOf (figureAnswer s)
+  pub figure-refused : (y : Refusal) → RunIs (length s) 0 0 6 noMarks (walk (told s) [] 6 (slice 6 (length s) s)) (Ran.Refused y) inner → Checked.Refused y ≡ checkOf (figureAnswer s)
   figure-refused y h =
-      let a = run-refused file s 0 0x4D4D 6 (length s) [] b six (omega arith) (omega arith) (walk (inside file 0x4D4D []) [] 6 (slice 6 (length s) s)) y inner h in
-      sym (ap checkOf (answer-is ∙ ap (ended file 0 0x4D4D []) a))
+      let a = run-refused (file (versionIn (drop 6 s))) [] s 0 0x4D4D 6 (length s) [] b six (omega arith) (omega arith) (omega arith) (walk (told s) [] 6 (slice 6 (length s) s)) y inner h in
+      sym (ap checkOf (answer-is ∙ ap (ended (told s) 0) a))
 
-  module _ (next n k : ℕ) (h : RunIs (length s) 0 0 6 noMarks (walk (inside file 0x4D4D []) [] 6 (slice 6 (length s) s)) (Ran.Done next n k) inner) where
-    well : Ran-well file s 0 0x4D4D 6 (length s) [] b six (omega arith) (omega arith) (walk (inside file 0x4D4D []) [] 6 (slice 6 (length s) s)) n k inner
-    well = run-accepted file s 0 0x4D4D 6 (length s) [] b six (omega arith) (omega arith) next n k inner h
+  module _ (next n k : ℕ) (h : RunIs (length s) 0 0 6 noMarks (walk (told s) [] 6 (slice 6 (length s) s)) (Ran.Done next n k) inner) where
+    well : Ran-well (file (versionIn (drop 6 s))) [] s 0 0x4D4D 6 (length s) [] b six (omega arith) (omega arith) (omega arith) (walk (told s) [] 6 (slice 6 (length s) s)) n k inner
+    well = run-accepted (file (versionIn (drop 6 s))) [] s 0 0x4D4D 6 (length s) [] b six (omega arith) (omega arith) (omega arith) next n k inner h
 
-    module _ (shut : Shut) (ends : (p : Parent) (own : List ℕ) (t : Run) (stop : ℕ) → Kept p 0x4D4D own t s (0 + (6 + length own)) stop inner → ShutIs (broken (endConditions p 0 0x4D4D own t)) shut) where
-      at-end : ShutIs (broken (endConditions file 0 0x4D4D [] (well .t))) shut
-      at-end = ends file [] (well .t) (length s) (well .kept)
+    module _ (shut : Shut) (ends : (p : Parent) (t : Run) (stop : ℕ) → p .id ≡ 0x4D4D → Kept p t s (0 + (6 + length (p .own))) stop inner → ShutIs (broken (endConditions p 0 t)) shut) where
+      at-end : ShutIs (broken (endConditions (told s) 0 (well .t))) shut
+      at-end = ends (told s) (well .t) (length s) refl (well .kept)
 
       pub figure-shut : (y : Refusal) → shut ≡ Shut.Fault y → Checked.Refused y ≡ checkOf (figureAnswer s)
       figure-shut y e =
-          go (broken (endConditions file 0 0x4D4D [] (well .t))) (subst (ShutIs (broken (endConditions file 0 0x4D4D [] (well .t)))) e at-end) ∙
-          sym (ap checkOf (answer-is ∙ ap (ended file 0 0x4D4D []) (well .is)))
+          go (broken (endConditions (told s) 0 (well .t))) (subst (ShutIs (broken (endConditions (told s) 0 (well .t)))) e at-end) ∙
+          sym (ap checkOf (answer-is ∙ ap (ended (told s) 0) (well .is)))
         where
           go : (x : Option Refusal) → ShutIs x (Shut.Fault y) → Checked.Refused y ≡ checkOf (unless x (accepted (well .t)))
           go (some x) h = cc
@@ -179,7 +183,7 @@ module _ (s : List ℕ) (b : Bytes s) (six : 6 ≤ length s) (short : length s �
       counts-are r c =
           let z = counted-once (figure (well .t)) in
           let y = six-each (well .t) in
-          let g = ap length (well .kept .is) ∙ ap length whole ∙ length-drop 6 s in
+          let g = ap length (well .kept .stands .is) ∙ ap length whole ∙ length-drop 6 s in
           let m = length-bytes (well .t) in
           let a : r .records ≡ recordCount (figure (well .t)) = omega (arith, c .records-are, well .records-are) in
           let d : r .headers ≡ headers (figure (well .t)) = omega (arith, c .headers-are, well .records-are) in
@@ -189,8 +193,8 @@ module _ (s : List ℕ) (b : Bytes s) (six : 6 ≤ length s) (short : length s �
 
       pub figure-accepted : shut ≡ Shut.Fine → (r : Counts) → CountsAre (n + 1) k (length s) r → Checked.Accepted r ≡ checkOf (figureAnswer s)
       figure-accepted e r c =
-          go (broken (endConditions file 0 0x4D4D [] (well .t))) (subst (ShutIs (broken (endConditions file 0 0x4D4D [] (well .t)))) e at-end) ∙
-          sym (ap checkOf (answer-is ∙ ap (ended file 0 0x4D4D []) (well .is)))
+          go (broken (endConditions (told s) 0 (well .t))) (subst (ShutIs (broken (endConditions (told s) 0 (well .t)))) e at-end) ∙
+          sym (ap checkOf (answer-is ∙ ap (ended (told s) 0) (well .is)))
         where
           go : (x : Option Refusal) → ShutIs x Shut.Fine → Checked.Accepted r ≡ checkOf (unless x (accepted (well .t)))
           go (some x) h = absurd (clash (cc))

@@ -178,7 +178,7 @@ module _ (p : Parent) (at id : ℕ) (body : List ℕ) where
 pub judged-ends : (s : List ℕ) (at id past n : ℕ) → at + 6 ≤ past → past ≤ length s → n < 65536 → (r : Judged) →
     ((p : Parent) → CountIs (p .own) n → Judges p at id (slice (at + 6) past s) r) → (k : ℕ) → r ≡ Judged.Size k → at + 6 + k ≤ past
 judged-ends s at id past n h l small r j k e =
-    let p : Parent = record { id = 0; own = le 2 n } in
+    let p : Parent = record { id = 0; own = le 2 n; order = 0; version = 0 } in
     let w = judged-within p at id (slice (at + 6) past s) k (subst (Judges p at id (slice (at + 6) past s)) e (j p (some-around n small))) in
     omega (arith, w, length-slice (at + 6) past s l, h)
 

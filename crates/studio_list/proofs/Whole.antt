@@ -1,7 +1,7 @@
 -- The whole file: the layout that the check accepts stands in it, and its records in the row are what the list call gives.
 use mathlib.Core.Path.{_≡_, refl, sym, ap, _∙_}
 use mathlib.Core.Bool.{Bool, true, false}
-use mathlib.Core.List.{List, _++_}
+use mathlib.Core.List.{List, [], _++_}
 use Prim.Native.Nat.{ℕ, _+_, _*_, _≤_, _<_}
 use native.Mathlib.Nat.{zero-add, mul-zero, mul-le-mul-left}
 use native.Mathlib.Omega.{arith}
@@ -16,7 +16,9 @@ use Rattle.studio_rules.specs.declared.Counts.{Counts}
 use Rattle.studio_rules.specs.declared.Checked.{Checked}
 use Rattle.shared_words.specs.Bytes.{Bytes}
 use Rattle.studio_rules.specs.Layout.{Run, figure}
-use Rattle.studio_rules.specs.Rules.{file}
+use Rattle.studio_rules.specs.Rules.{file, version}
+use Rattle.studio_rules.specs.Parses.{inFile}
+use Rattle.studio_rules.proofs.Parses.{parses}
 use Rattle.studio_rules.specs.Gives.{recordCount, list}
 use Rattle.shared_words.specs.Conditions.{Answer, refused, accepted}
 use Rattle.studio_rules.specs.Walk.{verdict}
@@ -47,8 +49,12 @@ module _ {s : List ℕ} {counts : Counts} (a : Accepted s counts) where
   records-are = ap (λ (x : Counts). x .records) (a .counts-are)
 
   module _ (b : Bytes s) where
-    pub whole-laid : Laid s 0 (length s) file (figure (a .kids))
-    whole-laid = record { is = meets-by b a .is ∙ sym (take-length s); obeys = meets-by b a .chunks }
+    pub whole-laid : Laid s 0 (length s) inFile (figure (a .kids))
+    whole-laid =
+        let m = meets-by b a in record {
+          stands = record { order = omega arith; stays = omega arith; small = omega (arith, m .within-limit); is = m .is ∙ sym (take-length s) };
+          parses = parses (file (version (a .kids))) [] (figure (a .kids)) (m .chunks);
+        }
 
     pub whole-bounds : Bounds s 0 (length s) 0 0 0
     whole-bounds = record { ends = omega arith; short = meets-by b a .within-limit; deep = omega arith; over = omega arith; before = omega arith }

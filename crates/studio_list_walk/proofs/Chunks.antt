@@ -12,19 +12,20 @@ use Rattle.studio_rules.specs.declared.Record.{Record}
 use Rattle.studio_rules.specs.Table.{listed, plus, shape}
 use Rattle.studio_rules.specs.OwnData.{ownSize}
 use Rattle.studio_rules.specs.Layout.{Run, end, skip, known, size, bytes}
-use Rattle.studio_rules.specs.Rules.{Parent, inside, Obeys, Lawful, noChild}
+use Rattle.studio_rules.specs.Rules.{noChild}
+use Rattle.studio_rules.specs.Parses.{Place, within, Parses, Fits}
 use Rattle.studio_rules.specs.Gives.{recordCount, recordsOf}
 use Rattle.shared_words.proofs.Bools.{and-parts, or-second}
 use Rattle.shared_numbers.specs.Numbers.{wordAt}
 use Rattle.shared_numbers.proofs.Slices.{drop-slice}
-use Rattle.studio_stands.proofs.Layouts.{skip-stands, known-stands, known-kids}
+use Rattle.studio_stands.proofs.Chunks.{fits-listed, skip-header, known-header, kids-here}
 use Rattle.studio_row.specs.Packed.{rowOf, outlineIn}
 use Rattle.studio_row.proofs.Facts.{row-of-listed, row-of-unlisted, plus-is, shape-is}
 use Rattle.studio_lookup.proofs.Outlines.{outline-zero, outline-no-row, outline-plus, outline-whole}
 use Rattle.studio_list_rows.specs.Lent.{Lent, written}
 use Rattle.studio_list_walk.specs.Laid.{first, Laid, Bounds, Listed, Begins}
 use Rattle.studio_list_rows.proofs.Rows.{written-on}
-use Rattle.studio_list_walk.proofs.Runs.{unlisted-small, lawful-listed, lawful-small, laid-size, listed-end}
+use Rattle.studio_list_walk.proofs.Runs.{laid-size, listed-end}
 
 no-children : (t : Run) → noChild t ≡ true → bytes t ≡ []
 no-children end h = refl
@@ -32,21 +33,20 @@ no-children (skip id body rest) h = absurd (true≢false (sym h))
 no-children (known id own kids rest) h = absurd (true≢false (sym h))
 
 -- own data of a lawful chunk, before its children's bytes
-lawful-begins : (p : Parent) (id : ℕ) (own : List ℕ) (kids : Run) → Lawful p id own kids → Begins (outlineIn (rowOf id)) (p .own) own (bytes kids ++ [])
+lawful-begins : (p : Place) (id : ℕ) (own : List ℕ) (kids : Run) → Fits p id own kids → Begins (outlineIn (rowOf id)) (p .own) own (bytes kids ++ [])
 lawful-begins p id own kids l =
-    let i = lawful-listed p id own kids l in
+    let i = fits-listed p id own kids l in
     record {
       exact = λ h. rw (outline-whole (rowOf id) (sym (outline-plus (rowOf id)) ∙ h), shape-is id i) (eqb-true (ownSize (shape id) (p .own) own) (length own) (l .own-data-exact));
-      whole = λ e. append-nil (bytes kids) ∙ no-children kids (or-second (plus id) (noChild kids) (l .children-in-plus) (sym (plus-is id i) ∙ sym (outline-plus (rowOf id)) ∙ e));
+      whole = λ e. append-nil (bytes kids) ∙ no-children kids (or-second (plus id) (noChild kids) (l .in-plus) (sym (plus-is id i) ∙ sym (outline-plus (rowOf id)) ∙ e));
     }
 
 -- A chunk of this identifier from `at` to stop, with so many bytes of own data: what it is around its children, and its
 -- records by theirs.
 pub record Entered (s : List ℕ) (at stop id own : ℕ) (t : Run) : Type 0 where
-  pub around : Parent
+  pub around : Place
   pub kids : Run
-  pub is : bytes kids ≡ slice (at + 6 + own) stop s
-  pub obeys : Obeys around kids
+  pub laid : Laid s (at + 6 + own) stop around kids
   pub fills : stop ≡ at + 6 + own + size kids
   pub counts : recordCount t ≡ suc (recordCount kids)
   pub lists : (depth parent next : ℕ) → recordsOf at depth parent next t ≡
@@ -54,39 +54,37 @@ pub record Entered (s : List ℕ) (at stop id own : ℕ) (t : Run) : Type 0 wher
 
 module _ {s : List ℕ} {at stop depth parent next : ℕ} (order : at + 6 ≤ stop) (bounds : Bounds s at stop depth parent next) {id row : ℕ} (id-is : id ≡ wordAt s at) (row-is : row ≡ outlineIn (rowOf id)) where
   -- a chunk without a row
-  pub skipped-listed : (records : Lent) → row ≡ 0 → (p : Parent) (t : Run) → Laid s at stop p (first t) → Listed records at depth parent next (first t) records next
-  skipped-listed records e p end l = absurd (omega (arith, laid-size (bounds .ends) l))
+  pub skipped-listed : (records : Lent) → row ≡ 0 → (p : Place) (t : Run) → Laid s at stop p (first t) → Listed records at depth parent next (first t) records next
+  skipped-listed records e p end l = absurd (omega (arith, laid-size l))
   skipped-listed records e p (skip id₁ body rest) l = record { counts = omega arith; fills = refl }
   skipped-listed records e p (known id₁ own kids rest) l =
-      let z = laid-size (bounds .ends) l in
-      let w = l .obeys .0 in
-      let j = known-stands s at stop (bounds .ends) id₁ own kids end (l .is) (lawful-small p id₁ own kids w) (omega arith) .id-is in
-      absurd (eqb-false (rowOf id₁) 0 (row-of-listed id₁ (lawful-listed p id₁ own kids w)) (ap rowOf (sym j ∙ sym id-is) ∙ outline-zero (rowOf id) (sym row-is ∙ e)))
+      let z = laid-size l in
+      let w = l .parses .0 in
+      let j = known-header s at stop p id₁ own kids end (l .stands) (l .parses) .id-is in
+      absurd (eqb-false (rowOf id₁) 0 (row-of-listed id₁ (fits-listed p id₁ own kids w)) (ap rowOf (sym j ∙ sym id-is) ∙ outline-zero (rowOf id) (sym row-is ∙ e)))
 
   -- a chunk with one; k is what own data comes to
   module _ {k : ℕ} (found : (around own more : List ℕ) → Begins row around own more → own ++ more ≡ slice (at + 6) stop s → k ≡ length own) where
-    pub entered : (row ≡ 0 → ⊥) → (p : Parent) (t : Run) → Laid s at stop p (first t) → Entered s at stop id k (first t)
-    entered e p end l = absurd (omega (arith, laid-size (bounds .ends) l))
+    pub entered : (row ≡ 0 → ⊥) → (p : Place) (t : Run) → Laid s at stop p (first t) → Entered s at stop id k (first t)
+    entered e p end l = absurd (omega (arith, laid-size l))
     entered e p (skip id₁ body rest) l =
-        let z = laid-size (bounds .ends) l in
-        let u = l .obeys .0 in
-        let j = skip-stands s at stop (bounds .ends) id₁ body end (l .is) (unlisted-small id₁ u) (omega arith) .id-is in
+        let z = laid-size l in
+        let u = l .parses .0 in
+        let j = skip-header s at stop p id₁ body end (l .stands) (l .parses) .id-is in
         absurd (e (row-is ∙ outline-no-row (rowOf id) (ap rowOf (id-is ∙ j) ∙ row-of-unlisted id₁ (not-true (listed id₁) (and-parts (ltb id₁ 0x1_0000) (not (listed id₁)) u .1)))))
     entered e p (known id₁ own kids rest) l =
-        let z = laid-size (bounds .ends) l in
-        let w = l .obeys .0 in
-        let v = lawful-small p id₁ own kids w in
-        let j = id-is ∙ known-stands s at stop (bounds .ends) id₁ own kids end (l .is) v (omega arith) .id-is in
+        let z = laid-size l in
+        let w = l .parses .0 in
+        let j = id-is ∙ known-header s at stop p id₁ own kids end (l .stands) (l .parses) .id-is in
         let b : Begins row (p .own) own (bytes kids ++ []) = rw (row-is, j) (lawful-begins p id₁ own kids w) in
-        let n : k ≡ length own = found (p .own) own (bytes kids ++ []) b (ap (drop 6) (l .is) ∙ drop-slice 6 at stop s) in
+        let n : k ≡ length own = found (p .own) own (bytes kids ++ []) b (ap (drop 6) (l .stands .is) ∙ drop-slice 6 at stop s) in
         let f : at + 6 + k ≡ at + (6 + length own) = omega arith in
         let g : stop ≡ at + (6 + length own + size kids) = omega arith in
         let a : stop - at ≡ 6 + length own + size kids = omega arith in
         record {
-          around = inside p id₁ own;
+          around = within id₁ own;
           kids = kids;
-          is = rw (f, g) (known-kids s at stop (bounds .ends) id₁ own kids end (l .is) v (omega arith));
-          obeys = l .obeys .1;
+          laid = record { stands = rw (f, g) (kids-here s at stop p id₁ own kids end (l .stands) (l .parses)); parses = l .parses .1 };
           fills = omega arith;
           counts = omega arith;
           lists = λ depth parent next.
@@ -96,10 +94,6 @@ module _ {s : List ℕ} {at stop depth parent next : ℕ} (order : at + 6 ≤ st
         }
 
 module _ {s : List ℕ} {at stop id own : ℕ} {t : Run} (e : Entered s at stop id own t) where
-  -- its children stand behind its own data
-  pub inner-laid : Laid s (at + 6 + own) stop (e .around) (e .kids)
-  inner-laid = record { is = e .is; obeys = e .obeys }
-
   abbrev its-record : ℕ → ℕ → Record
   its-record depth parent = record { identifier = id; offset = at; len = stop - at; depth = depth; parent = parent; own = own }
 

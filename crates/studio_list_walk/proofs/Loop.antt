@@ -5,20 +5,20 @@ use Prim.Native.Nat.{ℕ, _+_, _≤_}
 use native.Mathlib.Omega.{arith}
 use lib.ListN.{length}
 use Rattle.studio_rules.specs.Layout.{Run}
-use Rattle.studio_rules.specs.Rules.{Parent}
+use Rattle.studio_rules.specs.Parses.{Place}
 use Rattle.studio_rules.specs.Gives.{recordCount}
 use Rattle.studio_list_rows.specs.Lent.{Lent}
 use Rattle.studio_list_walk.specs.Laid.{first, Laid, Listed}
 use Rattle.studio_list_walk.proofs.Runs.{rest, split-count, laid-size, FirstAt, listed-end, listed-on}
 
 -- The run t from `at` to stop has been listed up to `from`: the next record has this number, and the rows are l₁.
-pub record Sofar (s : List ℕ) (stop depth parent : ℕ) (p : Parent) (l : Lent) (at next : ℕ) (t : Run) (l₁ : Lent) (from number : ℕ) : Type 0 where
+pub record Sofar (s : List ℕ) (stop depth parent : ℕ) (p : Place) (l : Lent) (at next : ℕ) (t : Run) (l₁ : Lent) (from number : ℕ) : Type 0 where
   pub left : Run
   pub laid : Laid s from stop p left
   pub counts : number + recordCount left ≡ next + recordCount t
   pub goes-on : (l₂ : Lent) (r : ℕ) → Listed l₁ from depth parent number left l₂ r → Listed l at depth parent next t l₂ r
 
-module _ {s : List ℕ} {stop depth parent : ℕ} {p : Parent} {l : Lent} {at next : ℕ} {t : Run} where
+module _ {s : List ℕ} {stop depth parent : ℕ} {p : Place} {l : Lent} {at next : ℕ} {t : Run} where
   pub sofar-start : Laid s at stop p t → Sofar s stop depth parent p l at next t l at next
   sofar-start l = record { left = t; laid = l; counts = refl; goes-on = λ l₂ r h. h }
 
@@ -33,5 +33,5 @@ module _ {s : List ℕ} {stop depth parent : ℕ} {p : Parent} {l : Lent} {at ne
       goes-on = λ l₃ r g. f .goes-on l₃ r (listed-on (f .left) h (subst (λ (k : ℕ). Listed l₂ (from + k) depth parent number₂ (rest (f .left)) l₃ r) (a .size-is) g));
     }
 
-    pub sofar-ends : stop ≤ length s → stop ≤ from → Listed l at depth parent next t l₁ number
-    sofar-ends stays e = f .goes-on l₁ number (listed-end l₁ from depth parent number (f .left) (omega (arith, laid-size stays (f .laid))))
+    pub sofar-ends : stop ≤ from → Listed l at depth parent next t l₁ number
+    sofar-ends e = f .goes-on l₁ number (listed-end l₁ from depth parent number (f .left) (omega (arith, laid-size (f .laid))))

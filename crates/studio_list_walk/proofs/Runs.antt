@@ -1,23 +1,18 @@
 -- A run is its first chunk and the rest: so are its bytes, its records, and what is written of it.
 use mathlib.Core.Path.{_≡_, refl, sym, ap, _∙_}
-use mathlib.Core.Bool.{true}
 use mathlib.Core.List.{List, _++_, append-nil, append-assoc}
-use Prim.Native.Nat.{ℕ, suc, _+_, _-_, _≤_, _<_, _^_}
+use Prim.Native.Nat.{ℕ, suc, _+_, _-_, _≤_, _<_}
 use native.Mathlib.Omega.{arith}
 use lib.ListN.{length, take, drop}
-use lib.Seq.{take-at, drop-at, length-slice}
-use borrow.Author.Tests.{ltb-true}
+use lib.Seq.{take-at, drop-at}
 use Rattle.studio_rules.specs.declared.Record.{Record}
-use Rattle.studio_rules.specs.Table.{listed}
 use Rattle.studio_rules.specs.Layout.{Run, end, skip, known, size, bytes}
-use Rattle.studio_rules.specs.Rules.{Parent, Obeys, Lawful, unlisted, limit}
+use Rattle.studio_rules.specs.Parses.{Place, Parses}
 use Rattle.studio_rules.specs.Gives.{recordCount, recordsOf}
-use Rattle.shared_words.proofs.Bools.{and-parts}
-use Rattle.studio_rules.proofs.Rows.{listed-small, under-listed}
 use Rattle.studio_rules.proofs.Sound.{length-bytes}
 use Rattle.shared_numbers.specs.Numbers.{longAt}
 use Rattle.shared_numbers.proofs.Slices.{drop-slice, take-slice}
-use Rattle.studio_stands.proofs.Layouts.{skip-stands, known-stands}
+use Rattle.studio_stands.proofs.Chunks.{stands-size, skip-header, known-header}
 use Rattle.studio_list_rows.specs.Lent.{Lent, written}
 use Rattle.studio_list_walk.specs.Laid.{first, Laid, Listed}
 use Rattle.studio_list_rows.proofs.Rows.{written-on}
@@ -57,54 +52,39 @@ split-records o depth parent next (known id own kids more) =
     let b : next + suc (recordCount kids + 0) ≡ suc (next + recordCount kids) = omega arith in
     rw (a, b, append-nil (recordsOf (o + (6 + length own)) (suc depth) next (suc next) kids))
 
-obeys-first : (p : Parent) (t : Run) → Obeys p t → Obeys p (first t)
-obeys-first p end o = tt
-obeys-first p (skip id body more) o = (o .0, tt)
-obeys-first p (known id own kids more) o = (o .0, o .1, tt)
+parses-first : (p : Place) (t : Run) → Parses p t → Parses p (first t)
+parses-first p end o = tt
+parses-first p (skip id body more) o = (o .0, tt)
+parses-first p (known id own kids more) o = (o .0, o .1, tt)
 
-obeys-rest : (p : Parent) (t : Run) → Obeys p t → Obeys p (rest t)
-obeys-rest p end o = tt
-obeys-rest p (skip id body more) o = o .1
-obeys-rest p (known id own kids more) o = o .2
-
--- ---- identifiers
-
-pub unlisted-small : (id : ℕ) → unlisted id ≡ true → id < 2 ^ 16
-unlisted-small id u = ltb-true id 0x1_0000 (and-parts _ _ u .0)
-
-pub lawful-listed : (p : Parent) (id : ℕ) (own : List ℕ) (kids : Run) → Lawful p id own kids → listed id ≡ true
-lawful-listed p id own kids l = under-listed (p .id) id (l .in-place)
-
-pub lawful-small : (p : Parent) (id : ℕ) (own : List ℕ) (kids : Run) → Lawful p id own kids → id < 2 ^ 16
-lawful-small p id own kids l = ltb-true id 0x1_0000 (listed-small id (lawful-listed p id own kids l))
+parses-rest : (p : Place) (t : Run) → Parses p t → Parses p (rest t)
+parses-rest p end o = tt
+parses-rest p (skip id body more) o = o .1
+parses-rest p (known id own kids more) o = o .2
 
 -- ---- a run in the file
 
-pub laid-size : {s : List ℕ} {at stop : ℕ} {p : Parent} {t : Run} → stop ≤ length s → Laid s at stop p t → size t ≡ stop - at
-laid-size {s} {at} {stop} {t = t} stays l = sym (length-bytes t) ∙ ap length (l .is) ∙ length-slice at stop s stays
+pub laid-size : {s : List ℕ} {at stop : ℕ} {p : Place} {t : Run} → Laid s at stop p t → size t ≡ stop - at
+laid-size {s} {at} {stop} {t = t} l = omega (arith, stands-size s at stop t (l .stands))
 
 -- The first chunk of a run from `at` to stop, where n is its length field: what it is alone, and what follows it.
-pub record FirstAt (s : List ℕ) (at stop : ℕ) (p : Parent) (n : ℕ) (t : Run) : Type 0 where
+pub record FirstAt (s : List ℕ) (at stop : ℕ) (p : Place) (n : ℕ) (t : Run) : Type 0 where
   pub size-is : n ≡ size (first t)
   pub header : 6 ≤ n
   pub ends : at + n ≤ stop
   pub alone : Laid s at (at + n) p (first t)
   pub follows : Laid s (at + n) stop p (rest t)
 
-module _ {s : List ℕ} {at stop : ℕ} {p : Parent} (more : at < stop) (stays : stop ≤ length s) (short : length s ≤ limit) where
+module _ {s : List ℕ} {at stop : ℕ} {p : Place} (more : at < stop) where
   -- the length field of its first chunk counts that chunk's bytes
   first-length : (t : Run) → Laid s at stop p t → (longAt s (at + 2) ≡ size (first t)) × (6 ≤ size (first t))
-  first-length end l = absurd (omega (arith, laid-size stays l))
-  first-length (skip id body r) l =
-      let z = laid-size stays l in
-      (skip-stands s at stop stays id body r (l .is) (unlisted-small id (l .obeys .0)) (omega arith) .length-is ∙ omega arith, omega arith)
-  first-length (known id own kids r) l =
-      let z = laid-size stays l in
-      (known-stands s at stop stays id own kids r (l .is) (lawful-small p id own kids (l .obeys .0)) (omega arith) .length-is ∙ omega arith, omega arith)
+  first-length end l = absurd (omega (arith, laid-size l))
+  first-length (skip id body r) l = (skip-header s at stop p id body r (l .stands) (l .parses) .length-is ∙ omega arith, omega arith)
+  first-length (known id own kids r) l = (known-header s at stop p id own kids r (l .stands) (l .parses) .length-is ∙ omega arith, omega arith)
 
   module _ (t : Run) (l : Laid s at stop p t) where
     first-ends : at + size (first t) ≤ stop
-    first-ends = omega (arith, laid-size stays l, split-size t)
+    first-ends = omega (arith, laid-size l, split-size t)
 
     pub header-ends : at + 6 ≤ stop
     header-ends = omega (arith, first-ends, first-length t l .1)
@@ -117,12 +97,22 @@ module _ {s : List ℕ} {at stop : ℕ} {p : Parent} (more : at < stop) (stays :
           header = omega (arith, first-length t l .1);
           ends = omega (arith, first-ends);
           alone = record {
-            is = sym (take-at (bytes (first t)) (bytes (rest t)) n (length-bytes (first t) ∙ sym z)) ∙ ap (take n) (split-bytes t ∙ l .is) ∙ take-slice n at stop s (omega (arith, first-ends));
-            obeys = obeys-first p t (l .obeys);
+            stands = record {
+              order = omega arith;
+              stays = omega (arith, first-ends, l .stands .stays);
+              small = l .stands .small;
+              is = sym (take-at (bytes (first t)) (bytes (rest t)) n (length-bytes (first t) ∙ sym z)) ∙ ap (take n) (split-bytes t ∙ l .stands .is) ∙ take-slice n at stop s (omega (arith, first-ends));
+            };
+            parses = parses-first p t (l .parses);
           };
           follows = record {
-            is = sym (drop-at (bytes (first t)) (bytes (rest t)) n (length-bytes (first t) ∙ sym z)) ∙ ap (drop n) (split-bytes t ∙ l .is) ∙ drop-slice n at stop s;
-            obeys = obeys-rest p t (l .obeys);
+            stands = record {
+              order = omega (arith, first-ends);
+              stays = l .stands .stays;
+              small = l .stands .small;
+              is = sym (drop-at (bytes (first t)) (bytes (rest t)) n (length-bytes (first t) ∙ sym z)) ∙ ap (drop n) (split-bytes t ∙ l .stands .is) ∙ drop-slice n at stop s;
+            };
+            parses = parses-rest p t (l .parses);
           };
         }
 

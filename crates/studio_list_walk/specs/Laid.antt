@@ -5,11 +5,12 @@ use mathlib.Core.Bool.{true, false}
 use mathlib.Core.List.{List, []}
 use Prim.Native.Nat.{ℕ, _+_, _*_, _≤_}
 use lib.ListN.{length}
-use lib.Seq.{slice}
 use Rattle.studio_rules.specs.OwnData.{ownSize}
-use Rattle.studio_rules.specs.Layout.{Run, end, skip, known, bytes}
-use Rattle.studio_rules.specs.Rules.{Parent, Obeys, limit}
+use Rattle.studio_rules.specs.Layout.{Run, end, skip, known}
+use Rattle.studio_rules.specs.Rules.{limit}
+use Rattle.studio_rules.specs.Parses.{Place, Parses}
 use Rattle.studio_rules.specs.Gives.{recordCount, recordsOf}
+use Rattle.studio_stands.specs.Stands.{Stands}
 use Rattle.studio_row.specs.Packed.{shapeIn, plusIn}
 use Rattle.studio_own_size.specs.declared.Own.{Own}
 use Rattle.studio_own_size.specs.declared.Own.the-variants.{NoName, TooLong, Size}
@@ -21,10 +22,10 @@ first end = end
 first (skip id body rest) = skip id body end
 first (known id own kids rest) = known id own kids end
 
--- the run t stands in the part of the file s from `at` to stop, in a chunk p, and obeys the rules
-pub record Laid (s : List ℕ) (at stop : ℕ) (p : Parent) (t : Run) : Type 0 where
-  pub is : bytes t ≡ slice at stop s
-  pub obeys : Obeys p t
+-- the run t stands in the part of the file s from `at` to stop, and parses in a chunk p
+pub record Laid (s : List ℕ) (at stop : ℕ) (p : Place) (t : Run) : Type 0 where
+  pub stands : Stands t s at stop
+  pub parses : Parses p t
 
 -- a file within the limit; every record before this place took six bytes, and so every number of a record is small
 pub record Bounds (s : List ℕ) (at stop depth parent next : ℕ) : Type 0 where

@@ -12,7 +12,7 @@ ghost use Prim.Native.Nat.{ℕ, _+_, _≤_, _<_};
 ghost use lib.ListN.{length};
 ghost use lib.Seq.{slice};
 ghost use Rattle.studio_rules.specs.Layout.{Run};
-ghost use Rattle.studio_rules.specs.Rules.{Parent};
+ghost use Rattle.studio_rules.specs.Parses.{Place};
 ghost use Rattle.studio_rules.specs.Gives.{recordCount};
 ghost use Rattle.studio_row.specs.Packed.{plusIn, kindIn};
 ghost use Rattle.studio_list_rows.specs.Lent.{lent, Room};
@@ -59,8 +59,8 @@ fn list_chunk(
     parent: usize,
     next: usize,
 ) -> usize
-    requires { ⌜ (at + 6 ≤ stop) × Bounds (now file) at stop depth parent next × ((p : Parent) × (t : Run) × Laid (now file) at stop p (first t) × Room (lent (now records) (now bytes)) (next + recordCount (first t))) ⌝ }
-    ensures { λ r. ⌜ ((p : Parent) (t : Run) → Laid (now (file .entry)) at stop p (first t) → Listed (lent (now (records .entry)) (now (bytes .entry))) at depth parent next (first t) (lent (now (records .exit)) (now (bytes .exit))) r) ⌝ }
+    requires { ⌜ (at + 6 ≤ stop) × Bounds (now file) at stop depth parent next × ((p : Place) × (t : Run) × Laid (now file) at stop p (first t) × Room (lent (now records) (now bytes)) (next + recordCount (first t))) ⌝ }
+    ensures { λ r. ⌜ ((p : Place) (t : Run) → Laid (now (file .entry)) at stop p (first t) → Listed (lent (now (records .entry)) (now (bytes .entry))) at depth parent next (first t) (lent (now (records .exit)) (now (bytes .exit))) r) ⌝ }
 {
     let id = word_at(file, at);
     let row = studio_lookup::outline(id as usize);
@@ -96,8 +96,8 @@ pub fn list_run(
     parent: usize,
     next: usize,
 ) -> usize
-    requires { ⌜ (at ≤ end) × Bounds (now file) at end depth parent next × ((p : Parent) × (t : Run) × Laid (now file) at end p t × Room (lent (now records) (now bytes)) (next + recordCount t)) ⌝ }
-    ensures { λ r. ⌜ ((p : Parent) (t : Run) → Laid (now (file .entry)) at end p t → Listed (lent (now (records .entry)) (now (bytes .entry))) at depth parent next t (lent (now (records .exit)) (now (bytes .exit))) r) ⌝ }
+    requires { ⌜ (at ≤ end) × Bounds (now file) at end depth parent next × ((p : Place) × (t : Run) × Laid (now file) at end p t × Room (lent (now records) (now bytes)) (next + recordCount t)) ⌝ }
+    ensures { λ r. ⌜ ((p : Place) (t : Run) → Laid (now (file .entry)) at end p t → Listed (lent (now (records .entry)) (now (bytes .entry))) at depth parent next t (lent (now (records .exit)) (now (bytes .exit))) r) ⌝ }
 {
     let mut from = at;
     let mut number = next;

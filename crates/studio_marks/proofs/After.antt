@@ -11,11 +11,11 @@ use lib.Seq.{getD-set-same, getD-set-other}
 use borrow.Author.Tests.{eqb-true, eqb-false, eq-eqb, ne-eqb}
 use Rattle.shared_words.specs.Lists.{among}
 use Rattle.studio_rules.specs.Layout.{Run, end, skip, known, size, identifiers, offsetOf}
-use Rattle.studio_rules.specs.Rules.{Parent, Obeys}
+use Rattle.studio_rules.specs.Parses.{Place, Parses}
 use Rattle.studio_row.specs.Packed.{slotOf}
 use Rattle.studio_marks.specs.Marks.{tallySlot, Under, marksAfter}
 
-pub under-of : (p : Parent) (t : Run) → Obeys p t → Under (p .id) (identifiers t)
+pub under-of : (p : Place) (t : Run) → Parses p t → Under (p .id) (identifiers t)
 under-of p end h = tt
 under-of p (skip id body rest) h = under-of p rest (h .1)
 under-of p (known id own kids rest) h = (h .0 .in-place, under-of p rest (h .2))

@@ -4,31 +4,32 @@ use mathlib.Core.Logic.{inl, inr, _↔_}
 use mathlib.Core.Bool.{Bool, true, false, not, _&&_, _||_, cond, true≢false, false≢true}
 use mathlib.Core.List.{List, [], _∷_}
 use mathlib.Core.Option.{Option, none, some}
-use Prim.Native.Nat.{ℕ, _+_, _*_, _≤_, _<_, _^_}
+use Prim.Native.Nat.{ℕ, _+_, _*_, _≤_, _<_}
 use native.Mathlib.Omega.{arith}
 use lib.Dec.{eqb, leb}
 use lib.ListN.{length, drop, getD, getD-replicate}
-use lib.Seq.{slice, length-slice}
+use lib.Seq.{slice}
 use borrow.Author.Tests.{eqb-true, eqb-false, ne-eqb, le-leb, lt-leb, leb-true}
 use Rattle.shared_words.specs.declared.Refusal.{Refusal}
-use Rattle.shared_words.specs.Lists.{every}
-use Rattle.shared_words.specs.Lists.{among}
+use Rattle.shared_words.specs.Lists.{every, among}
 use Rattle.studio_rules.specs.Table.{listed, limits, needs, atMostOne, atLeastOne, rows, Shape, shape, counted}
 use Rattle.studio_rules.specs.OwnData.{count, corners, faceCorners, ownSize}
-use Rattle.studio_rules.specs.Layout.{Run, size, identifiers, child, offsetOf}
-use Rattle.studio_rules.specs.Rules.{Parent, inside, tally, few, allBelow, noneMissing}
+use Rattle.studio_rules.specs.Layout.{Run, identifiers, child, offsetOf}
+use Rattle.studio_rules.specs.Rules.{Parent, tally, few, allBelow, noneMissing}
+use Rattle.studio_rules.specs.Parses.{Place, within}
+use Rattle.studio_rules.proofs.Parses.{parses}
+use Rattle.studio_rules.proofs.Once.{at-most-one}
 use Rattle.shared_words.specs.Conditions.{Condition, must, broken}
 use Rattle.studio_rules.specs.Walk.{endConditions, meshConditions}
 use Rattle.shared_words.proofs.Bools.{and-parts}
 use Rattle.shared_words.proofs.Conditions.{broken-here, broken-later, unbroken}
-use Rattle.studio_rules.proofs.Sound.{length-bytes}
 use Rattle.shared_numbers.specs.Numbers.{wordAt}
 use Rattle.shared_numbers.proofs.Slices.{word-slice, drop-slice}
 use Rattle.studio_scan.proofs.Parts.{corners-slice}
 use Rattle.studio_row.specs.Packed.{places, slotOf, rowOf}
 use Rattle.studio_row.proofs.Facts.{SlotTest, same-is}
 use Rattle.studio_marks.specs.declared.Shut.{Shut}
-use Rattle.studio_marks.specs.Marks.{tallySlot, noMarks, Kept, ShutIs, Placed, countAt, cornersAt, pairsAt, MeshPlaced, meshBroken}
+use Rattle.studio_marks.specs.Marks.{tallySlot, Under, noMarks, Kept, ShutIs, Placed, countAt, cornersAt, pairsAt, MeshPlaced, meshBroken}
 use Rattle.studio_marks.proofs.Slots.{allSlot, tally-slot, groups-slotted}
 use Rattle.studio_marks.proofs.After.{under-of, marks-zero, Alone, marks-place}
 use Rattle.studio_marks.proofs.Children.{Found, child-none, child-found}
@@ -58,7 +59,7 @@ broken-same false false x y bs cs e r h = ap some (r refl)
 
 -- ---- one slot, of a group of one identifier x
 
-module _ (p : Parent) (id : ℕ) (own : List ℕ) (t : Run) (s : List ℕ) (from stop : ℕ) (marks : List ℕ) (k : Kept p id own t s from stop marks)
+module _ (q : Parent) (t : Run) (s : List ℕ) (from stop : ℕ) (marks : List ℕ) (k : Kept q t s from stop marks)
     (x : ℕ) (a : allSlot (identifiers t) (x ∷ []) ≡ true) (h : slotOf x < 5) where
   slot-zero : (getD marks (slotOf x) 0 ≡ 0) ↔ ((getD noMarks (slotOf x) 0 ≡ 0) × (tallySlot (slotOf x) (identifiers t) ≡ 0))
   slot-zero = rw (k .marked) (marks-zero from t noMarks (slotOf x) (k .begins) h)
@@ -119,7 +120,7 @@ mesh-groups ys a f =
     }
 
 -- own data that is counted begins with a count word, which stands in the file
-module _ (p : Parent) (x : ℕ) (t : Run) (s : List ℕ) (o stop n : ℕ) (l : stop ≤ length s) (f : Found p x t s o stop) (c : ownSize (counted n) (p .own) (child x t) ≡ length (child x t)) where
+module _ (p : Place) (x : ℕ) (t : Run) (s : List ℕ) (o stop n : ℕ) (l : stop ≤ length s) (f : Found p x t s o stop) (c : ownSize (counted n) (p .own) (child x t) ≡ length (child x t)) where
   at : ℕ
   at = offsetOf x o t
 
@@ -132,13 +133,21 @@ module _ (p : Parent) (x : ℕ) (t : Run) (s : List ℕ) (o stop n : ℕ) (l : s
   pub counted-ends : offsetOf x o t + 8 + n * wordAt s (offsetOf x o t + 6) ≤ stop
   counted-ends = rw (← counted-at) (omega (arith, f .ends, c))
 
-module _ (p : Parent) (own : List ℕ) (t : Run) (s : List ℕ) (from stop : ℕ) (marks : List ℕ) (k : Kept p 0x4100 own t s from stop marks) (fits : size t < 2 ^ 32) where
+-- a chunk q, as it tells where its children stand
+abbrev around : Parent → Place
+around q = within (q .id) (q .own)
+
+kept-under : {q : Parent} {t : Run} {s : List ℕ} {from stop : ℕ} {marks : List ℕ} → Kept q t s from stop marks → Under (q .id) (identifiers t)
+kept-under {q} {t} k = under-of (around q) t (parses q [] t (k .obeys))
+
+module _ (q : Parent) (i : q .id ≡ 0x4100) (t : Run) (s : List ℕ) (from stop : ℕ) (marks : List ℕ) (k : Kept q t s from stop marks) where
   groups : Groups (identifiers t)
   unfolding rows listed
-  groups = mesh-groups (identifiers t) (groups-slotted 0x4100 refl (identifiers t) (under-of (inside p 0x4100 own) t (k .obeys))) (k .not-twice)
+  groups =
+      mesh-groups (identifiers t) (groups-slotted 0x4100 refl (identifiers t) (rw i at (kept-under k))) (rw i at (at-most-one q t (k .obeys)))
 
-  found : (x : ℕ) → among x (identifiers t) ≡ true → Found (inside p 0x4100 own) x t s from stop
-  found x = child-found (inside p 0x4100 own) x t s from stop (k .stays) fits (k .is) (k .obeys)
+  found : (x : ℕ) → among x (identifiers t) ≡ true → Found (around q) x t s from stop
+  found x = child-found (around q) x t s from stop (k .stands) (parses q [] t (k .obeys))
 
   -- what is told of one of the three: no chunk and no mark, or a chunk whose own data stands behind its mark
   pub record There (x slot n : ℕ) : Type 0 where
@@ -153,24 +162,24 @@ module _ (p : Parent) (own : List ℕ) (t : Run) (s : List ℕ) (from stop : ℕ
   there : (x slot n : ℕ) → Group x slot (identifiers t) → slot < 5 → shape x ≡ counted n → among x (identifiers t) ≡ true → There x slot n
   there x slot n g h sh a =
       let f = found x a in
-      let c : ownSize (counted n) own (child x t) ≡ length (child x t) = subst (λ (z : Shape). ownSize z own (child x t) ≡ length (child x t)) sh (f .exact) in
-      let m : getD marks slot 0 ≡ offsetOf x from t = rw (← (g .slot-is)) (mark-at p 0x4100 own t s from stop marks k x (g .alone-in) (rw (g .slot-is) h) (g .at-most-one) a) in
+      let c : ownSize (counted n) (q .own) (child x t) ≡ length (child x t) = subst (λ (z : Shape). ownSize z (q .own) (child x t) ≡ length (child x t)) sh (f .exact) in
+      let m : getD marks slot 0 ≡ offsetOf x from t = rw (← (g .slot-is)) (mark-at q t s from stop marks k x (g .alone-in) (rw (g .slot-is) h) (g .at-most-one) a) in
       let b = k .begins in
-      let z = k .stays in
-      let w = word-there (inside p 0x4100 own) x t s from stop n z f c in
-      let e = counted-ends (inside p 0x4100 own) x t s from stop n z f c in
+      let z = k .stands .stays in
+      let w = word-there (around q) x t s from stop n z f c in
+      let e = counted-ends (around q) x t s from stop n z f c in
       record {
         at = m;
         nonzero = rw m (ne-eqb (offsetOf x from t) 0 (λ q. omega (arith, f .after)));
         word = rw m (omega arith);
-        count-is = rw m (counted-at (inside p 0x4100 own) x t s from stop n z f c);
+        count-is = rw m (counted-at (around q) x t s from stop n z f c);
         all = rw m (omega arith);
         own-is = rw m (f .is);
         own-size = sym c;
       }
 
   absent : (x slot : ℕ) → Group x slot (identifiers t) → slot < 5 → among x (identifiers t) ≡ false → getD marks slot 0 ≡ 0
-  absent x slot g h a = rw (← (g .slot-is)) (mark-none p 0x4100 own t s from stop marks k x (g .alone-in) (rw (g .slot-is) h) (g .at-most-one) a)
+  absent x slot g h a = rw (← (g .slot-is)) (mark-none q t s from stop marks k x (g .alone-in) (rw (g .slot-is) h) (g .at-most-one) a)
 
   -- ---- the three marks
 
@@ -252,48 +261,46 @@ module _ (p : Parent) (own : List ℕ) (t : Run) (s : List ℕ) (from stop : ℕ
   unfolding every
   no-faces n a = rw (child-none 0x4120 t a)
 
-  pub mesh-broken : meshBroken s marks ≡ broken (meshConditions p from 0x4100 own t)
+  pub mesh-broken : meshBroken s marks ≡ broken (meshConditions q from t)
   mesh-broken =
+      rw i
+      (
       broken-same _ _ _ _ _ _ (rw vertex-count (corners-are (count (child 0x4110 t))))
       (λ e. ap Refusal.Index (present 0x4120 1 8 (groups .faces) (omega arith) faces-shape (λ a. true≢false (sym (no-faces (count (child 0x4110 t)) a) ∙ e))))
       (broken-same _ _ _ _ _ _ (rw vertex-count (pairs-are (count (child 0x4110 t))))
-      (λ e. ap Refusal.Count (present 0x4140 2 8 (groups .pairs) (omega arith) pairs-shape (λ a. true≢false (sym (rw a) ∙ e)))) refl)
+      (λ e. ap Refusal.Count (present 0x4140 2 8 (groups .pairs) (omega arith) pairs-shape (λ a. true≢false (sym (rw a) ∙ e)))) refl))
 
 -- ---- at least one: 3D3D in 4D4D, A000 in AFFF
 
-module _ (p : Parent) (own : List ℕ) (t : Run) (s : List ℕ) (from stop : ℕ) (marks : List ℕ) where
-  pub figure-needs : Kept p 0x4D4D own t s from stop marks → eqb (getD marks 1 0) 0 ≡ not (noneMissing p 0x4D4D own t)
+module _ (q : Parent) (t : Run) (s : List ℕ) (from stop : ℕ) (marks : List ℕ) (k : Kept q t s from stop marks) where
+  pub figure-needs : q .id ≡ 0x4D4D → eqb (getD marks 1 0) 0 ≡ not (noneMissing q t)
   unfolding rows listed limits atMostOne needs atLeastOne every places rowOf
-  figure-needs k =
-      let a = and-parts (allSlot (identifiers t) (0x0002 ∷ [])) _ (groups-slotted 0x4D4D refl (identifiers t) (under-of (inside p 0x4D4D own) t (k .obeys))) in
-      needed p 0x4D4D own t s from stop marks k 0x3D3D (and-parts (allSlot (identifiers t) (0x3D3D ∷ [])) true (a .1) .0) (omega arith) ∙
-      ap not (sym (and-true (leb 1 (tally (0x3D3D ∷ []) (identifiers t)))))
+  figure-needs i =
+      let a = and-parts (allSlot (identifiers t) (0x0002 ∷ [])) _ (groups-slotted 0x4D4D refl (identifiers t) (rw i at (kept-under k))) in
+      rw i
+      (needed q t s from stop marks k 0x3D3D (and-parts (allSlot (identifiers t) (0x3D3D ∷ [])) true (a .1) .0) (omega arith) ∙
+      ap not (sym (and-true (leb 1 (tally (0x3D3D ∷ []) (identifiers t))))))
 
-  pub material-needs : Kept p 0xAFFF own t s from stop marks → eqb (getD marks 0 0) 0 ≡ not (noneMissing p 0xAFFF own t)
+  pub material-needs : q .id ≡ 0xAFFF → eqb (getD marks 0 0) 0 ≡ not (noneMissing q t)
   unfolding rows listed limits atMostOne needs atLeastOne every places rowOf
-  material-needs k =
-      let a = groups-slotted 0xAFFF refl (identifiers t) (under-of (inside p 0xAFFF own) t (k .obeys)) in
-      needed p 0xAFFF own t s from stop marks k 0xA000 (and-parts (allSlot (identifiers t) (0xA000 ∷ [])) true a .0) (omega arith) ∙
-      ap not (sym (and-true (leb 1 (tally (0xA000 ∷ []) (identifiers t)))))
+  material-needs i =
+      let a = groups-slotted 0xAFFF refl (identifiers t) (rw i at (kept-under k)) in
+      rw i
+      (needed q t s from stop marks k 0xA000 (and-parts (allSlot (identifiers t) (0xA000 ∷ [])) true a .0) (omega arith) ∙
+      ap not (sym (and-true (leb 1 (tally (0xA000 ∷ []) (identifiers t))))))
 
-pub other-needs : (p : Parent) (id : ℕ) (own : List ℕ) (t : Run) → (id ≡ 0x4D4D → ⊥) → (id ≡ 0xAFFF → ⊥) → noneMissing p id own t ≡ true
+pub other-needs : (q : Parent) (t : Run) → (q .id ≡ 0x4D4D → ⊥) → (q .id ≡ 0xAFFF → ⊥) → noneMissing q t ≡ true
 unfolding needs atLeastOne every
-other-needs p id own t a b = rw (ne-eqb id 0x4D4D a, ne-eqb id 0xAFFF b)
+other-needs q t a b = rw (ne-eqb (q .id) 0x4D4D a, ne-eqb (q .id) 0xAFFF b)
 
 -- ---- all of it
 
-pub end-missing : (p : Parent) (o id : ℕ) (own : List ℕ) (t : Run) → noneMissing p id own t ≡ false → ShutIs (broken (endConditions p o id own t)) (Shut.Fault (Refusal.Missing o))
-end-missing p o id own t h = subst (λ (x : Option Refusal). ShutIs x (Shut.Fault (Refusal.Missing o))) (sym (broken-here _ _ _ h)) refl
+pub end-missing : (q : Parent) (o : ℕ) (t : Run) → noneMissing q t ≡ false → ShutIs (broken (endConditions q o t)) (Shut.Fault (Refusal.Missing o))
+end-missing q o t h = subst (λ (x : Option Refusal). ShutIs x (Shut.Fault (Refusal.Missing o))) (sym (broken-here _ _ _ h)) refl
 
-pub end-mesh : (p : Parent) (o id : ℕ) (own : List ℕ) (t : Run) (x : Option Refusal) (r : Shut) → noneMissing p id own t ≡ true → x ≡ broken (meshConditions p (o + (6 + length own)) id own t) → ShutIs x r → ShutIs (broken (endConditions p o id own t)) r
-end-mesh p o id own t x r h e f = subst (λ (y : Option Refusal). ShutIs y r) (e ∙ sym (broken-later _ _ _ h)) f
+pub end-mesh : (q : Parent) (o : ℕ) (t : Run) (x : Option Refusal) (r : Shut) → noneMissing q t ≡ true → x ≡ broken (meshConditions q (o + (6 + length (q .own))) t) → ShutIs x r → ShutIs (broken (endConditions q o t)) r
+end-mesh q o t x r h e f = subst (λ (y : Option Refusal). ShutIs y r) (e ∙ sym (broken-later _ _ _ h)) f
 
-pub end-other : (p : Parent) (o id : ℕ) (own : List ℕ) (t : Run) → noneMissing p id own t ≡ true → (id ≡ 0x4100 → ⊥) → ShutIs (broken (endConditions p o id own t)) Shut.Fine
-end-other p o id own t h n =
-    end-mesh p o id own t none Shut.Fine h (sym (unbroken (meshConditions p (o + (6 + length own)) id own t) (rw (ne-eqb id 0x4100 n), (rw (ne-eqb id 0x4100 n), tt)))) refl
-
--- a run within the limit is small
-pub kept-small : (p : Parent) (id : ℕ) (own : List ℕ) (t : Run) (s : List ℕ) (from stop : ℕ) (marks : List ℕ) → Kept p id own t s from stop marks → length s < 2 ^ 32 → size t < 2 ^ 32
-kept-small p id own t s from stop marks k l =
-    let z = k .stays in
-    omega (arith, length-bytes t, ap length (k .is), length-slice from stop s z)
+pub end-other : (q : Parent) (o : ℕ) (t : Run) → noneMissing q t ≡ true → (q .id ≡ 0x4100 → ⊥) → ShutIs (broken (endConditions q o t)) Shut.Fine
+end-other q o t h n =
+    end-mesh q o t none Shut.Fine h (sym (unbroken (meshConditions q (o + (6 + length (q .own))) t) (rw (ne-eqb (q .id) 0x4100 n), (rw (ne-eqb (q .id) 0x4100 n), tt)))) refl

@@ -7,13 +7,13 @@ use mathlib.Core.Option.{Option, none, some}
 use Prim.Native.Nat.{ℕ, _+_, _*_, _≤_}
 use lib.Dec.{eqb, leb}
 use lib.ListN.{length, set, getD, drop, replicate}
-use lib.Seq.{slice}
 use Rattle.shared_words.specs.declared.Refusal.{Refusal}
 use Rattle.shared_words.specs.declared.Refusal.the-variants.{Index, Count}
 use Rattle.studio_rules.specs.Table.{under}
 use Rattle.studio_rules.specs.OwnData.{corners}
-use Rattle.studio_rules.specs.Layout.{Run, end, skip, known, size, bytes, identifiers}
-use Rattle.studio_rules.specs.Rules.{Parent, inside, few, allBelow, Obeys}
+use Rattle.studio_rules.specs.Layout.{Run, end, skip, known, size}
+use Rattle.studio_rules.specs.Rules.{Parent, allBelow, Obeys}
+use Rattle.studio_stands.specs.Stands.{Stands}
 use Rattle.shared_words.specs.Conditions.{must, broken}
 use Rattle.shared_numbers.specs.Numbers.{wordAt}
 use Rattle.studio_row.specs.Packed.{slotOf}
@@ -42,14 +42,11 @@ marksAfter o (known id own kids rest) marks = marksAfter (o + (6 + length own + 
 abbrev pub noMarks : List ℕ
 noMarks = replicate 5 0
 
--- t are the children of a chunk of p, which stand in the file s from `from` to `stop`, obey the rules and left these marks
-pub record Kept (p : Parent) (id : ℕ) (own : List ℕ) (t : Run) (s : List ℕ) (from stop : ℕ) (marks : List ℕ) : Type 0 where
-  pub order : from ≤ stop
-  pub stays : stop ≤ length s
+-- t are the children of a chunk q, which stand in the file s from `from` to `stop`, obey the rules and left these marks
+pub record Kept (q : Parent) (t : Run) (s : List ℕ) (from stop : ℕ) (marks : List ℕ) : Type 0 where
   pub begins : 1 ≤ from
-  pub is : bytes t ≡ slice from stop s
-  pub obeys : Obeys (inside p id own) t
-  pub not-twice : few id (identifiers t) ≡ true
+  pub stands : Stands t s from stop
+  pub obeys : Obeys q [] t
   pub marked : marks ≡ marksAfter from t noMarks
 
 -- ---- a mesh at its end, by its marks: the offsets of its 4110, 4120 and 4140

@@ -40,7 +40,7 @@ pub enum Shut {
 // Whether a child is missing that a chunk must have: 3D3D in 4D4D, A000 in AFFF.
 fn is_missing(id: usize, marks: &[u32]) -> bool
     requires { ⌜ length (now marks) ≡ 5 ⌝ }
-    ensures { λ r. ⌜ ((p : Parent) (own : List ℕ) (t : Run) (s : List ℕ) (from stop : ℕ) → Kept p id own t s from stop (now (marks .entry)) → r ≡ not (noneMissing p id own t)) ⌝ }
+    ensures { λ r. ⌜ ((q : Parent) (t : Run) (s : List ℕ) (from stop : ℕ) → q .id ≡ id → Kept q t s from stop (now (marks .entry)) → r ≡ not (noneMissing q t)) ⌝ }
 {
     if id == 0x4D4D {
         return marks[1] == 0;
@@ -104,8 +104,8 @@ fn at_mesh_end(file: &[u8], marks: &[u32]) -> Shut
 
 // A chunk at its end, by the marks that its children left: it stands at an offset.
 pub fn at_end(file: &[u8], id: usize, at: usize, marks: &[u32]) -> Shut
-    requires { ⌜ (length (now marks) ≡ 5) × (id ≡ 0x4100 → MeshPlaced (now file) (now marks)) × (length (now file) < 4294967296) ⌝ }
-    ensures { λ r. ⌜ ((p : Parent) (own : List ℕ) (t : Run) (stop : ℕ) → Kept p id own t (now (file .entry)) (at + (6 + length own)) stop (now (marks .entry)) → ShutIs (broken (endConditions p at id own t)) r) ⌝ }
+    requires { ⌜ (length (now marks) ≡ 5) × (id ≡ 0x4100 → MeshPlaced (now file) (now marks)) ⌝ }
+    ensures { λ r. ⌜ ((q : Parent) (t : Run) (stop : ℕ) → q .id ≡ id → Kept q t (now (file .entry)) (at + (6 + length (q .own))) stop (now (marks .entry)) → ShutIs (broken (endConditions q at t)) r) ⌝ }
 {
     if is_missing(id, marks) {
         return Shut::Fault(Refusal::Missing(at));

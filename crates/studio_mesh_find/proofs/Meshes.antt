@@ -8,11 +8,15 @@ use native.Mathlib.Omega.{arith}
 use lib.ListN.{length, getElem?, length-append}
 use lib.Seq.{take-length}
 use Rattle.studio_rules.specs.Layout.{Run, end, known, figure, size, identifiers, offsetOf}
-use Rattle.studio_rules.specs.Rules.{Parent, file, inside, tally, Obeys, Meets}
+use Rattle.studio_rules.specs.Rules.{Parent, file, inside, tally, version, Meets}
+use Rattle.studio_rules.specs.Parses.{within}
+use Rattle.studio_rules.specs.Walk.{top}
+use Rattle.studio_rules.proofs.Once.{at-most-one}
+use Rattle.studio_rules.proofs.Parses.{parses}
 use Rattle.studio_rules.specs.Gives.{Mesh, meshOf, meshesOf, meshes}
 use Rattle.studio_mesh_find.specs.Runs.{Spans, onward}
 use Rattle.shared_numbers.specs.Numbers.{longAt}
-use Rattle.studio_mesh_find.proofs.Runs.{span-size, stands-here, kids-here, kids-at, after-known, First, onward-is, onward-spans, first-there, first-nowhere}
+use Rattle.studio_mesh_find.proofs.Runs.{around, span-size, header-here, kids-here, kids-at, after-known, First, onward-is, onward-spans, first-there, first-nowhere}
 use Rattle.studio_mesh_find.proofs.Parts.{objects-own}
 use Rattle.studio_mesh_find.proofs.Ways.{no-meshes, meshes-onward, tally-onward, no-more-meshes, to-objects, to-object, to-mesh, one-3D3D, one-4100, some-3D3D}
 
@@ -20,7 +24,7 @@ use Rattle.studio_mesh_find.proofs.Ways.{no-meshes, meshes-onward, tall
 
 module _ (p : Parent) (own : List ℕ) (kids rest : Run) (s : List ℕ) (at stop : ℕ) (h : Spans p (known 0x4000 own kids rest) s at stop) where
   abbrev q : Parent
-  q = inside p 0x4000 own
+  q = inside p (h .seen) 0x4000 own
 
   abbrev from : ℕ
   from = at + (6 + length own)
@@ -28,17 +32,17 @@ module _ (p : Parent) (own : List ℕ) (kids rest : Run) (s : List ℕ) (at stop
   abbrev past : ℕ
   past = at + (6 + length own + size kids)
 
-  abbrev in-it : Spans (inside p 0x4000 own) kids s (at + (6 + length own)) (at + (6 + length own + size kids))
+  abbrev in-it : Spans (inside p (h .seen) 0x4000 own) kids s (at + (6 + length own)) (at + (6 + length own + size kids))
   in-it = kids-here p s at stop 0x4000 own kids rest h
 
   onto-mesh : (a n : ℕ) → meshesOf (at + (6 + length own)) a n kids ≡ meshesOf (offsetOf 0x4100 (at + (6 + length own)) kids) a n (onward 0x4100 kids)
-  onto-mesh a n = meshes-onward 0x4100 q to-mesh kids from a n (h .obeys .1)
+  onto-mesh a n = meshes-onward 0x4100 (around q) to-mesh kids from a n (parses q [] kids (h .obeys .2))
 
   pub no-mesh : at + (6 + length own + size kids) ≤ offsetOf 0x4100 (at + (6 + length own)) kids → (a n : ℕ) → meshesOf (at + (6 + length own)) a n kids ≡ []
   no-mesh l a n = onto-mesh a n ∙ ap (meshesOf (offsetOf 0x4100 from kids) a n) (first-nowhere 0x4100 q kids s from past in-it l)
 
   module _ (l : offsetOf 0x4100 (at + (6 + length own)) kids < at + (6 + length own + size kids)) where
-    pub mesh-here : First 0x4100 (inside p 0x4000 own) kids s (at + (6 + length own)) (at + (6 + length own + size kids)) (kids-here p s at stop 0x4000 own kids rest h)
+    pub mesh-here : First 0x4100 (inside p (h .seen) 0x4000 own) kids s (at + (6 + length own)) (at + (6 + length own + size kids)) (kids-here p s at stop 0x4000 own kids rest h)
     mesh-here = first-there 0x4100 q kids s from past in-it l
 
     -- nothing in a mesh is a mesh, and none follows it
@@ -46,11 +50,11 @@ module _ (p : Parent) (own : List ℕ) (kids rest : Run) (s : List ℕ) (at stop
     one-mesh a n =
         let f = mesh-here in
         let o : ℕ = offsetOf 0x4100 from kids in
-        let ob = f .spans .obeys in
+        let ob = parses q (f .spans .seen) (known 0x4100 (f .own) (f .kids) (f .rest)) (f .spans .obeys) in
         onto-mesh a n ∙ ap (meshesOf o a n) (f .is) ∙
         rw (
-          no-meshes (inside q 0x4100 (f .own)) (f .kids) (o + (6 + length (f .own))) (o + 6) (length (f .own) - 1) refl (ob .1),
-          no-more-meshes 0x4100 kids (one-4100 (identifiers kids) (h .obeys .0 .not-twice)) (f .own) (f .kids) (f .rest) (f .is) q to-mesh (ob .2) (o + (6 + length (f .own) + size (f .kids))) a n,
+          no-meshes (within 0x4100 (f .own)) (f .kids) (o + (6 + length (f .own))) (o + 6) (length (f .own) - 1) refl (ob .1),
+          no-more-meshes 0x4100 kids (one-4100 (identifiers kids) (at-most-one q kids (h .obeys .2))) (f .own) (f .kids) (f .rest) (f .is) (around q) to-mesh (ob .2) (o + (6 + length (f .own) + size (f .kids))) a n,
         )
 
 -- ---- object by object
@@ -64,11 +68,11 @@ pub record MeshesBefore (p : Parent) (t : Run) (s : List ℕ) (from stop a n : �
   pub split : meshesOf from a n t ≡ done ++ meshesOf at a n (onward 0x4000 tail)
 
 module _ (p : Parent) (i : p .id ≡ 0x3D3D) (t : Run) (s : List ℕ) (from stop a n : ℕ) where
-  onto-object : (t : Run) (o : ℕ) → Obeys p t → meshesOf o a n t ≡ meshesOf (offsetOf 0x4000 o t) a n (onward 0x4000 t)
-  onto-object t o h = meshes-onward 0x4000 p (rw i to-object) t o a n h
+  onto-object : (t : Run) (o : ℕ) → Spans p t s o stop → meshesOf o a n t ≡ meshesOf (offsetOf 0x4000 o t) a n (onward 0x4000 t)
+  onto-object t o h = meshes-onward 0x4000 (around p) (rw i to-object) t o a n (parses p (h .seen) t (h .obeys))
 
   pub none-before : Spans p t s from stop → MeshesBefore p t s from stop a n 0 (offsetOf 0x4000 from t)
-  none-before h = record { tail = t; spans = onward-spans 0x4000 p t s from stop h; done = []; count = refl; split = onto-object t from (h .obeys) }
+  none-before h = record { tail = t; spans = onward-spans 0x4000 p t s from stop h; done = []; count = refl; split = onto-object t from h }
 
   module _ (before at : ℕ) (w : MeshesBefore p t s from stop a n before at) where
     pub all-before : stop ≤ at → meshesOf from a n t ≡ w .done
@@ -77,7 +81,7 @@ module _ (p : Parent) (i : p .id ≡ 0x3D3D) (t : Run) (s : List ℕ) (from stop
         go : (onward 0x4000 (w .tail) ≡ end) ⊎ ((own : List ℕ) × (kids : Run) × (rest : Run) × (onward 0x4000 (w .tail) ≡ known 0x4000 own kids rest)) →
             Spans p (onward 0x4000 (w .tail)) s at stop → w .done ++ meshesOf at a n (onward 0x4000 (w .tail)) ≡ w .done
         go (inl e) h = rw (e, append-nil (w .done))
-        go (inr (own, kids, rest, e)) h = absurd (omega (arith, l, stands-here p s at stop 0x4000 own kids rest (subst (λ (r : Run). Spans p r s at stop) e h) .six))
+        go (inr (own, kids, rest, e)) h = absurd (omega (arith, l, header-here p s at stop 0x4000 own kids rest (subst (λ (r : Run). Spans p r s at stop) e h) .six))
 
     -- the object at `at`
     pub record Here : Type 0 where
@@ -114,7 +118,7 @@ module _ (p : Parent) (i : p .id ≡ 0x3D3D) (t : Run) (s : List ℕ) (from stop
             spans = onward-spans 0x4000 p (e .rest) s past stop h;
             done = w .done ++ ms;
             count = omega (arith, length-append (w .done) ms, w .count);
-            split = one-on ∙ ap (λ (l : List Mesh). (w .done ++ ms) ++ l) (onto-object (e .rest) past (h .obeys));
+            split = one-on ∙ ap (λ (l : List Mesh). (w .done ++ ms) ++ l) (onto-object (e .rest) past h);
           }
 
 -- ---- the mesh of a number
@@ -131,51 +135,59 @@ nth-beyond (m ∷ ms) (suc k) l = nth-beyond ms k (omega arith)
 -- ---- the one 3D3D of a figure
 
 module _ (s : List ℕ) (kids : Run) (m : Meets s kids) where
-  whole : Spans file (figure kids) s 0 (length s)
-  whole = record { order = omega arith; stays = omega arith; short = m .within-limit; is = m .is ∙ sym (take-length s); obeys = m .chunks }
+  -- its 4D4D
+  abbrev pub figureTop : Parent
+  figureTop = top (version kids)
+
+  whole : Spans (file (version kids)) (figure kids) s 0 (length s)
+  whole = record {
+    seen = [];
+    stands = record { order = omega arith; stays = omega arith; small = omega (arith, m .within-limit); is = m .is ∙ sym (take-length s) };
+    obeys = m .chunks;
+  }
 
   ends : 0 + (6 + 0 + size kids) ≡ length s
-  ends = omega (arith, span-size file s 0 (length s) (figure kids) whole)
+  ends = omega (arith, span-size (file (version kids)) s 0 (length s) (figure kids) whole)
 
-  pub figure-kids : Spans (inside file 0x4D4D []) kids s 6 (length s)
-  figure-kids = subst (Spans (inside file 0x4D4D []) kids s 6) ends (kids-here file s 0 (length s) 0x4D4D [] kids end whole)
+  pub figure-kids : Spans figureTop kids s 6 (length s)
+  unfolding whole
+  figure-kids = subst (Spans figureTop kids s 6) ends (kids-here (file (version kids)) s 0 (length s) 0x4D4D [] kids end whole)
 
   pub objects-there : offsetOf 0x3D3D 6 kids < length s
-  objects-there = go (onward-is 0x3D3D kids) (onward-spans 0x3D3D (inside file 0x4D4D []) kids s 6 (length s) figure-kids)
+  objects-there = go (onward-is 0x3D3D kids) (onward-spans 0x3D3D figureTop kids s 6 (length s) figure-kids)
     where
       go : (onward 0x3D3D kids ≡ end) ⊎ ((own : List ℕ) × (kids′ : Run) × (rest : Run) × (onward 0x3D3D kids ≡ known 0x3D3D own kids′ rest)) →
-          Spans (inside file 0x4D4D []) (onward 0x3D3D kids) s (offsetOf 0x3D3D 6 kids) (length s) → offsetOf 0x3D3D 6 kids < length s
-      go (inl e) h = absurd (omega (arith, some-3D3D (identifiers kids) (m .chunks .0 .none-missing), tally-onward 0x3D3D kids ∙ ap (λ (r : Run). tally (0x3D3D ∷ []) (identifiers r)) e))
+          Spans figureTop (onward 0x3D3D kids) s (offsetOf 0x3D3D 6 kids) (length s) → offsetOf 0x3D3D 6 kids < length s
+      go (inl e) h = absurd (omega (arith, some-3D3D (identifiers kids) (m .chunks .1 .none-missing), tally-onward 0x3D3D kids ∙ ap (λ (r : Run). tally (0x3D3D ∷ []) (identifiers r)) e))
       go (inr (own, kids′, rest, e)) h =
-          omega (arith, stands-here (inside file 0x4D4D []) s (offsetOf 0x3D3D 6 kids) (length s) 0x3D3D own kids′ rest (subst (λ (r : Run). Spans (inside file 0x4D4D []) r s (offsetOf 0x3D3D 6 kids) (length s)) e h) .six)
+          omega (arith, header-here figureTop s (offsetOf 0x3D3D 6 kids) (length s) 0x3D3D own kids′ rest (subst (λ (r : Run). Spans figureTop r s (offsetOf 0x3D3D 6 kids) (length s)) e h) .six)
 
-  pub objects : First 0x3D3D (inside file 0x4D4D []) kids s 6 (length s) figure-kids
-  objects = first-there 0x3D3D (inside file 0x4D4D []) kids s 6 (length s) figure-kids objects-there
+  pub objects : First 0x3D3D figureTop kids s 6 (length s) figure-kids
+  objects = first-there 0x3D3D figureTop kids s 6 (length s) figure-kids objects-there
 
   -- it stands at o
   module _ (o : ℕ) (e : o ≡ offsetOf 0x3D3D 6 kids) where
     pub objects-header : o + 6 ≤ length s
-    objects-header = omega (arith, e, stands-here (inside file 0x4D4D []) s (offsetOf 0x3D3D 6 kids) (length s) 0x3D3D (objects .own) (objects .kids) (objects .rest) (objects .spans) .six)
+    objects-header = omega (arith, e, header-here figureTop s (offsetOf 0x3D3D 6 kids) (length s) 0x3D3D (objects .own) (objects .kids) (objects .rest) (objects .spans) .six)
 
-    here-too : Spans (inside file 0x4D4D []) (known 0x3D3D (objects .own) (objects .kids) (objects .rest)) s o (length s)
-    here-too = subst (λ (y : ℕ). Spans (inside file 0x4D4D []) (known 0x3D3D (objects .own) (objects .kids) (objects .rest)) s y (length s)) (sym e) (objects .spans)
+    pub here-too : Spans figureTop (known 0x3D3D (objects .own) (objects .kids) (objects .rest)) s o (length s)
+    here-too = subst (λ (y : ℕ). Spans figureTop (known 0x3D3D (objects .own) (objects .kids) (objects .rest)) s y (length s)) (sym e) (objects .spans)
 
     none-own : length (objects .own) ≡ 0
-    none-own = objects-own (inside file 0x4D4D []) (objects .own) (objects .kids) (objects .rest) s o (length s) here-too
+    none-own = objects-own figureTop (objects .own) (objects .kids) (objects .rest) s o (length s) here-too
 
-    pub objects-spans : (n : ℕ) → n ≡ longAt s (o + 2) → Spans (inside (inside file 0x4D4D []) 0x3D3D (objects .own)) (objects .kids) s (o + 6) (o + n)
-    objects-spans n f = kids-at (inside file 0x4D4D []) s o (length s) 0x3D3D (objects .own) (objects .kids) (objects .rest) here-too (o + 6) n (omega (arith, none-own)) f
+    pub objects-spans : (n : ℕ) → n ≡ longAt s (o + 2) → Spans (inside figureTop (here-too .seen) 0x3D3D (objects .own)) (objects .kids) s (o + 6) (o + n)
+    objects-spans n f = kids-at figureTop s o (length s) 0x3D3D (objects .own) (objects .kids) (objects .rest) here-too (o + 6) n (omega (arith, none-own)) f
 
     -- the meshes of the file are those in it
     pub meshes-are : meshes kids ≡ meshesOf (o + 6) (offsetOf 0x3D3D 6 kids + 6) (length (objects .own) - 1) (objects .kids)
     meshes-are =
-        let top : Parent = inside file 0x4D4D [] in
         let at : ℕ = offsetOf 0x3D3D 6 kids in
         let f = objects in
         let z : at + (6 + length (f .own)) ≡ o + 6 = omega (arith, e, none-own) in
-        append-nil (meshesOf 6 6 0 kids) ∙ meshes-onward 0x3D3D top to-objects kids 6 6 0 (m .chunks .1) ∙ ap (meshesOf at 6 0) (f .is) ∙
+        append-nil (meshesOf 6 6 0 kids) ∙ meshes-onward 0x3D3D (around figureTop) to-objects kids 6 6 0 (parses figureTop [] kids (m .chunks .2)) ∙ ap (meshesOf at 6 0) (f .is) ∙
         rw (
-          no-more-meshes 0x3D3D kids (one-3D3D (identifiers kids) (m .chunks .0 .not-twice)) (f .own) (f .kids) (f .rest) (f .is) top to-objects (f .spans .obeys .2) (at + (6 + length (f .own) + size (f .kids))) 6 0,
+          no-more-meshes 0x3D3D kids (one-3D3D (identifiers kids) (at-most-one figureTop kids (m .chunks .2))) (f .own) (f .kids) (f .rest) (f .is) (around figureTop) to-objects (parses figureTop (f .spans .seen) (known 0x3D3D (f .own) (f .kids) (f .rest)) (f .spans .obeys) .2) (at + (6 + length (f .own) + size (f .kids))) 6 0,
           append-nil (meshesOf (at + (6 + length (f .own))) (at + 6) (length (f .own) - 1) (f .kids)),
           z,
         )

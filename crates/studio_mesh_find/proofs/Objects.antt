@@ -51,12 +51,12 @@ module _ (p : Parent) (i : p .id ≡ 0x3D3D) (t : Run) (s : List ℕ) (from stop
       pub with-mesh : (next : ℕ) → next ≡ offsetOf 0x4000 (o .stop) (e .rest) → MeshesBefore p t s from stop a n (before + 1) next
       with-mesh next f = rw (f, found .ends-at) (object-on p i t s from stop a n before at w e _ one (before + 1) refl)
 
-      abbrev mesh : First 0x4100 (inside p 0x4000 (e .own)) (e .kids) s (at + (6 + length (e .own))) (at + (6 + length (e .own) + size (e .kids))) (kids-here p s at stop 0x4000 (e .own) (e .kids) (e .rest) (e .spans))
+      abbrev mesh : First 0x4100 (inside p (e .spans .seen) 0x4000 (e .own)) (e .kids) s (at + (6 + length (e .own))) (at + (6 + length (e .own) + size (e .kids))) (kids-here p s at stop 0x4000 (e .own) (e .kids) (e .rest) (e .spans))
       mesh = mesh-here p (e .own) (e .kids) (e .rest) s at stop (e .spans) within
 
-      mesh-spans : Spans (inside p 0x4000 (e .own)) (known 0x4100 (mesh .own) (mesh .kids) (mesh .rest)) s (o .mesh) (at + (6 + length (e .own) + size (e .kids)))
+      mesh-spans : Spans (inside p (e .spans .seen) 0x4000 (e .own)) (known 0x4100 (mesh .own) (mesh .kids) (mesh .rest)) s (o .mesh) (at + (6 + length (e .own) + size (e .kids)))
       mesh-spans =
-          subst (λ (y : ℕ). Spans (inside p 0x4000 (e .own)) (known 0x4100 (mesh .own) (mesh .kids) (mesh .rest)) s y (at + (6 + length (e .own) + size (e .kids))))
+          subst (λ (y : ℕ). Spans (inside p (e .spans .seen) 0x4000 (e .own)) (known 0x4100 (mesh .own) (mesh .kids) (mesh .rest)) s y (at + (6 + length (e .own) + size (e .kids))))
           (sym (found .mesh-at)) (mesh .spans)
 
       pub mesh-begins : Begins 0x4100 s (o .mesh)

@@ -24,7 +24,7 @@ use Rattle.studio_scan.proofs.Parts.{numbers-slice, corners-slice}
 use Rattle.studio_mesh_find.specs.declared.Elements.{Elements}
 use Rattle.studio_mesh_find.specs.Runs.{Spans}
 use Rattle.studio_mesh_find.specs.Places.{ElementsAre, PlaceIs}
-use Rattle.studio_mesh_find.proofs.Runs.{First, own-here, stands-here, child-onward, first-there, first-nowhere}
+use Rattle.studio_mesh_find.proofs.Runs.{First, own-here, header-here, child-onward, first-there, first-nowhere}
 
 -- own data of a known chunk is as long as its shape says
 pub own-exact : (p : Parent) (x : ℕ) (own : List ℕ) (kids rest : Run) (s : List ℕ) (at stop : ℕ) → Spans p (known x own kids rest) s at stop →
@@ -69,7 +69,7 @@ module _ (x k : ℕ) (e : shape x ≡ counted k) (p : Parent) (t : Run) (s : Lis
     first = first-there x p t s at stop h (omega arith)
 
     first-ends : o + 6 + length (first .own) ≤ length s
-    first-ends = omega (arith, stands-here p s (offsetOf x at t) stop x (first .own) (first .kids) (first .rest) (first .spans) .ends, h .stays)
+    first-ends = omega (arith, header-here p s (offsetOf x at t) stop x (first .own) (first .kids) (first .rest) (first .spans) .ends, h .stands .stays)
 
     sized : 2 + k * count (first .own) ≡ length (first .own)
     sized = own-exact p x (first .own) (first .kids) (first .rest) s (offsetOf x at t) stop (first .spans) (counted k) e
@@ -96,25 +96,25 @@ module _ (x k : ℕ) (e : shape x ≡ counted k) (p : Parent) (t : Run) (s : Lis
 -- ---- a mesh
 
 -- the floats of a 4110 are finite
-pub child-finite : (p : Parent) (t : Run) → Obeys p t → every finite (vertexNumbers (child 0x4110 t)) ≡ true
-child-finite p end h = every-nil finite
-child-finite p (skip id body rest) h = child-finite p rest (h .1)
-child-finite p (known id own kids rest) h = go (eqb id 0x4110) refl (and-parts _ _ (h .0 .numbers-finite) .0) (child-finite p rest (h .2))
+pub child-finite : (p : Parent) (seen : List ℕ) (t : Run) → Obeys p seen t → every finite (vertexNumbers (child 0x4110 t)) ≡ true
+child-finite p seen end h = every-nil finite
+child-finite p seen (skip id body rest) h = child-finite p seen rest (h .1)
+child-finite p seen (known id own kids rest) h = go (eqb id 0x4110) refl (and-parts _ _ (h .0 .numbers-finite) .0) (child-finite p (id ∷ seen) rest (h .3))
   where
     go : (b : Bool) → eqb id 0x4110 ≡ b → cond b (every finite (vertexNumbers own)) true ≡ true → every finite (vertexNumbers (child 0x4110 rest)) ≡ true →
         every finite (vertexNumbers (cond b own (child 0x4110 rest))) ≡ true
     go true e q ih = q
     go false e q ih = ih
 
-pub place-there : (p : Parent) (kids : Run) (s : List ℕ) → Obeys p kids → (na ns : ℕ) (v f : Elements) → ElementsAre 12 (child 0x4110 kids) s v → ElementsAre 8 (child 0x4120 kids) s f →
+pub place-there : (p : Parent) (seen : List ℕ) (kids : Run) (s : List ℕ) → Obeys p seen kids → (na ns : ℕ) (v f : Elements) → ElementsAre 12 (child 0x4110 kids) s v → ElementsAre 8 (child 0x4120 kids) s f →
     PlaceIs s (meshOf na ns kids) record { name = na; size = ns; vertices = v; faces = f }
-place-there p kids s h na ns v f a b = record {
+place-there p seen kids s h na ns v f a b = record {
   name-at = refl;
   name-size = refl;
   vertex-count = a .count-is;
   vertices-are = vertices-there (child 0x4110 kids) s v a;
   vertices-stay = a .stay;
-  vertices-finite = child-finite p kids h;
+  vertices-finite = child-finite p seen kids h;
   face-count = b .count-is;
   corners-are = corners-there (child 0x4120 kids) s f b;
   faces-stay = b .stay;
@@ -152,7 +152,7 @@ module _ (p : Parent) (own : List ℕ) (kids rest : Run) (s : List ℕ) (at stop
 
     pub name-there : nameSize (slice (at + 6) (at + longAt s (at + 2)) s) ≡ length own
     name-there =
-        let w = stands-here p s at stop 0x4000 own kids rest h in
+        let w = header-here p s at stop 0x4000 own kids rest h in
         let body : List ℕ = slice (at + 6) (at + longAt s (at + 2)) s in
         let front : take (length own) body ≡ own =
         take-slice (length own) (at + 6) (at + longAt s (at + 2)) s (omega (arith, w .length-is)) ∙ sym (own-here p s at stop 0x4000 own kids rest h) in

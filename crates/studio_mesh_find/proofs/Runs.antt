@@ -1,88 +1,74 @@
 -- A run in the file: its first chunk, what is in it and what follows it; and the run from its first child x on.
 use mathlib.Core.Path.{_≡_, refl, sym, ap, _∙_, subst}
-use mathlib.Core.Bool.{Bool, true, false, not, cond, true≢false}
-use mathlib.Core.List.{List}
+use mathlib.Core.Bool.{Bool, true, false, cond}
+use mathlib.Core.List.{List, [], _∷_}
 use mathlib.Core.Logic.{_⊎_, inl, inr}
-use Prim.Native.Nat.{ℕ, _+_, _≤_, _<_, _^_}
+use Prim.Native.Nat.{ℕ, _+_, _≤_, _<_}
 use native.Mathlib.Omega.{arith}
-use lib.Dec.{eqb, ltb}
+use lib.Dec.{eqb}
 use lib.ListN.{length}
-use lib.Seq.{slice, length-slice}
-use borrow.Author.Tests.{eqb-true, eq-eqb, ne-eqb, ltb-true, not-true}
+use lib.Seq.{slice}
+use borrow.Author.Tests.{eqb-true, eq-eqb, ne-eqb}
 use Rattle.studio_rules.specs.Table.{listed}
 use Rattle.studio_rules.specs.Layout.{Run, end, skip, known, size, child, offsetOf}
 use Rattle.studio_rules.specs.Rules.{Parent, inside}
-use Rattle.shared_words.proofs.Bools.{and-parts}
-use Rattle.studio_rules.proofs.Rows.{under-listed, listed-small}
-use Rattle.studio_rules.proofs.Sound.{length-bytes}
+use Rattle.studio_rules.specs.Parses.{Place, within, Parses}
+use Rattle.studio_rules.proofs.Parses.{parses}
 use Rattle.shared_numbers.specs.Numbers.{wordAt, longAt}
-use Rattle.studio_stands.proofs.Layouts.{Stands, skip-stands, skip-rest, known-stands, known-own, known-kids, known-rest}
+use Rattle.studio_stands.specs.Stands.{Headed}
+use Rattle.studio_stands.proofs.Chunks as Chunks
+use Rattle.studio_stands.proofs.Chunks.{unlisted-other, stands-size, skip-header, known-header}
 use Rattle.studio_mesh_find.specs.Runs.{Spans, onward}
+
+-- the chunk around, as far as it tells where chunks stand
+abbrev pub around : Parent → Place
+around p = within (p .id) (p .own)
 
 module _ (p : Parent) (s : List ℕ) (at stop : ℕ) where
   pub span-size : (t : Run) → Spans p t s at stop → at + size t ≡ stop
-  span-size t h = omega (arith, sym (length-bytes t) ∙ ap length (h .is) ∙ length-slice at stop s (h .stays), h .order)
+  span-size t h = stands-size s at stop t (h .stands)
+
+  parsed : (t : Run) (h : Spans p t s at stop) → Parses (around p) t
+  parsed t h = parses p (h .seen) t (h .obeys)
 
   -- ---- a chunk to skip
 
   module _ (id : ℕ) (body : List ℕ) (rest : Run) (h : Spans p (skip id body rest) s at stop) where
-    skip-id : id < 2 ^ 16
-    skip-id = ltb-true id 0x1_0000 (and-parts _ _ (h .obeys .0) .0)
-
-    skip-small : size (skip id body rest) < 2 ^ 32
-    skip-small = omega (arith, span-size (skip id body rest) h, h .stays, h .short)
-
-    pub skipped-stands : Stands s at stop id (6 + length body)
-    skipped-stands = skip-stands s at stop (h .stays) id body rest (h .is) skip-id skip-small
+    pub skipped-header : Headed s at stop id (6 + length body)
+    skipped-header = skip-header s at stop (around p) id body rest (h .stands) (parsed (skip id body rest) h)
 
     pub after-skip : Spans p rest s (at + (6 + length body)) stop
     after-skip = record {
-      order = omega (arith, skipped-stands .ends);
-      stays = h .stays;
-      short = h .short;
-      is = skip-rest s at stop (h .stays) id body rest (h .is) skip-id skip-small;
+      seen = h .seen;
+      stands = Chunks.after-skip s at stop (around p) id body rest (h .stands) (parsed (skip id body rest) h);
       obeys = h .obeys .1;
     }
-
-    -- an unlisted chunk is none that is looked for
-    pub skip-other : (x : ℕ) → listed x ≡ true → id ≡ x → ⊥
-    skip-other x l e = true≢false (sym l ∙ ap listed (sym e) ∙ not-true (listed id) (and-parts (ltb id 0x1_0000) (not (listed id)) (h .obeys .0) .1))
 
   -- ---- a known chunk
 
   module _ (id : ℕ) (own : List ℕ) (kids rest : Run) (h : Spans p (known id own kids rest) s at stop) where
-    known-id : id < 2 ^ 16
-    known-id = ltb-true id 0x1_0000 (listed-small id (under-listed (p .id) id (h .obeys .0 .in-place)))
-
-    known-small : size (known id own kids rest) < 2 ^ 32
-    known-small = omega (arith, span-size (known id own kids rest) h, h .stays, h .short)
-
-    pub stands-here : Stands s at stop id (6 + length own + size kids)
-    stands-here = known-stands s at stop (h .stays) id own kids rest (h .is) known-id known-small
+    pub header-here : Headed s at stop id (6 + length own + size kids)
+    header-here = known-header s at stop (around p) id own kids rest (h .stands) (parsed (known id own kids rest) h)
 
     pub own-here : own ≡ slice (at + 6) (at + 6 + length own) s
-    own-here = known-own s at stop (h .stays) id own kids rest (h .is) known-id known-small
+    own-here = Chunks.own-here s at stop (around p) id own kids rest (h .stands) (parsed (known id own kids rest) h)
 
-    pub kids-here : Spans (inside p id own) kids s (at + (6 + length own)) (at + (6 + length own + size kids))
+    pub kids-here : Spans (inside p (h .seen) id own) kids s (at + (6 + length own)) (at + (6 + length own + size kids))
     kids-here = record {
-      order = omega arith;
-      stays = omega (arith, stands-here .ends, h .stays);
-      short = h .short;
-      is = known-kids s at stop (h .stays) id own kids rest (h .is) known-id known-small;
-      obeys = h .obeys .1;
+      seen = [];
+      stands = Chunks.kids-here s at stop (around p) id own kids rest (h .stands) (parsed (known id own kids rest) h);
+      obeys = h .obeys .2;
     }
 
     -- the same, by the length field
-    pub kids-at : (from n : ℕ) → from ≡ at + (6 + length own) → n ≡ longAt s (at + 2) → Spans (inside p id own) kids s from (at + n)
-    kids-at from n e f = rw (e, f, stands-here .length-is) kids-here
+    pub kids-at : (from n : ℕ) → from ≡ at + (6 + length own) → n ≡ longAt s (at + 2) → Spans (inside p (h .seen) id own) kids s from (at + n)
+    kids-at from n e f = rw (e, f, header-here .length-is) kids-here
 
     pub after-known : Spans p rest s (at + (6 + length own + size kids)) stop
     after-known = record {
-      order = omega (arith, stands-here .ends);
-      stays = h .stays;
-      short = h .short;
-      is = known-rest s at stop (h .stays) id own kids rest (h .is) known-id known-small;
-      obeys = h .obeys .2;
+      seen = id ∷ h .seen;
+      stands = Chunks.after-known s at stop (around p) id own kids rest (h .stands) (parsed (known id own kids rest) h);
+      obeys = h .obeys .3;
     }
 
 -- ---- the first child x
@@ -149,7 +135,7 @@ module _ (x : ℕ) (p : Parent) (t : Run) (s : List ℕ) (at stop : ℕ) (h : Sp
       go : (onward x t ≡ end) ⊎ ((own : List ℕ) × (kids : Run) × (rest : Run) × (onward x t ≡ known x own kids rest)) → Spans p (onward x t) s (offsetOf x at t) stop → onward x t ≡ end
       go (inl e) q = e
       go (inr (own, kids, rest, e)) q =
-          absurd (omega (arith, l, stands-here p s (offsetOf x at t) stop x own kids rest (subst (λ (r : Run). Spans p r s (offsetOf x at t) stop) e q) .six))
+          absurd (omega (arith, l, header-here p s (offsetOf x at t) stop x own kids rest (subst (λ (r : Run). Spans p r s (offsetOf x at t) stop) e q) .six))
 
 -- ---- looking for x, from position to position
 
@@ -161,15 +147,15 @@ pub record Reached (x : ℕ) (p : Parent) (t : Run) (s : List ℕ) (at stop o : 
 -- before the end of a run a header stands
 pub header-there : (p : Parent) (t : Run) (s : List ℕ) (o stop : ℕ) → Spans p t s o stop → o < stop → o + 6 ≤ stop
 header-there p end s o stop h b = absurd (omega (arith, span-size p s o stop end h))
-header-there p (skip id body rest) s o stop h b = skipped-stands p s o stop id body rest h .six
-header-there p (known id own kids rest) s o stop h b = stands-here p s o stop id own kids rest h .six
+header-there p (skip id body rest) s o stop h b = skipped-header p s o stop id body rest h .six
+header-there p (known id own kids rest) s o stop h b = header-here p s o stop id own kids rest h .six
 
 module _ (x : ℕ) (l : listed x ≡ true) (p : Parent) (s : List ℕ) (o stop : ℕ) where
   -- it is x
   pub reached-x : (t : Run) → Spans p t s o stop → o < stop → wordAt s o ≡ x → offsetOf x o t ≡ o
   reached-x end h b e = refl
-  reached-x (skip id body rest) h b e = absurd (skip-other p s o stop id body rest h x l (sym (skipped-stands p s o stop id body rest h .id-is) ∙ e))
-  reached-x (known id own kids rest) h b e = rw (eq-eqb id x (sym (stands-here p s o stop id own kids rest h .id-is) ∙ e))
+  reached-x (skip id body rest) h b e = absurd (unlisted-other id x (h .obeys .0) l (sym (skipped-header p s o stop id body rest h .id-is) ∙ e))
+  reached-x (known id own kids rest) h b e = rw (eq-eqb id x (sym (header-here p s o stop id own kids rest h .id-is) ∙ e))
 
   -- it is another, and its length leads to the next
   pub record Passed (t : Run) : Type 0 where
@@ -182,7 +168,7 @@ module _ (x : ℕ) (l : listed x ≡ true) (p : Parent) (s : List ℕ) (o stop :
   pub passed : (t : Run) → Spans p t s o stop → o < stop → (wordAt s o ≡ x → ⊥) → Passed t
   passed end h b e = absurd (omega (arith, span-size p s o stop end h))
   passed (skip id body rest) h b e =
-      let w = skipped-stands p s o stop id body rest h in record {
+      let w = skipped-header p s o stop id body rest h in record {
         rest = rest;
         ends = omega (arith, w .ends, w .length-is);
         on = omega (arith, w .length-is);
@@ -190,7 +176,7 @@ module _ (x : ℕ) (l : listed x ≡ true) (p : Parent) (s : List ℕ) (o stop :
         same = rw (w .length-is);
       }
   passed (known id own kids rest) h b e =
-      let w = stands-here p s o stop id own kids rest h in record {
+      let w = header-here p s o stop id own kids rest h in record {
         rest = rest;
         ends = omega (arith, w .ends, w .length-is);
         on = omega (arith, w .length-is);

@@ -12,7 +12,8 @@ use Rattle.shared_words.specs.Lists.{every}
 use Rattle.shared_words.specs.Lists.{among}
 use Rattle.studio_rules.specs.Table.{theFile, rows, rowOf, atMostOne, atLeastOne, under, limits, needs}
 use Rattle.studio_rules.specs.Layout.{Run, end, skip, known, size, identifiers, offsetOf}
-use Rattle.studio_rules.specs.Rules.{Parent, inside, tally, few, Obeys}
+use Rattle.studio_rules.specs.Rules.{tally, few}
+use Rattle.studio_rules.specs.Parses.{Place, within, Parses}
 use Rattle.studio_rules.specs.Gives.{meshesOf}
 use Rattle.shared_words.proofs.Bools.{and-parts, or-second}
 use Rattle.studio_rules.proofs.Rows.{everyId, among-every, listed-every, under-listed}
@@ -68,18 +69,18 @@ to-mesh = leads-by 0x4000 0x4100 refl
 
 -- ---- the meshes of a run
 
-pub no-meshes : (p : Parent) (t : Run) (o a n : ℕ) → onWay (p .id) ≡ false → Obeys p t → meshesOf o a n t ≡ []
+pub no-meshes : (p : Place) (t : Run) (o a n : ℕ) → onWay (p .id) ≡ false → Parses p t → meshesOf o a n t ≡ []
 no-meshes p end o a n w h = refl
 no-meshes p (skip id body rest) o a n w h = no-meshes p rest (o + (6 + length body)) a n w (h .1)
 no-meshes p (known id own kids rest) o a n w h =
     let f = off-way (p .id) id (h .0 .in-place) w in
     rw (
       f .0,
-      no-meshes (inside p id own) kids (o + (6 + length own)) (o + 6) (length own - 1) (f .1) (h .1),
+      no-meshes (within id own) kids (o + (6 + length own)) (o + 6) (length own - 1) (f .1) (h .1),
       no-meshes p rest (o + (6 + length own + size kids)) a n w (h .2),
     )
 
-pub meshes-onward : (x : ℕ) (p : Parent) → Leads (p .id) x → (t : Run) (o a n : ℕ) → Obeys p t → meshesOf o a n t ≡ meshesOf (offsetOf x o t) a n (onward x t)
+pub meshes-onward : (x : ℕ) (p : Place) → Leads (p .id) x → (t : Run) (o a n : ℕ) → Parses p t → meshesOf o a n t ≡ meshesOf (offsetOf x o t) a n (onward x t)
 meshes-onward x p w end o a n h = refl
 meshes-onward x p w (skip id body rest) o a n h = meshes-onward x p w rest (o + (6 + length body)) a n (h .1)
 meshes-onward x p w (known id own kids rest) o a n h = go (eqb id x) refl (meshes-onward x p w rest (o + (6 + length own + size kids)) a n (h .2))
@@ -89,7 +90,7 @@ meshes-onward x p w (known id own kids rest) o a n h = go (eqb id x) refl (meshe
     go true e ih = refl
     go false e ih =
         let f = w id (h .0 .in-place) e in
-        rw (f .0, no-meshes (inside p id own) kids (o + (6 + length own)) (o + 6) (length own - 1) (f .1) (h .1)) ih
+        rw (f .0, no-meshes (within id own) kids (o + (6 + length own)) (o + 6) (length own - 1) (f .1) (h .1)) ih
 
 -- ---- how many of an identifier
 
@@ -121,7 +122,7 @@ module _ (x : ℕ) (t : Run) (one : tally (x ∷ []) (identifiers t) ≤ 1) (own
       let b : tally (x ∷ []) (identifiers (known x own kids rest)) ≡ 1 + tally (x ∷ []) (identifiers rest) = rw (eq-eqb x x refl) in
       none-onward x rest (omega arith)
 
-  pub no-more-meshes : (p : Parent) → Leads (p .id) x → Obeys p rest → (o a n : ℕ) → meshesOf o a n rest ≡ []
+  pub no-more-meshes : (p : Place) → Leads (p .id) x → Parses p rest → (o a n : ℕ) → meshesOf o a n rest ≡ []
   no-more-meshes p w h o a n = meshes-onward x p w rest o a n h ∙ ap (meshesOf (offsetOf x o rest) a n) no-further
 
 -- those of an identifier are at most those of its group

@@ -2,21 +2,18 @@
 use mathlib.Core.Path.{_≡_}
 use mathlib.Core.Bool.{cond}
 use mathlib.Core.List.{List}
-use Prim.Native.Nat.{ℕ, _≤_}
+use Prim.Native.Nat.{ℕ}
 use lib.Dec.{eqb}
-use lib.ListN.{length}
-use lib.Seq.{slice}
 use Rattle.studio_rules.specs.Table.{shape, counted}
-use Rattle.studio_rules.specs.Layout.{Run, end, skip, known, bytes}
-use Rattle.studio_rules.specs.Rules.{Parent, limit, Obeys, Meets}
+use Rattle.studio_rules.specs.Layout.{Run, end, skip, known}
+use Rattle.studio_rules.specs.Rules.{Parent, Obeys, Meets}
+use Rattle.studio_stands.specs.Stands.{Stands}
 
--- the run t of p is what stands in the file s from `at` to `stop`
+-- the run t of p stands in the file s from `at` to `stop`, behind children with the identifiers `seen`, and obeys the rules
 pub record Spans (p : Parent) (t : Run) (s : List ℕ) (at stop : ℕ) : Type 0 where
-  pub order : at ≤ stop
-  pub stays : stop ≤ length s
-  pub short : length s ≤ limit
-  pub is : bytes t ≡ slice at stop s
-  pub obeys : Obeys p t
+  pub seen : List ℕ
+  pub stands : Stands t s at stop
+  pub obeys : Obeys p seen t
 
 abbrev pub SomeRun : List ℕ → ℕ → ℕ → Type 0
 SomeRun s at stop = (p : Parent) × (t : Run) × Spans p t s at stop

@@ -13,7 +13,6 @@ use Rattle.shared_words.specs.declared.Refusal.{Refusal}
 use Rattle.shared_words.specs.declared.Refusal.the-variants.{Name, Length, Number, Index}
 use Rattle.shared_words.specs.Bytes.{le}
 use Rattle.studio_rules.specs.Table.{Shape, listed, shape, plus}
-use Rattle.studio_rules.specs.Layout.{end}
 use Rattle.studio_rules.specs.OwnData.{ownSize, hasName}
 use Rattle.studio_rules.specs.Rules.{Parent, numbersFinite, faceNumbersBelow}
 use Rattle.shared_words.specs.Conditions.{broken}
@@ -56,13 +55,13 @@ module _ (p : Parent) (o id : ℕ) (body : List ℕ) where
       past : broken (ownConditions p o id body (ownSize (shape id) (p .own) body)) ≡ broken (drop 3 (ownConditions p o id body (ownSize (shape id) (p .own) body)))
       past = broken-later _ _ _ (fits .named) ∙ broken-later _ _ _ within ∙ broken-later _ _ _ (rw (← (fits .is)) all)
 
-      pub judge-number : numbersFinite p id (take k body) end ≡ false → Judges p o id body (Judged.Fault (Number o))
+      pub judge-number : numbersFinite p id (take k body) ≡ false → Judges p o id body (Judged.Fault (Number o))
       judge-number h = judges (some (Number o)) _ (past ∙ broken-here _ _ _ (rw (← (fits .is)) h)) refl
 
-      pub judge-index : numbersFinite p id (take k body) end ≡ true → faceNumbersBelow p id (take k body) end ≡ false → Judges p o id body (Judged.Fault (Index o))
+      pub judge-index : numbersFinite p id (take k body) ≡ true → faceNumbersBelow p id (take k body) ≡ false → Judges p o id body (Judged.Fault (Index o))
       judge-index f h = judges (some (Index o)) _ (past ∙ broken-later _ _ _ (rw (← (fits .is)) f) ∙ broken-here _ _ _ (rw (← (fits .is)) h)) refl
 
-      pub judge-fine : numbersFinite p id (take k body) end ≡ true → faceNumbersBelow p id (take k body) end ≡ true → Judges p o id body (Judged.Size k)
+      pub judge-fine : numbersFinite p id (take k body) ≡ true → faceNumbersBelow p id (take k body) ≡ true → Judges p o id body (Judged.Size k)
       judge-fine f h = judges none _ (past ∙ broken-later _ _ _ (rw (← (fits .is)) f) ∙ broken-later _ _ _ (rw (← (fits .is)) h) ∙ unbroken [] tt) (ap Judged.Size (fits .is))
 
 -- ---- a plain row: its size is all that is asked

@@ -10,7 +10,6 @@ use lib.Seq.{slice, length-slice}
 use borrow.Author.Tests.{not-true, not-false, le-leb, lt-leb, leb-true, leb-false}
 use Rattle.shared_words.specs.declared.Refusal.the-variants.{Length, Number, Index}
 use Rattle.studio_rules.specs.Table.{Shape, counted, named-words, rows, listed, shape, plus}
-use Rattle.studio_rules.specs.Layout.{end}
 use Rattle.studio_rules.specs.OwnData.{ownSize}
 use Rattle.studio_rules.specs.Rules.{Parent, numbersFinite, faceNumbersBelow}
 use Rattle.studio_rules.proofs.OwnSize.{own-size-less}
@@ -83,18 +82,18 @@ module _ (p : Parent) {s : List ℕ} {at stop id row k : ℕ} (z : Sized s at st
     whole : (plus id || leb (length (slice (at + 6) stop s)) k) ≡ true
     whole = left-over-is z ∙ not-false _ l
 
-    finite-as : {b : Bool} → numbersFinite p id (slice (at + 6) (at + 6 + k) s) end ≡ b → numbersFinite p id (take k (slice (at + 6) stop s)) end ≡ b
-    finite-as e = ap (λ (own : List ℕ). numbersFinite p id own end) (own-is z) ∙ e
+    finite-as : {b : Bool} → numbersFinite p id (slice (at + 6) (at + 6 + k) s) ≡ b → numbersFinite p id (take k (slice (at + 6) stop s)) ≡ b
+    finite-as e = ap (λ (own : List ℕ). numbersFinite p id own) (own-is z) ∙ e
 
-    below-as : {b : Bool} → faceNumbersBelow p id (slice (at + 6) (at + 6 + k) s) end ≡ b → faceNumbersBelow p id (take k (slice (at + 6) stop s)) end ≡ b
-    below-as e = ap (λ (own : List ℕ). faceNumbersBelow p id own end) (own-is z) ∙ e
+    below-as : {b : Bool} → faceNumbersBelow p id (slice (at + 6) (at + 6 + k) s) ≡ b → faceNumbersBelow p id (take k (slice (at + 6) stop s)) ≡ b
+    below-as e = ap (λ (own : List ℕ). faceNumbersBelow p id own) (own-is z) ∙ e
 
-    pub has-bad-number : numbersFinite p id (slice (at + 6) (at + 6 + k) s) end ≡ false → Judges p at id (slice (at + 6) stop s) (Judged.Fault (Number at))
+    pub has-bad-number : numbersFinite p id (slice (at + 6) (at + 6 + k) s) ≡ false → Judges p at id (slice (at + 6) stop s) (Judged.Fault (Number at))
     has-bad-number n = judge-number p at id (slice (at + 6) stop s) k (z .fits) whole (finite-as n)
 
-    module _ (n : numbersFinite p id (slice (at + 6) (at + 6 + k) s) end ≡ true) where
-      pub has-bad-index : faceNumbersBelow p id (slice (at + 6) (at + 6 + k) s) end ≡ false → Judges p at id (slice (at + 6) stop s) (Judged.Fault (Index at))
+    module _ (n : numbersFinite p id (slice (at + 6) (at + 6 + k) s) ≡ true) where
+      pub has-bad-index : faceNumbersBelow p id (slice (at + 6) (at + 6 + k) s) ≡ false → Judges p at id (slice (at + 6) stop s) (Judged.Fault (Index at))
       has-bad-index b = judge-index p at id (slice (at + 6) stop s) k (z .fits) whole (finite-as n) (below-as b)
 
-      pub is-fine : faceNumbersBelow p id (slice (at + 6) (at + 6 + k) s) end ≡ true → Judges p at id (slice (at + 6) stop s) (Judged.Size k)
+      pub is-fine : faceNumbersBelow p id (slice (at + 6) (at + 6 + k) s) ≡ true → Judges p at id (slice (at + 6) stop s) (Judged.Size k)
       is-fine b = judge-fine p at id (slice (at + 6) stop s) k (z .fits) whole (finite-as n) (below-as b)

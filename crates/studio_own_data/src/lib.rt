@@ -9,7 +9,6 @@ ghost use lib.Seq.{slice};
 ghost use lib.Dec.{leb};
 ghost use mathlib.Core.Bool.{true, not, _||_};
 ghost use Rattle.studio_rules.specs.Table.{listed};
-ghost use Rattle.studio_rules.specs.Layout.{end};
 ghost use Rattle.studio_rules.specs.Rules.{Parent, numbersFinite, faceNumbersBelow};
 ghost use Rattle.studio_row.specs.Packed.{plusIn, rowOf};
 ghost use Rattle.studio_own_size.specs.Own.{CountIs};
@@ -18,7 +17,7 @@ ghost use Rattle.studio_own_data.specs.Judges.{Exact, Judges};
 // Whether the floats of a 4110 or a 4140, whose own data stands from at to stop, are finite.
 fn numbers_finite(file: &[u8], id: usize, at: usize, stop: usize) -> bool
     requires { ⌜ (at ≤ stop) × (stop ≤ length (now file)) × Exact id (slice at stop (now file)) ⌝ }
-    ensures { λ r. ⌜ ((p : Parent) → r ≡ numbersFinite p id (slice at stop (now (file .entry))) end) ⌝ }
+    ensures { λ r. ⌜ ((p : Parent) → r ≡ numbersFinite p id (slice at stop (now (file .entry)))) ⌝ }
 {
     if id == 0x4110 {
         let n = word_at(file, at) as usize;
@@ -34,7 +33,7 @@ fn numbers_finite(file: &[u8], id: usize, at: usize, stop: usize) -> bool
 // Whether the face numbers of a 4130 are below f, the count word of the 4120 around it.
 fn face_numbers_below(file: &[u8], id: usize, f: u32, at: usize, stop: usize) -> bool
     requires { ⌜ (at ≤ stop) × (stop ≤ length (now file)) × Exact id (slice at stop (now file)) ⌝ }
-    ensures { λ r. ⌜ ((p : Parent) → CountIs (p .own) f → r ≡ faceNumbersBelow p id (slice at stop (now (file .entry))) end) ⌝ }
+    ensures { λ r. ⌜ ((p : Parent) → CountIs (p .own) f → r ≡ faceNumbersBelow p id (slice at stop (now (file .entry)))) ⌝ }
 {
     if id == 0x4130 {
         let size = studio_names::name_size(file, at, stop);

@@ -15,7 +15,7 @@ use Rattle.studio_rules.specs.OwnData.{ownSize}
 use Rattle.studio_rules.specs.Layout.{Run, end}
 use Rattle.studio_rules.specs.Rules.{Parent, inside}
 use Rattle.shared_words.specs.Conditions.{broken, Answer, accepted}
-use Rattle.studio_rules.specs.Walk.{Step, stop, pass, enter, headerConditions, childConditions, opened, sorted, parted, lengthField, step, taken, run, walk}
+use Rattle.studio_rules.specs.Walk.{Step, stop, pass, enter, headerConditions, childConditions, opened, sorted, parted, lengthField, step, taken, run, walk, toldBy, versionRun, versionIn}
 use Rattle.shared_words.proofs.Conditions.{met}
 
 -- what a step leaves to walk is shorter than n
@@ -52,7 +52,7 @@ taken-same : (n : ℕ) (go go′ : Parent → List ℕ → ℕ → List ℕ → 
 taken-same n go go′ h p seen o (stop r) l = refl
 taken-same n go go′ h p seen o (pass id body rest) l = rw (h p seen (o + (6 + length body)) rest l)
 taken-same n go go′ h p seen o (enter id own kids rest) l =
-    rw (h (inside p id own) [] (o + (6 + length own)) kids (l .0), h p (id ∷ seen) (o + (6 + length own + length kids)) rest (l .1))
+    rw (h (inside p seen id own) [] (o + (6 + length own)) kids (l .0), h p (id ∷ seen) (o + (6 + length own + length kids)) rest (l .1))
 
 run-same : (k k′ : ℕ) (p : Parent) (seen : List ℕ) (o : ℕ) (s : List ℕ) → length s < k → length s < k′ → run k p seen o s ≡ run k′ p seen o s
 run-same zero k′ p seen o s h h′ = absurd (omega arith)
@@ -70,3 +70,26 @@ pub walk-cons : (p : Parent) (seen : List ℕ) (o x : ℕ) (s : List ℕ) → wa
 unfolding walk
 walk-cons p seen o x s =
     taken-same (length (x ∷ s)) (run (length (x ∷ s))) walk (λ p seen o t l. run-same (length (x ∷ s)) (suc (length t)) p seen o t l (omega arith)) p seen o (step p seen o (x ∷ s)) (step-short p seen o (x ∷ s))
+
+-- ---- the version, likewise
+
+told-same : (go go′ : List ℕ → ℕ) (s : List ℕ) (n : ℕ) (r : Option Refusal) → broken (headerConditions 0 s n) ≡ r → ((t : List ℕ) → length t < length s → go t ≡ go′ t) →
+    toldBy go s n r ≡ toldBy go′ s n r
+told-same go go′ s n (some r) e h = refl
+told-same go go′ s n none e h =
+    let t = met _ e in
+    let l₁ : 6 ≤ length s = leb-true _ _ (t .0) in
+    let l₂ : 6 ≤ n = leb-true _ _ (t .1 .0) in
+    rw (h (drop n s) (omega (arith, length-drop n s)))
+
+version-same : (k k′ : ℕ) (s : List ℕ) → length s < k → length s < k′ → versionRun k s ≡ versionRun k′ s
+version-same zero k′ s h h′ = absurd (omega arith)
+version-same (suc k) zero s h h′ = absurd (omega arith)
+version-same (suc k) (suc k′) s h h′ =
+    told-same (versionRun k) (versionRun k′) s (lengthField s) (broken (headerConditions 0 s (lengthField s))) refl (λ t l. version-same k k′ t (omega arith) (omega arith))
+
+-- THE EQUATION
+pub version-next : (s : List ℕ) → versionIn s ≡ toldBy versionIn s (lengthField s) (broken (headerConditions 0 s (lengthField s)))
+unfolding versionIn
+version-next s =
+    told-same (versionRun (length s)) versionIn s (lengthField s) (broken (headerConditions 0 s (lengthField s))) refl (λ t l. version-same (length s) (suc (length t)) t l (omega arith))

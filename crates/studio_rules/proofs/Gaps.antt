@@ -4,11 +4,11 @@ use mathlib.Core.Path.{_≡_, refl, sym, _∙_}
 use Prim.Native.Nat.{ℕ, _+_}
 use native.Mathlib.Omega.{arith}
 use mathlib.Core.Bool.{true, false, true≢false, false≢true}
-use mathlib.Core.List.{List}
+use mathlib.Core.List.{List, [], _∷_}
 use lib.ListN.{length}
 use Rattle.studio_rules.specs.Table.{plus}
-use Rattle.studio_rules.specs.Layout.{size, identifiers, child}
-use Rattle.studio_rules.specs.Rules.{Parent, inside, noChild, cornersBelow, mappingMatches, notTwice, noneMissing, Lawful, Obeys}
+use Rattle.studio_rules.specs.Layout.{Run, size, identifiers, child}
+use Rattle.studio_rules.specs.Rules.{Parent, inside, noChild, childrenInPlus, Children, Obeys}
 use Rattle.studio_rules.specs.Gives.{recordCount, headers, owned, skipped}
 use Rattle.studio_rules.specs.Gaps.{Marked, end, put, skip, known, without, with, InGaps}
 use Rattle.shared_words.proofs.Bools.{or-else, or-second}
@@ -54,7 +54,7 @@ skipped-grows (known id own kids rest) = omega (arith, skipped-grows kids, skipp
 
 -- ---- the children of one chunk
 
-identifiers-same : (m : Marked) → identifiers (with m) ≡ identifiers (without m)
+pub identifiers-same : (m : Marked) → identifiers (with m) ≡ identifiers (without m)
 identifiers-same end = refl
 identifiers-same (put id body rest) = identifiers-same rest
 identifiers-same (skip id body rest) = identifiers-same rest
@@ -80,53 +80,51 @@ no-child-taken (known id own kids rest) h = h
 
 -- ---- the rules
 
-module _ (p : Parent) (id : ℕ) (own : List ℕ) (m : Marked) where
-  pub corners-same : cornersBelow p id own (with m) ≡ cornersBelow p id own (without m)
-  corners-same = rw (child-same 0x4110 m, child-same 0x4120 m)
+-- two runs with the same known children, of which the rules of children look at these two things
+pub record Alike (a b : Run) : Type 0 where
+  pub ids : identifiers b ≡ identifiers a
+  pub owns : (x : ℕ) → child x b ≡ child x a
 
-  pub mapping-same : mappingMatches p id own (with m) ≡ mappingMatches p id own (without m)
-  mapping-same = rw (identifiers-same m, child-same 0x4140 m, child-same 0x4110 m)
+pub children-alike : (q : Parent) (a b : Run) → Alike a b → childrenInPlus q b ≡ true → Children q a → Children q b
+children-alike q a b h i l = record {
+  in-plus = i;
+  none-missing = rw (h .ids) (l .none-missing);
+  corners-below = rw (h .owns 0x4110, h .owns 0x4120) (l .corners-below);
+  mapping-matches = rw (h .ids, h .owns 0x4140, h .owns 0x4110) (l .mapping-matches);
+}
 
-  pub twice-same : notTwice p id own (with m) ≡ notTwice p id own (without m)
-  twice-same = rw (identifiers-same m)
+alike-put : (m : Marked) → Alike (without m) (with m)
+alike-put m = record { ids = identifiers-same m; owns = λ x. child-same x m }
 
-  pub missing-same : noneMissing p id own (with m) ≡ noneMissing p id own (without m)
-  missing-same = rw (identifiers-same m)
+alike-taken : (m : Marked) → Alike (with m) (without m)
+alike-taken m = record { ids = sym (identifiers-same m); owns = λ x. sym (child-same x m) }
 
-  lawful-put : InGaps id m → Lawful p id own (without m) → Lawful p id own (with m)
-  lawful-put g l = record {
-    in-place = l .in-place;
-    children-in-plus = or-else (plus id) (noChild (with m)) (λ e. no-child-put id m g e (or-second (plus id) (noChild (without m)) (l .children-in-plus) e));
-    own-data-exact = l .own-data-exact;
-    numbers-finite = l .numbers-finite;
-    face-numbers-below = l .face-numbers-below;
-    corners-below = corners-same ∙ l .corners-below;
-    mapping-matches = mapping-same ∙ l .mapping-matches;
-    not-twice = twice-same ∙ l .not-twice;
-    none-missing = missing-same ∙ l .none-missing;
-  }
+in-plus-put : (q : Parent) (m : Marked) → InGaps (q .id) m → childrenInPlus q (without m) ≡ true → childrenInPlus q (with m) ≡ true
+in-plus-put q m g h = or-else (plus (q .id)) _ (λ e. no-child-put (q .id) m g e (or-second (plus (q .id)) _ h e))
 
-  lawful-taken : Lawful p id own (with m) → Lawful p id own (without m)
-  lawful-taken l = record {
-    in-place = l .in-place;
-    children-in-plus = or-else (plus id) (noChild (without m)) (λ e. no-child-taken m (or-second (plus id) (noChild (with m)) (l .children-in-plus) e));
-    own-data-exact = l .own-data-exact;
-    numbers-finite = l .numbers-finite;
-    face-numbers-below = l .face-numbers-below;
-    corners-below = sym corners-same ∙ l .corners-below;
-    mapping-matches = sym mapping-same ∙ l .mapping-matches;
-    not-twice = sym twice-same ∙ l .not-twice;
-    none-missing = sym missing-same ∙ l .none-missing;
-  }
+in-plus-taken : (q : Parent) (m : Marked) → childrenInPlus q (with m) ≡ true → childrenInPlus q (without m) ≡ true
+in-plus-taken q m h = or-else (plus (q .id)) _ (λ e. no-child-taken m (or-second (plus (q .id)) _ h e))
 
-pub obeys-put : (p : Parent) (m : Marked) → InGaps (p .id) m → Obeys p (without m) → Obeys p (with m)
-obeys-put p end g h = tt
-obeys-put p (put id body rest) g h = (g .1, obeys-put p rest (g .2) h)
-obeys-put p (skip id body rest) g h = (h .0, obeys-put p rest g (h .1))
-obeys-put p (known id own kids rest) g h = (lawful-put p id own kids (g .0) (h .0), obeys-put (inside p id own) kids (g .0) (h .1), obeys-put p rest (g .1) (h .2))
+pub obeys-put : (p : Parent) (seen : List ℕ) (m : Marked) → InGaps (p .id) m → Obeys p seen (without m) → Obeys p seen (with m)
+obeys-put p seen end g h = tt
+obeys-put p seen (put id body rest) g h = (g .1, obeys-put p seen rest (g .2) h)
+obeys-put p seen (skip id body rest) g h = (h .0, obeys-put p seen rest g (h .1))
+obeys-put p seen (known id own kids rest) g h =
+    let q : Parent = inside p seen id own in (
+      h .0,
+      children-alike q (without kids) (with kids) (alike-put kids) (in-plus-put q kids (g .0) (h .1 .in-plus)) (h .1),
+      obeys-put q [] kids (g .0) (h .2),
+      obeys-put p (id ∷ seen) rest (g .1) (h .3),
+    )
 
-pub obeys-taken : (p : Parent) (m : Marked) → Obeys p (with m) → Obeys p (without m)
-obeys-taken p end h = tt
-obeys-taken p (put id body rest) h = obeys-taken p rest (h .1)
-obeys-taken p (skip id body rest) h = (h .0, obeys-taken p rest (h .1))
-obeys-taken p (known id own kids rest) h = (lawful-taken p id own kids (h .0), obeys-taken (inside p id own) kids (h .1), obeys-taken p rest (h .2))
+pub obeys-taken : (p : Parent) (seen : List ℕ) (m : Marked) → Obeys p seen (with m) → Obeys p seen (without m)
+obeys-taken p seen end h = tt
+obeys-taken p seen (put id body rest) h = obeys-taken p seen rest (h .1)
+obeys-taken p seen (skip id body rest) h = (h .0, obeys-taken p seen rest (h .1))
+obeys-taken p seen (known id own kids rest) h =
+    let q : Parent = inside p seen id own in (
+      h .0,
+      children-alike q (with kids) (without kids) (alike-taken kids) (in-plus-taken q kids (h .1 .in-plus)) (h .1),
+      obeys-taken q [] kids (h .2),
+      obeys-taken p (id ∷ seen) rest (h .3),
+    )

@@ -7,10 +7,12 @@ pub mod OwnSize
 pub mod Steps
 pub mod Sound
 pub mod Complete
+pub mod Version
 pub mod Verdict
 pub mod Fuel
 pub mod Gaps
 pub mod Pieces
 pub mod Moved
+pub mod Parses
 pub mod Theorems
 pub mod Samples

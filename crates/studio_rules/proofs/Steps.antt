@@ -2,8 +2,8 @@
 use mathlib.Core.Path.{_≡_, refl, sym, ap, _∙_}
 use Prim.Native.Nat.{ℕ, _+_, _-_, _≤_, _<_}
 use native.Mathlib.Omega.{arith}
-use mathlib.Core.Bool.{Bool, true, false}
-use mathlib.Core.List.{List, [], _∷_, _++_, append-assoc}
+use mathlib.Core.Bool.{Bool, true, false, _||_}
+use mathlib.Core.List.{List, [], _++_, append-assoc}
 use mathlib.Core.Option.{Option, none, some}
 use lib.ListN.{length, take, drop, take-append-drop, length-drop, length-append, drop-of-length-le}
 use lib.Seq.{length-take-le, drop-drop}
@@ -13,8 +13,8 @@ use Rattle.shared_words.specs.declared.Refusal.{Refusal}
 use Rattle.shared_words.specs.Bytes.{value, Bytes}
 use Rattle.studio_rules.specs.Table.{plus, listed, shape}
 use Rattle.studio_rules.specs.OwnData.{ownSize}
-use Rattle.studio_rules.specs.Layout.{end, header}
-use Rattle.studio_rules.specs.Rules.{Parent, few, unlisted, inPlace, ownDataExact, numbersFinite, faceNumbersBelow}
+use Rattle.studio_rules.specs.Layout.{header}
+use Rattle.studio_rules.specs.Rules.{Parent, unlisted, Own}
 use Rattle.shared_words.specs.Conditions.{broken}
 use Rattle.studio_rules.specs.Walk.{Step, stop, pass, enter, headerConditions, childConditions, opened, sorted, parted, lengthField, step}
 use Rattle.shared_words.proofs.Bools.{both, or-second}
@@ -30,11 +30,7 @@ pub record Passed (s : List ℕ) (id : ℕ) (body rest : List ℕ) : Type 0 wher
 
 pub record Entered (p : Parent) (seen s : List ℕ) (id : ℕ) (own kids rest : List ℕ) : Type 0 where
   pub is : header id (6 + length own + length kids) ++ (own ++ (kids ++ rest)) ≡ s
-  pub in-place : inPlace p id own end ≡ true
-  pub not-twice : few (p .id) (id ∷ seen) ≡ true
-  pub own-data-exact : ownDataExact p id own end ≡ true
-  pub numbers-finite : numbersFinite p id own end ≡ true
-  pub face-numbers-below : faceNumbersBelow p id own end ≡ true
+  pub lawful : Own p seen id own
   pub leaf : plus id ≡ false → kids ≡ []
   pub kids-bytes : Bytes kids
   pub rest-bytes : Bytes rest
@@ -55,17 +51,23 @@ module _ (p : Parent) (seen : List ℕ) (o : ℕ) (s : List ℕ) (id : ℕ) (bod
   enter-says : (k : ℕ) → ownSize (shape id) (p .own) body ≡ k → Met (childConditions p seen o id body k) →
       Entered p seen s id (take k body) (drop k body) rest
   enter-says k z t =
-      let within : k ≤ length body = leb-true _ _ (t .1 .1 .1 .0) in
+      let fits : leb k (length body) ≡ true = search in
+      let leaf : (plus id || leb (length body) k) ≡ true = search in
+      let within : k ≤ length body = leb-true _ _ fits in
       let lk : length (take k body) ≡ k = length-take-le k body within in
       let m : 6 + length (take k body) + length (drop k body) ≡ 6 + length body = omega (arith, split-length k body) in
+      let z₁ : ownSize (shape id) (p .own) (take k body) ≡ length (take k body) =
+      own-size-less (shape id) (p .own) (take k body) (drop k body) (rw (take-append-drop k body, lk) z) in
       record {
         is = rw (m, split-again k body rest) is;
-        in-place = search;
-        not-twice = search;
-        own-data-exact = eq-eqb _ _ (own-size-less (shape id) (p .own) (take k body) (drop k body) (rw (take-append-drop k body, lk) z));
-        numbers-finite = search;
-        face-numbers-below = search;
-        leaf = λ q. drop-of-length-le body (leb-true _ _ (or-second (plus id) (leb (length body) k) (t .1 .1 .1 .1 .0) q));
+        lawful = record {
+          in-place = search;
+          not-twice = search;
+          own-data-exact = eq-eqb _ _ z₁;
+          numbers-finite = search;
+          face-numbers-below = search;
+        };
+        leaf = λ q. drop-of-length-le body (leb-true _ _ (or-second (plus id) (leb (length body) k) leaf q));
         kids-bytes = bytes-drop k body body-bytes;
         rest-bytes = rest-bytes;
       }

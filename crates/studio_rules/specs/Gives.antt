@@ -8,7 +8,11 @@ use Rattle.studio_rules.specs.declared.Record.{Record}
 use Rattle.studio_rules.specs.OwnData.{count, vertexNumbers, faceCorners}
 use Rattle.studio_rules.specs.Layout.{Run, end, skip, known, figure, size, child}
 
--- ---- the list: a Record of six numbers for each known chunk
+-- ---- the list: a Record for each known chunk
+
+-- how many numbers it has
+abbrev pub recordNumbers : ℕ
+recordNumbers = 6
 
 -- how many known chunks a run holds, at any depth
 abbrev pub recordCount : Run → ℕ
@@ -16,12 +20,17 @@ recordCount end = 0
 recordCount (skip id body rest) = recordCount rest
 recordCount (known id own kids rest) = suc (recordCount kids + recordCount rest)
 
+-- the record of a known chunk at offset o, at a depth, in the chunk of record `parent`
+abbrev pub recordOf : ℕ → ℕ → ℕ → ℕ → List ℕ → Run → Record
+recordOf o depth parent id own kids =
+    record { identifier = id; offset = o; len = 6 + length own + size kids; depth = depth; parent = parent; own = length own }
+
 -- the records of a run that begins at offset o, at a depth, in the chunk of record `parent`; the first has number `next`
 abbrev pub recordsOf : ℕ → ℕ → ℕ → ℕ → Run → List Record
 recordsOf o depth parent next end = []
 recordsOf o depth parent next (skip id body rest) = recordsOf (o + (6 + length body)) depth parent next rest
 recordsOf o depth parent next (known id own kids rest) =
-    record { identifier = id; offset = o; len = 6 + length own + size kids; depth = depth; parent = parent; own = length own } ∷
+    recordOf o depth parent id own kids ∷
     (recordsOf (o + (6 + length own)) (suc depth) next (suc next) kids ++
     recordsOf (o + (6 + length own + size kids)) depth parent (suc (next + recordCount kids)) rest)
 
@@ -29,7 +38,7 @@ recordsOf o depth parent next (known id own kids rest) =
 abbrev pub list : Run → List Record
 list kids = recordsOf 0 0 0 0 (figure kids)
 
--- the list as a flat row, six numbers a record
+-- the list as a flat row of numbers
 abbrev pub flat : List Record → List ℕ
 flat [] = []
 flat (r ∷ rs) = r .identifier ∷ r .offset ∷ r .len ∷ r .depth ∷ r .parent ∷ r .own ∷ flat rs

@@ -3,6 +3,7 @@ pub mod Apart
 pub mod OwnData
 pub mod Layout
 pub mod Rules
+pub mod Parses
 pub mod Walk
 pub mod Gives
 pub mod Box

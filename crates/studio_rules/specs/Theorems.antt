@@ -3,13 +3,14 @@
 use mathlib.Core.Path.{_≡_}
 use mathlib.Core.Logic.{_↔_}
 use Prim.Native.Nat.{ℕ, _+_, _≤_}
-use mathlib.Core.List.{List}
-use lib.ListN.{length}
+use mathlib.Core.Bool.{true}
+use mathlib.Core.List.{List, []}
+use lib.ListN.{length, drop}
 use Rattle.shared_words.specs.Bytes.{Bytes}
-use Rattle.studio_rules.specs.Layout.{Run, figure, bytes}
-use Rattle.studio_rules.specs.Rules.{limit, Meets}
+use Rattle.studio_rules.specs.Layout.{Run, figure, bytes, identifiers}
+use Rattle.studio_rules.specs.Rules.{Parent, few, Obeys, limit, version, Meets}
 use Rattle.shared_words.specs.Conditions.{accepted}
-use Rattle.studio_rules.specs.Walk.{verdict}
+use Rattle.studio_rules.specs.Walk.{versionIn, verdict}
 use Rattle.studio_rules.specs.Gives.{list, headers, owned, skipped, meshes}
 use Rattle.studio_rules.specs.Gaps.{Marked, figureOf, without, with, InGaps, Piece, pieces, bytesPut, Moved, SameMesh, Pairwise}
 
@@ -20,6 +21,14 @@ AcceptedExactly = (s : List ℕ) → Bytes s → (kids : Run) → (verdict s ≡
 -- A file has one layout.
 abbrev pub OneLayout : Type 0
 OneLayout = (s : List ℕ) (kids kids′ : Run) → Meets s kids → Meets s kids′ → kids ≡ kids′
+
+-- The version that the bytes of a file tell is that of its layout.
+abbrev pub VersionAgrees : Type 0
+VersionAgrees = (s : List ℕ) (kids : Run) → Meets s kids → versionIn (drop 6 s) ≡ version kids
+
+-- "At most one" is a rule of each child with those before it; so of all children of a chunk q at most one is of a group.
+abbrev pub AtMostOne : Type 0
+AtMostOne = (q : Parent) (kids : Run) → Obeys q [] kids → few (q .id) (identifiers kids) ≡ true
 
 -- The byte counts add to the file's length.
 abbrev pub CountsAdd : Type 0

@@ -9,20 +9,13 @@ use Rattle.shared_words.specs.Bytes.{value}
 use Rattle.studio_rules.specs.Layout.{Run, skip, known, size, header, bytes}
 use Rattle.shared_words.proofs.Bytes.{value-le}
 use Rattle.studio_rules.proofs.Sound.{length-bytes}
-use Rattle.shared_numbers.specs.Numbers.{wordAt, longAt}
+use Rattle.studio_stands.specs.Stands.{Headed}
 use Rattle.shared_numbers.proofs.Slices.{drop-slice, take-slice, word-slice, long-slice}
-
--- a header and what it counts, in the part of s from o to stop
-pub record Stands (s : List ℕ) (o stop id n : ℕ) : Type 0 where
-  pub six : o + 6 ≤ stop
-  pub ends : o + n ≤ stop
-  pub id-is : wordAt s o ≡ id
-  pub length-is : longAt s (o + 2) ≡ n
 
 module _ (s : List ℕ) (o stop : ℕ) (stays : stop ≤ length s) where
   -- bytes that begin with a header
-  stands : (id n : ℕ) (more : List ℕ) → header id n ++ more ≡ slice o stop s → id < 2 ^ 16 → n < 2 ^ 32 → n ≤ 6 + length more → Stands s o stop id n
-  stands id n more e i l f =
+  headed : (id n : ℕ) (more : List ℕ) → header id n ++ more ≡ slice o stop s → id < 2 ^ 16 → n < 2 ^ 32 → n ≤ 6 + length more → Headed s o stop id n
+  headed id n more e i l f =
       let z : 6 + length more ≡ stop - o = omega (arith, ap length e ∙ length-slice o stop s stays) in
       let w : o + 6 ≤ stop = omega arith in
       record {
@@ -46,16 +39,16 @@ module _ (s : List ℕ) (o stop : ℕ) (stays : stop ≤ length s) where
       take-slice (length part) (o + 6) stop s (omega (arith, length-append part more))
 
   module _ (id : ℕ) (body : List ℕ) (rest : Run) (e : bytes (skip id body rest) ≡ slice o stop s) (i : id < 2 ^ 16) (l : size (skip id body rest) < 2 ^ 32) where
-    pub skip-stands : Stands s o stop id (6 + length body)
-    skip-stands = stands id (6 + length body) (body ++ bytes rest) e i (omega arith) (omega (arith, length-append body (bytes rest)))
+    pub skip-headed : Headed s o stop id (6 + length body)
+    skip-headed = headed id (6 + length body) (body ++ bytes rest) e i (omega arith) (omega (arith, length-append body (bytes rest)))
 
     pub skip-rest : bytes rest ≡ slice (o + (6 + length body)) stop s
     skip-rest = behind id (6 + length body) body (bytes rest) e
 
   module _ (id : ℕ) (own : List ℕ) (kids rest : Run) (e : bytes (known id own kids rest) ≡ slice o stop s) (i : id < 2 ^ 16) (l : size (known id own kids rest) < 2 ^ 32) where
-    pub known-stands : Stands s o stop id (6 + length own + size kids)
-    known-stands =
-        stands id (6 + length own + size kids) (own ++ (bytes kids ++ bytes rest)) e i (omega arith)
+    pub known-headed : Headed s o stop id (6 + length own + size kids)
+    known-headed =
+        headed id (6 + length own + size kids) (own ++ (bytes kids ++ bytes rest)) e i (omega arith)
         (omega (arith, length-append own (bytes kids ++ bytes rest), length-append (bytes kids) (bytes rest), length-bytes kids))
 
     pub known-own : own ≡ slice (o + 6) (o + 6 + length own) s
@@ -68,7 +61,7 @@ module _ (s : List ℕ) (o stop : ℕ) (stays : stop ≤ length s) where
     known-kids =
         let k : o + (6 + length own) + size kids ≡ o + (6 + length own + size kids) = omega arith in
         sym (take-at (bytes kids) (bytes rest) (size kids) (length-bytes kids)) ∙ ap (take (size kids)) both ∙
-        take-slice (size kids) (o + (6 + length own)) stop s (omega (arith, known-stands .ends)) ∙ ap (λ (n : ℕ). slice (o + (6 + length own)) n s) k
+        take-slice (size kids) (o + (6 + length own)) stop s (omega (arith, known-headed .ends)) ∙ ap (λ (n : ℕ). slice (o + (6 + length own)) n s) k
 
     pub known-rest : bytes rest ≡ slice (o + (6 + length own + size kids)) stop s
     known-rest =

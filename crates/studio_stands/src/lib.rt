@@ -1,1 +1,1 @@
-// A layout that stands in a file: laws of where its chunks are. There is no code here.
+// Where the chunks of a layout stand in a file. What finds and lists chunks rests on these laws: there is no function.

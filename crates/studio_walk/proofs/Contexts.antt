@@ -38,8 +38,8 @@ module _ (p : Parent) (seen : List ℕ) (parent word : ℕ) (ms : List ℕ) (k :
           (λ z. omega (arith, k .marked j h .0 (sym g ∙ z)), λ z. g ∙ k .marked j h .1 (omega (arith, z)))
 
 -- one chunk deeper
-pub context-inside : (p : Parent) (id : ℕ) (own : List ℕ) (row word : ℕ) → listed id ≡ true → row ≡ rowOf id → CountIs own word → Context (inside p id own) [] row word noMarks
-context-inside p id own row word l e w = record {
+pub context-inside : (p : Parent) (seen : List ℕ) (id : ℕ) (own : List ℕ) (row word : ℕ) → listed id ≡ true → row ≡ rowOf id → CountIs own word → Context (inside p seen id own) [] row word noMarks
+context-inside p seen id own row word l e w = record {
   is-listed = l;
   row-is = e;
   count-is = w;

@@ -1,5 +1,5 @@
 -- A chunk with children, from what was found at its start to what it comes to at its end.
-use mathlib.Core.Path.{_≡_, sym, ap, _∙_, subst}
+use mathlib.Core.Path.{_≡_, refl, sym, ap, _∙_, subst}
 use mathlib.Core.List.{List, []}
 use Prim.Native.Nat.{ℕ, _+_, _≤_, _<_, _^_}
 use native.Mathlib.Omega.{arith}
@@ -16,7 +16,7 @@ use Rattle.studio_rules.proofs.Steps.{Says, Entered, step-says}
 use Rattle.studio_row.specs.Packed.{slotOf}
 use Rattle.studio_marks.specs.declared.Shut.{Shut}
 use Rattle.studio_marks.specs.Marks.{noMarks, Kept, ShutIs, MeshPlaced}
-use Rattle.studio_marks.proofs.Ends.{mesh-placed, kept-small}
+use Rattle.studio_marks.proofs.Ends.{mesh-placed}
 use Rattle.studio_head.specs.declared.Head.{Head}
 use Rattle.studio_walk.specs.declared.Ran.{Ran}
 use Rattle.studio_head.specs.Heads.{HeadIs, MarksAre, HeadWithin}
@@ -30,6 +30,7 @@ use Rattle.studio_walk.proofs.Chunks.{Entering, entering, Ran-well, run
 pub record Opened (s : List ℕ) (at end : ℕ) (q : Parent) (seen ms ms₁ : List ℕ) (id row word from past : ℕ) : Type 0 where
   pub starts : at < end
   pub ends : end ≤ length s
+  pub small : length s < 2 ^ 32
   pub are-bytes : Bytes s
   pub head : HeadIs at (step q seen at (slice at end s)) (Head.Enter id row word from past)
   pub marks : MarksAre at (step q seen at (slice at end s)) ms ms₁
@@ -49,18 +50,18 @@ module _ {s : List ℕ} {at end : ℕ} {q : Parent} {seen ms ms₁ : List ℕ} {
   kids-are = stands .kids-are ∙ ap (λ (k : ℕ). slice k (at + (6 + length (ent .own) + length (ent .kids))) s) (sym (ent .from-is)) ∙ ap (λ (k : ℕ). slice from k s) (sym (ent .past-is))
 
   -- its children are walked in it
-  pub inner-context : Context (inside q id (ent .own)) [] row word noMarks
-  inner-context = context-inside q id (ent .own) row word (under-listed (q .id) id (says .in-place)) (ent .row-is) record { is = ent .word-is; small = o .within .3 }
+  pub inner-context : Context (inside q seen id (ent .own)) [] row word noMarks
+  inner-context = context-inside q seen id (ent .own) row word (under-listed (q .id) id (says .lawful .in-place)) (ent .row-is) record { is = ent .word-is; small = o .within .3 }
 
-  inner-walk : walk (inside q id (ent .own)) [] (at + (6 + length (ent .own))) (ent .kids) ≡ walk (inside q id (ent .own)) [] from (slice from past s)
-  inner-walk = ap (walk (inside q id (ent .own)) [] (at + (6 + length (ent .own)))) kids-are ∙ ap (λ (k : ℕ). walk (inside q id (ent .own)) [] k (slice from past s)) (sym (ent .from-is))
+  inner-walk : walk (inside q seen id (ent .own)) [] (at + (6 + length (ent .own))) (ent .kids) ≡ walk (inside q seen id (ent .own)) [] from (slice from past s)
+  inner-walk = ap (walk (inside q seen id (ent .own)) [] (at + (6 + length (ent .own)))) kids-are ∙ ap (λ (k : ℕ). walk (inside q seen id (ent .own)) [] k (slice from past s)) (sym (ent .from-is))
 
   marks-are : ms₁ ≡ set ms (slotOf id) at
   marks-are = subst (λ (x : Step). MarksAre at x ms ms₁) (ent .is) (o .marks)
 
   -- back to the step and the marks as they are
-  whole : (z : Ran) → ChunkIs q at (enter id (ent .own) (ent .kids) (ent .rest)) z ms (set ms (slotOf id) at) → ChunkIs q at (step q seen at (slice at end s)) z ms ms₁
-  whole z h = subst (λ (x : Step). ChunkIs q at x z ms ms₁) (sym (ent .is)) (subst (ChunkIs q at (enter id (ent .own) (ent .kids) (ent .rest)) z ms) (sym marks-are) h)
+  whole : (z : Ran) → ChunkIs q seen at (enter id (ent .own) (ent .kids) (ent .rest)) z ms (set ms (slotOf id) at) → ChunkIs q seen at (step q seen at (slice at end s)) z ms ms₁
+  whole z h = subst (λ (x : Step). ChunkIs q seen at x z ms ms₁) (sym (ent .is)) (subst (ChunkIs q seen at (enter id (ent .own) (ent .kids) (ent .rest)) z ms) (sym marks-are) h)
 
   stays : past ≤ length s
   stays = omega (arith, o .within .2, o .ends)
@@ -70,42 +71,40 @@ module _ {s : List ℕ} {at end : ℕ} {q : Parent} {seen ms ms₁ : List ℕ} {
 
   -- what the run of its children came to
   pub record Children (r : Ran) (inner : List ℕ) : Type 0 where
-    pub are : RunIs past 0 0 from noMarks (walk (inside q id (ent .own)) [] from (slice from past s)) r inner
+    pub are : RunIs past 0 0 from noMarks (walk (inside q seen id (ent .own)) [] from (slice from past s)) r inner
 
   -- by what is known of that run in any context
   pub children : {r z : Ran} {inner : List ℕ} → ((p : Parent) (before : List ℕ) → Context p before row word noMarks → RunIs past 0 0 from noMarks (walk p before from (slice from past s)) r inner) → r ≡ z → Children z inner
   children {inner = inner} h e =
-      record { are = subst (λ (x : Ran). RunIs past 0 0 from noMarks (walk (inside q id (ent .own)) [] from (slice from past s)) x inner) e (h (inside q id (ent .own)) [] inner-context) }
+      record { are = subst (λ (x : Ran). RunIs past 0 0 from noMarks (walk (inside q seen id (ent .own)) [] from (slice from past s)) x inner) e (h (inside q seen id (ent .own)) [] inner-context) }
 
-  pub enter-refused : {y : Refusal} {inner : List ℕ} → Children (Ran.Refused y) inner → ChunkIs q at (step q seen at (slice at end s)) (Ran.Refused y) ms ms₁
+  pub enter-refused : {y : Refusal} {inner : List ℕ} → Children (Ran.Refused y) inner → ChunkIs q seen at (step q seen at (slice at end s)) (Ran.Refused y) ms ms₁
   enter-refused {y} {inner} h =
       whole (Ran.Refused y)
-      (chunk-refused q at id (ent .own) (ent .kids) (ent .rest) ms past (ent .past-is) y (inner-walk ∙ run-refused q s at id from past (ent .own) (o .are-bytes) (o .within .1) stays begins _ y inner (h .are)))
+      (chunk-refused q seen at id (ent .own) (ent .kids) (ent .rest) ms past (ent .past-is) y (inner-walk ∙ run-refused q seen s at id from past (ent .own) (o .are-bytes) (o .within .1) stays (o .small) begins _ y inner (h .are)))
 
   module _ {next n k : ℕ} {inner : List ℕ} (h : Children (Ran.Done next n k) inner) where
-    well : Ran-well q s at id from past (ent .own) (o .are-bytes) (o .within .1) stays begins (walk (inside q id (ent .own)) [] from (slice from past s)) n k inner
-    well = run-accepted q s at id from past (ent .own) (o .are-bytes) (o .within .1) stays begins next n k inner (h .are)
+    well : Ran-well q seen s at id from past (ent .own) (o .are-bytes) (o .within .1) stays (o .small) begins (walk (inside q seen id (ent .own)) [] from (slice from past s)) n k inner
+    well = run-accepted q seen s at id from past (ent .own) (o .are-bytes) (o .within .1) stays (o .small) begins next n k inner (h .are)
 
-    kept : Kept q id (ent .own) (well .t) s (at + (6 + length (ent .own))) past inner
-    kept = subst (λ (j : ℕ). Kept q id (ent .own) (well .t) s j past inner) (ent .from-is) (well .kept)
+    kept : Kept (inside q seen id (ent .own)) (well .t) s (at + (6 + length (ent .own))) past inner
+    kept = subst (λ (j : ℕ). Kept (inside q seen id (ent .own)) (well .t) s j past inner) (ent .from-is) (well .kept)
 
-    pub enter-placed : length s < 2 ^ 32 → id ≡ 0x4100 → MeshPlaced s inner
-    enter-placed z i =
-        mesh-placed q (ent .own) (well .t) s from past inner (subst (λ (j : ℕ). Kept q j (ent .own) (well .t) s from past inner) i (well .kept))
-        (kept-small q id (ent .own) (well .t) s from past inner (well .kept) z)
+    pub enter-placed : id ≡ 0x4100 → MeshPlaced s inner
+    enter-placed i = mesh-placed (inside q seen id (ent .own)) i (well .t) s from past inner (well .kept)
 
     -- what the end of the chunk was found to be
-    module _ (shut : Shut) (ends : (p : Parent) (own : List ℕ) (t : Run) (stop : ℕ) → Kept p id own t s (at + (6 + length own)) stop inner → ShutIs (broken (endConditions p at id own t)) shut) where
-      at-end : ShutIs (broken (endConditions q at id (ent .own) (well .t))) shut
-      at-end = ends q (ent .own) (well .t) past kept
+    module _ (shut : Shut) (ends : (p : Parent) (t : Run) (stop : ℕ) → p .id ≡ id → Kept p t s (at + (6 + length (p .own))) stop inner → ShutIs (broken (endConditions p at t)) shut) where
+      at-end : ShutIs (broken (endConditions (inside q seen id (ent .own)) at (well .t))) shut
+      at-end = ends (inside q seen id (ent .own)) (well .t) past refl kept
 
-      pub enter-shut : {y : Refusal} → shut ≡ Shut.Fault y → ChunkIs q at (step q seen at (slice at end s)) (Ran.Refused y) ms ms₁
+      pub enter-shut : {y : Refusal} → shut ≡ Shut.Fault y → ChunkIs q seen at (step q seen at (slice at end s)) (Ran.Refused y) ms ms₁
       enter-shut {y} e =
           whole (Ran.Refused y)
-          (chunk-shut q at id (ent .own) (ent .kids) (ent .rest) ms past (ent .past-is) y (well .t) (inner-walk ∙ well .is) (subst (ShutIs (broken (endConditions q at id (ent .own) (well .t)))) e at-end))
+          (chunk-shut q seen at id (ent .own) (ent .kids) (ent .rest) ms past (ent .past-is) y (well .t) (inner-walk ∙ well .is) (subst (ShutIs (broken (endConditions (inside q seen id (ent .own)) at (well .t)))) e at-end))
 
-      pub enter-done : shut ≡ Shut.Fine → ChunkIs q at (step q seen at (slice at end s)) (Ran.Done past (n + 1) k) ms ms₁
+      pub enter-done : shut ≡ Shut.Fine → ChunkIs q seen at (step q seen at (slice at end s)) (Ran.Done past (n + 1) k) ms ms₁
       enter-done e =
           whole (Ran.Done past (n + 1) k)
-          (chunk-done q at id (ent .own) (ent .kids) (ent .rest) ms past (ent .past-is) (well .t) n k (inner-walk ∙ well .is) (well .records-are) (well .skipped-are)
-          (subst (ShutIs (broken (endConditions q at id (ent .own) (well .t)))) e at-end))
+          (chunk-done q seen at id (ent .own) (ent .kids) (ent .rest) ms past (ent .past-is) (well .t) n k (inner-walk ∙ well .is) (well .records-are) (well .skipped-are)
+          (subst (ShutIs (broken (endConditions (inside q seen id (ent .own)) at (well .t)))) e at-end))

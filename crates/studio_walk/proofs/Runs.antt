@@ -12,7 +12,6 @@ use Rattle.studio_rules.specs.Rules.{Parent, inside}
 use Rattle.studio_rules.specs.Gives.{recordCount, skipped}
 use Rattle.shared_words.specs.Conditions.{Answer, refused, accepted}
 use Rattle.studio_rules.specs.Walk.{Step, stop, pass, enter, ended, withSkip, withKnown, step, taken, walk}
-use Rattle.studio_rules.proofs.Once.{few-nil}
 use Rattle.studio_rules.proofs.Sound.{length-bytes, Closes, ended-closes}
 use Rattle.studio_rules.proofs.Steps.{Says, step-says}
 use Rattle.studio_rules.proofs.Fuel.{walk-nil}
@@ -45,10 +44,10 @@ module _ (end records skips at : ℕ) (ms : List ℕ) (r : Ran) (ms′ : List �
 
 module _ (p : Parent) (seen : List ℕ) (s : List ℕ) (at end : ℕ) (ms : List ℕ) where
   -- a chunk that is refused ends the run
-  run-stops : (records skips : ℕ) (ms′ : List ℕ) (x : Step) (y : Refusal) (ms₁ : List ℕ) → ChunkIs p at x (Ran.Refused y) ms ms₁ → RunIs end records skips at ms (taken walk p seen at x) (Ran.Refused y) ms′
+  run-stops : (records skips : ℕ) (ms′ : List ℕ) (x : Step) (y : Refusal) (ms₁ : List ℕ) → ChunkIs p seen at x (Ran.Refused y) ms ms₁ → RunIs end records skips at ms (taken walk p seen at x) (Ran.Refused y) ms′
   run-stops records skips ms′ (stop z) y ms₁ h = h
   run-stops records skips ms′ (pass id body rest) y ms₁ h = let q = h .0 in absurd (clash (cc))
-  run-stops records skips ms′ (enter id own kids rest) y ms₁ h = go (ended p at id own (walk (inside p id own) [] (at + (6 + length own)) kids)) (h .0)
+  run-stops records skips ms′ (enter id own kids rest) y ms₁ h = go (ended (inside p seen id own) at (walk (inside p seen id own) [] (at + (6 + length own)) kids)) (h .0)
     where
       go : (a : Answer Run) → ClosedIs (at + (6 + length own + length kids)) a (Ran.Refused y) → RunIs end records skips at ms (withKnown id own a (walk p (id ∷ seen) (at + (6 + length own + length kids)) rest)) (Ran.Refused y) ms′
       go (refused z) h = h
@@ -61,7 +60,7 @@ module _ (p : Parent) (seen : List ℕ) (s : List ℕ) (at end : ℕ) (ms : List
     pub tells : (records skips : ℕ) (r : Ran) (ms′ : List ℕ) → RunIs end (records + n) (skips + k) next ms₁ (walk p seen′ next (slice next end s)) r ms′ → RunIs end records skips at ms whole r ms′
 
   run-goes-on : (row word : ℕ) → Context p seen row word ms → length ms ≡ 5 → 1 ≤ at → (x : Step) → Says p seen (slice at end s) x → PartsAt s at end x → (next n k : ℕ) (ms₁ : List ℕ) →
-      ChunkIs p at x (Ran.Done next n k) ms ms₁ → GoesOn row word (taken walk p seen at x) next n k ms₁
+      ChunkIs p seen at x (Ran.Done next n k) ms ms₁ → GoesOn row word (taken walk p seen at x) next n k ms₁
   run-goes-on row word c five o (stop z) g f next n k ms₁ h = absurd (clash (cc))
   run-goes-on row word c five o (pass id body rest) g f next n k ms₁ h =
       let q = h .0 in
@@ -76,10 +75,10 @@ module _ (p : Parent) (seen : List ℕ) (s : List ℕ) (at end : ℕ) (ms : List
             (rw (f .rest-is) (subst (λ (m : List ℕ). RunIs end (records + 0) (skips + (6 + length body)) (at + (6 + length body)) m (walk p seen (at + (6 + length body)) (slice (at + (6 + length body)) end s)) r ms′) (h .1)
             (rw (n-is, k-is, next-is) at t)));
       }
-  run-goes-on row word c five o (enter id own kids rest) g f next n k ms₁ h = go (ended p at id own (walk (inside p id own) [] (at + (6 + length own)) kids)) (h .0)
-      (ended-closes p at id own kids (walk (inside p id own) [] (at + (6 + length own)) kids) (walk-tells (inside p id own) [] (at + (6 + length own)) kids (g .kids-bytes) (few-nil id)))
+  run-goes-on row word c five o (enter id own kids rest) g f next n k ms₁ h = go (ended (inside p seen id own) at (walk (inside p seen id own) [] (at + (6 + length own)) kids)) (h .0)
+      (ended-closes (inside p seen id own) at kids (walk (inside p seen id own) [] (at + (6 + length own)) kids) (walk-tells (inside p seen id own) [] (at + (6 + length own)) kids (g .kids-bytes)))
     where
-      go : (a : Answer Run) → ClosedIs (at + (6 + length own + length kids)) a (Ran.Done next n k) → Closes p id own kids a →
+      go : (a : Answer Run) → ClosedIs (at + (6 + length own + length kids)) a (Ran.Done next n k) → Closes (inside p seen id own) kids a →
           GoesOn row word (withKnown id own a (walk p (id ∷ seen) (at + (6 + length own + length kids)) rest)) next n k ms₁
       go (refused z) q v = absurd (clash (cc))
       go (accepted t) q v =
@@ -88,7 +87,7 @@ module _ (p : Parent) (seen : List ℕ) (s : List ℕ) (at end : ℕ) (ms : List
           let k-is : k ≡ skipped t = cc in
           record {
             seen′ = id ∷ seen;
-            context = rw (h .1) (context-next p seen row word ms c five id (g .in-place) (g .not-twice) at o);
+            context = rw (h .1) (context-next p seen row word ms c five id (g .lawful .in-place) (g .lawful .not-twice) at o);
             tells = λ records skips r ms′ w.
                 known-on end records skips at ms r ms′ id own kids t (sym (length-bytes t) ∙ ap length (v .is)) (walk p (id ∷ seen) (at + (6 + length own + length kids)) rest)
                 (rw (f .rest-is) (subst (λ (m : List ℕ). RunIs end (records + (recordCount t + 1)) (skips + skipped t) (at + (6 + length own + length kids)) m (walk p (id ∷ seen) (at + (6 + length own + length kids)) (slice (at + (6 + length own + length kids)) end s)) r ms′) (h .1)
@@ -100,10 +99,10 @@ module _ (p : Parent) (seen s : List ℕ) (at end : ℕ) (ms : List ℕ) (o : at
   begun : (records skips : ℕ) (r : Ran) (ms′ : List ℕ) → RunIs end records skips at ms (taken walk p seen at (step p seen at (slice at end s))) r ms′ → RunIs end records skips at ms (walk p seen at (slice at end s)) r ms′
   begun records skips r ms′ h = subst (λ (a : Answer Run). RunIs end records skips at ms a r ms′) (sym (walk-part s at end o l p seen)) h
 
-  pub stops-here : (records skips : ℕ) (y : Refusal) (ms₁ : List ℕ) → ChunkIs p at (step p seen at (slice at end s)) (Ran.Refused y) ms ms₁ → RunIs end records skips at ms (walk p seen at (slice at end s)) (Ran.Refused y) ms₁
+  pub stops-here : (records skips : ℕ) (y : Refusal) (ms₁ : List ℕ) → ChunkIs p seen at (step p seen at (slice at end s)) (Ran.Refused y) ms ms₁ → RunIs end records skips at ms (walk p seen at (slice at end s)) (Ran.Refused y) ms₁
   stops-here records skips y ms₁ h = begun records skips (Ran.Refused y) ms₁ (run-stops p seen s at end ms records skips ms₁ (step p seen at (slice at end s)) y ms₁ h)
 
-  pub goes-on : (row word : ℕ) → Context p seen row word ms → length ms ≡ 5 → 1 ≤ at → Bytes s → (next n k : ℕ) (ms₁ : List ℕ) → ChunkIs p at (step p seen at (slice at end s)) (Ran.Done next n k) ms ms₁ →
+  pub goes-on : (row word : ℕ) → Context p seen row word ms → length ms ≡ 5 → 1 ≤ at → Bytes s → (next n k : ℕ) (ms₁ : List ℕ) → ChunkIs p seen at (step p seen at (slice at end s)) (Ran.Done next n k) ms ms₁ →
       GoesOn p seen s at end ms row word (walk p seen at (slice at end s)) next n k ms₁
   goes-on row word c five z b next n k ms₁ h =
       let says = step-says p seen at (slice at end s) (bytes-slice s at end b) in

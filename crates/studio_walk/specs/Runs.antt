@@ -22,12 +22,12 @@ abbrev pub ClosedIs : ℕ → Answer Run → Ran → Type 0
 ClosedIs past (refused x) r = r ≡ Ran.Refused x
 ClosedIs past (accepted t) r = r ≡ Ran.Done past (recordCount t + 1) (skipped t)
 
--- a chunk at `at`, by the step that meets it, and the marks before and after it
-abbrev pub ChunkIs : Parent → ℕ → Step → Ran → List ℕ → List ℕ → Type 0
-ChunkIs p at (stop x) r marks marks′ = r ≡ Ran.Refused x
-ChunkIs p at (pass id body rest) r marks marks′ = (r ≡ Ran.Done (at + (6 + length body)) 0 (6 + length body)) × (marks′ ≡ marks)
-ChunkIs p at (enter id own kids rest) r marks marks′ =
-    ClosedIs (at + (6 + length own + length kids)) (ended p at id own (walk (inside p id own) [] (at + (6 + length own)) kids)) r × (marks′ ≡ set marks (slotOf id) at)
+-- a chunk at `at`, after the children `seen`, by the step that meets it, and the marks before and after it
+abbrev pub ChunkIs : Parent → List ℕ → ℕ → Step → Ran → List ℕ → List ℕ → Type 0
+ChunkIs p seen at (stop x) r marks marks′ = r ≡ Ran.Refused x
+ChunkIs p seen at (pass id body rest) r marks marks′ = (r ≡ Ran.Done (at + (6 + length body)) 0 (6 + length body)) × (marks′ ≡ marks)
+ChunkIs p seen at (enter id own kids rest) r marks marks′ =
+    ClosedIs (at + (6 + length own + length kids)) (ended (inside p seen id own) at (walk (inside p seen id own) [] (at + (6 + length own)) kids)) r × (marks′ ≡ set marks (slotOf id) at)
 
 -- a run from o to `end`, where so many records and skipped bytes came before it
 abbrev pub RunIs : ℕ → ℕ → ℕ → ℕ → List ℕ → Answer Run → Ran → List ℕ → Type 0

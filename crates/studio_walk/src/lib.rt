@@ -27,7 +27,7 @@ pub enum Ran {
 // The chunk at at. Its children leave marks of their own, by which it is judged at its end.
 fn chunk(file: &[u8], parent: u64, count: u32, at: usize, end: usize, marks: &mut [u32]) -> Ran
     requires { ⌜ (at < end) × (1 ≤ at) × Room end count (now file) (now marks) × SomeContext parent count (now marks) ⌝ }
-    ensures is { λ r. ⌜ ((p : Parent) (seen : List ℕ) → Context p seen parent count (now (marks .entry)) → ChunkIs p at (step p seen at (slice at end (now (file .entry)))) r (now (marks .entry)) (now (marks .exit))) ⌝ }
+    ensures is { λ r. ⌜ ((p : Parent) (seen : List ℕ) → Context p seen parent count (now (marks .entry)) → ChunkIs p seen at (step p seen at (slice at end (now (file .entry)))) r (now (marks .entry)) (now (marks .exit))) ⌝ }
     ensures five { λ r. ⌜ length (now (marks .exit)) ≡ 5 ⌝ }
     ensures within { λ r. ⌜ ChunkWithin at end r ⌝ }
 {

@@ -12,7 +12,8 @@ use Rattle.shared_words.specs.Lists.{every}
 use Rattle.studio_rules.specs.Table.{fixed, rows, under, shape, plus}
 use Rattle.studio_rules.specs.OwnData.{ownSize}
 use Rattle.studio_rules.specs.Layout.{Run, end, skip, known, size, figure}
-use Rattle.studio_rules.specs.Rules.{Parent, file, inside, noChild, Lawful, Obeys}
+use Rattle.studio_rules.specs.Rules.{Parent, inside, noChild, Own, Children, Obeys, version}
+use Rattle.studio_rules.specs.Walk.{top}
 use Rattle.studio_rules.specs.Gives.{recordCount, recordsOf, skipped}
 use Rattle.shared_words.proofs.Bools.{and-parts}
 use Rattle.studio_rules.proofs.Verdict.{accepted-exactly}
@@ -38,12 +39,13 @@ ids-listed o depth parent next (known id own kids rest) =
     (map-append (recordsOf (o + (6 + length own)) (suc depth) next (suc next) kids) (recordsOf (o + (6 + length own + size kids)) depth parent (suc (next + recordCount kids)) rest) ∙
     rw (ids-listed (o + (6 + length own)) (suc depth) next (suc next) kids, ids-listed (o + (6 + length own + size kids)) depth parent (suc (next + recordCount kids)) rest))
 
--- ---- runs that are still to come, in the chunks around them
+-- ---- runs that are still to come, in the chunks around them and behind the children `seen`
 
 pub record Open : Type 0 where
   pub parent : Parent
+  pub seen : List ℕ
   pub run : Run
-  pub obeys : Obeys parent run
+  pub obeys : Obeys parent seen run
   pub unskipped : skipped run ≡ 0
 
 abbrev all : List Open → List ℕ
@@ -56,9 +58,10 @@ pub record Begins (o : Open) (os : List Open) (x : ℕ) (xs : List ℕ) : Type 0
   pub kids : Run
   pub rest : Run
   pub is : o .run ≡ known x own kids rest
-  pub lawful : Lawful (o .parent) x own kids
-  pub inner : Obeys (inside (o .parent) x own) kids
-  pub outer : Obeys (o .parent) rest
+  pub lawful : Own (o .parent) (o .seen) x own
+  pub children : Children (inside (o .parent) (o .seen) x own) kids
+  pub inner : Obeys (inside (o .parent) (o .seen) x own) [] kids
+  pub outer : Obeys (o .parent) (x ∷ o .seen) rest
   pub kids-unskipped : skipped kids ≡ 0
   pub rest-unskipped : skipped rest ≡ 0
   pub left : ids kids ++ (ids rest ++ all os) ≡ xs
@@ -66,7 +69,7 @@ pub record Begins (o : Open) (os : List Open) (x : ℕ) (xs : List ℕ) : Type 0
 first : (o : Open) (os : List Open) (x : ℕ) (xs : List ℕ) → all (o ∷ os) ≡ x ∷ xs → (all os ≡ x ∷ xs) ⊎ Begins o os x xs
 first o os x xs e = go (o .run) refl (o .obeys) (o .unskipped) e
   where
-    go : (t : Run) → o .run ≡ t → Obeys (o .parent) t → skipped t ≡ 0 → ids t ++ all os ≡ x ∷ xs → (all os ≡ x ∷ xs) ⊎ Begins o os x xs
+    go : (t : Run) → o .run ≡ t → Obeys (o .parent) (o .seen) t → skipped t ≡ 0 → ids t ++ all os ≡ x ∷ xs → (all os ≡ x ∷ xs) ⊎ Begins o os x xs
     go end q b s e = inl e
     go (skip id body rest) q b s e = absurd (omega arith)
     go (known id own kids rest) q b s e =
@@ -78,8 +81,9 @@ first o os x xs e = go (o .run) refl (o .obeys) (o .unskipped) e
           rest = rest;
           is = rw i at q;
           lawful = rw i at (b .0);
-          inner = rw i at (b .1);
-          outer = b .2;
+          children = rw i at (b .1);
+          inner = rw i at (b .2);
+          outer = rw i at (b .3);
           kids-unskipped = omega arith;
           rest-unskipped = omega arith;
           left = sym (append-assoc (ids kids) (ids rest) (all os)) ∙ t;
@@ -110,10 +114,10 @@ begins o os x xs c e = go (first o os x xs e)
 
 module _ {o : Open} {os : List Open} {x : ℕ} {xs : List ℕ} (b : Begins o os x xs) where
   abbrev inner-run : Open
-  inner-run = record { parent = inside (o .parent) x (b .own); run = b .kids; obeys = b .inner; unskipped = b .kids-unskipped }
+  inner-run = record { parent = inside (o .parent) (o .seen) x (b .own); seen = []; run = b .kids; obeys = b .inner; unskipped = b .kids-unskipped }
 
   abbrev outer-run : Open
-  outer-run = record { parent = o .parent; run = b .rest; obeys = b .outer; unskipped = b .rest-unskipped }
+  outer-run = record { parent = o .parent; seen = x ∷ o .seen; run = b .rest; obeys = b .outer; unskipped = b .rest-unskipped }
 
 -- ---- runs that hold nothing
 
@@ -147,12 +151,12 @@ no-data {o} {os} {x} b e =
 
 -- ---- the six, one in the other
 
-module _ (kids : Run) (obeys : Obeys (inside file 0x4D4D []) kids) (unskipped : skipped kids ≡ 0) where
+module _ (version : ℕ) (kids : Run) (obeys : Obeys (top version) [] kids) (unskipped : skipped kids ≡ 0) where
   abbrev Shaped : Type 0
   Shaped = (name : List ℕ) × (vertices : List ℕ) × (faces : List ℕ) × (kids ≡ sixChunks name vertices faces)
 
   abbrev whole : Open
-  whole = record { parent = inside file 0x4D4D []; run = kids; obeys = obeys; unskipped = unskipped }
+  whole = record { parent = top version; seen = []; run = kids; obeys = obeys; unskipped = unskipped }
 
   module _ (scene : Begins whole [] 0x3D3D (0x4000 ∷ 0x4100 ∷ 0x4110 ∷ 0x4120 ∷ [])) where
     module _ (object : Begins (inner-run scene) (outer-run scene ∷ []) 0x4000 (0x4100 ∷ 0x4110 ∷ 0x4120 ∷ [])) where
@@ -160,7 +164,7 @@ module _ (kids : Run) (obeys : Obeys (inside file 0x4D4D []) kids) (unskipped : 
         module _ (vertices : Begins (inner-run mesh) (outer-run mesh ∷ outer-run object ∷ outer-run scene ∷ []) 0x4110 (0x4120 ∷ [])) where
           no-kids : vertices .kids ≡ end
           unfolding plus rows
-          no-kids = childless (vertices .kids) (vertices .lawful .children-in-plus)
+          no-kids = childless (vertices .kids) (vertices .children .in-plus)
 
           shaped-5 : Begins (outer-run vertices) (outer-run mesh ∷ outer-run object ∷ outer-run scene ∷ []) 0x4120 [] → Shaped
           unfolding shape rows
@@ -194,4 +198,4 @@ module _ (kids : Run) (obeys : Obeys (inside file 0x4D4D []) kids) (unskipped : 
 pub just-six : JustSix
 just-six s b kids e order unskipped =
     let t : 0x4D4D ∷ (ids kids ++ []) ≡ 0x4D4D ∷ 0x3D3D ∷ 0x4000 ∷ 0x4100 ∷ 0x4110 ∷ 0x4120 ∷ [] = sym (ids-listed 0 0 0 0 (figure kids)) ∙ order in
-    shaped kids (accepted-exactly s b kids .0 e .chunks .1) (omega arith) (cc)
+    shaped (version kids) kids (accepted-exactly s b kids .0 e .chunks .2) (omega arith) (cc)

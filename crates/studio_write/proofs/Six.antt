@@ -3,7 +3,7 @@ use mathlib.Core.Path.{_≡_, refl, ap, _∙_}
 use Prim.Native.Nat.{ℕ, suc, _+_, _-_, _*_, _/_, _≤_}
 use native.Mathlib.Omega.{arith}
 use mathlib.Core.Bool.{true}
-use mathlib.Core.List.{List}
+use mathlib.Core.List.{List, []}
 use lib.Ieee.{Float}
 use lib.ListN.{length}
 use borrow.Author.Tests.{eqb-true, eq-eqb, le-leb}
@@ -16,7 +16,7 @@ use Rattle.studio_rules.specs.Table.{rows, atMostOne, atLeastOne, under, shape,
 use Rattle.shared_words.specs.Floats.{finite}
 use Rattle.studio_rules.specs.OwnData.{nameSize, count, vertexNumbers, faceCorners}
 use Rattle.studio_rules.specs.Layout.{Run, figure}
-use Rattle.studio_rules.specs.Rules.{Parent, file, inPlace, childrenInPlus, ownDataExact, numbersFinite, faceNumbersBelow, cornersBelow, mappingMatches, notTwice, noneMissing, allBelow, Lawful, Obeys}
+use Rattle.studio_rules.specs.Rules.{Parent, file, inPlace, notTwice, ownDataExact, numbersFinite, faceNumbersBelow, allBelow, childrenInPlus, noneMissing, cornersBelow, mappingMatches, Own, Children, Obeys}
 use Rattle.studio_rules.specs.Gives.{owned, Mesh}
 use Rattle.shared_words.specs.Conditions.{accepted}
 use Rattle.studio_rules.specs.Walk.{verdict}
@@ -28,22 +28,13 @@ use Rattle.shared_words.proofs.Bools.{both, and-parts}
 use Rattle.studio_write_bytes.specs.Bare.{sixChunks}
 use Rattle.studio_write.specs.ReadsBack.{sixRecords}
 
--- the rules of one chunk, in the order of the record
-obey : {p : Parent} {id : ℕ} {own : List ℕ} {kids : Run} →
-    inPlace p id own kids ≡ true → childrenInPlus p id own kids ≡ true → ownDataExact p id own kids ≡ true → numbersFinite p id own kids ≡ true →
-    faceNumbersBelow p id own kids ≡ true → cornersBelow p id own kids ≡ true → mappingMatches p id own kids ≡ true → notTwice p id own kids ≡ true →
-    noneMissing p id own kids ≡ true → Lawful p id own kids
-obey a b c d e f g h i = record {
-  in-place = a;
-  children-in-plus = b;
-  own-data-exact = c;
-  numbers-finite = d;
-  face-numbers-below = e;
-  corners-below = f;
-  mapping-matches = g;
-  not-twice = h;
-  none-missing = i;
-}
+-- the rules of one chunk and of its children, in the order of the records
+own-obeys : {p : Parent} {seen : List ℕ} {id : ℕ} {own : List ℕ} →
+    inPlace p id own ≡ true → notTwice p seen id ≡ true → ownDataExact p id own ≡ true → numbersFinite p id own ≡ true → faceNumbersBelow p id own ≡ true → Own p seen id own
+own-obeys a b c d e = record { in-place = a; not-twice = b; own-data-exact = c; numbers-finite = d; face-numbers-below = e }
+
+children-obey : {q : Parent} {kids : Run} → childrenInPlus q kids ≡ true → noneMissing q kids ≡ true → cornersBelow q kids ≡ true → mappingMatches q kids ≡ true → Children q kids
+children-obey a b c d = record { in-plus = a; none-missing = b; corners-below = c; mapping-matches = d }
 
 module _ (name vertices faces : List ℕ) where
   -- what the rules ask of the own data
@@ -54,28 +45,35 @@ module _ (name vertices faces : List ℕ) where
     pub numbers-finite : every finite (vertexNumbers vertices) ≡ true
     pub corners-below : allBelow (count vertices) (faceCorners faces) ≡ true
 
-  pub obeys : Exact → Obeys file (figure (sixChunks name vertices faces))
+  pub obeys : Exact → Obeys (file 0) [] (figure (sixChunks name vertices faces))
   unfolding every rows atMostOne atLeastOne under shape plus limits needs
   obeys x =
-      let scene = obey refl refl refl refl refl refl refl refl refl in
-      let object = obey refl refl (eq-eqb _ _ (x .name-ends)) refl refl refl refl refl refl in
-      let mesh = obey refl refl refl refl refl (x .corners-below) refl refl refl in
-      let vertex-list = obey refl refl (eq-eqb _ _ (x .vertices-exact)) (both _ _ (x .numbers-finite) refl) refl refl refl refl refl in
-      let face-list = obey refl refl (eq-eqb _ _ (x .faces-exact)) refl refl refl refl refl refl in
-      (obey refl refl refl refl refl refl refl refl refl, (scene, (object, (mesh, (vertex-list, tt, (face-list, tt, tt)), tt), tt), tt), tt)
+      let top = own-obeys refl refl refl refl refl in
+      let in-figure = children-obey refl refl refl refl in
+      let scene = own-obeys refl refl refl refl refl in
+      let in-scene = children-obey refl refl refl refl in
+      let object = own-obeys refl refl (eq-eqb _ _ (x .name-ends)) refl refl in
+      let in-object = children-obey refl refl refl refl in
+      let mesh = own-obeys refl refl refl refl refl in
+      let in-mesh = children-obey refl refl (x .corners-below) refl in
+      let vertex-list = own-obeys refl refl (eq-eqb _ _ (x .vertices-exact)) (both _ _ (x .numbers-finite) refl) refl in
+      let face-list = own-obeys refl refl (eq-eqb _ _ (x .faces-exact)) refl refl in
+      let no-children = children-obey refl refl refl refl in
+      let no-children′ = children-obey refl refl refl refl in
+      (top, in-figure, (scene, in-scene, (object, in-object, (mesh, in-mesh, (vertex-list, no-children, tt, (face-list, no-children′, tt, tt)), tt), tt), tt), tt)
 
-  pub exact : Obeys file (figure (sixChunks name vertices faces)) → Exact
+  pub exact : Obeys (file 0) [] (figure (sixChunks name vertices faces)) → Exact
   unfolding every rows atMostOne atLeastOne under shape plus limits needs
   exact o =
-      let object = o .1 .1 in
-      let mesh = object .1 in
-      let lists = mesh .1 in
+      let object = o .2 .2 in
+      let mesh = object .2 in
+      let lists = mesh .2 in
       record {
         name-ends = eqb-true _ _ (object .0 .own-data-exact);
         vertices-exact = eqb-true _ _ (lists .0 .own-data-exact);
-        faces-exact = eqb-true _ _ (lists .2 .0 .own-data-exact);
+        faces-exact = eqb-true _ _ (lists .3 .0 .own-data-exact);
         numbers-finite = and-parts _ _ (lists .0 .numbers-finite) .0;
-        corners-below = mesh .0 .corners-below;
+        corners-below = mesh .1 .corners-below;
       }
 
   -- their one mesh

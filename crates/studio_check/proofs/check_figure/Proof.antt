@@ -5,7 +5,7 @@ use borrow.Author.Needs.{needs}
 use mathlib.Core.List.{[]}
 use lib.ListN.{length}
 use Rattle.shared_words.proofs.Bytes.{bytes-all}
-use Rattle.studio_rules.specs.Rules.{file, inside}
+use Rattle.studio_rules.specs.Walk.{top}
 use Rattle.studio_walk.specs.declared.Ran.{Ran}
 use Rattle.studio_walk.specs.Runs.{RunWithin}
 use Rattle.studio_check.proofs.Files.{figure-row, top-context, top-run, figure-refused, figure-shut, figure-accepted}
@@ -18,7 +18,7 @@ slice-aggregate-run c = search needs
 run-requires : tie.Need-run-requires
 run-requires c κs =
     let x = c .before .before in
-    (x .pre .0, omega arith, record { ends = omega arith; short = x .pre .1; word = omega arith; five = refl }, (inside file 0x4D4D [], [], top-context _ figure-row))
+    (x .pre .0, omega arith, record { ends = omega arith; short = x .pre .1; word = omega arith; five = refl }, (top 0, [], top-context 0 _ figure-row))
 
 enum-known-r : tie.Need-enum-known-r
 enum-known-r c = search needs
@@ -31,8 +31,7 @@ slice-aggregate-at-end c = search needs
 
 at-end-requires : tie.Need-at-end-requires
 at-end-requires c κs =
-    let x = c .before .before .before .before .before .before .before .before in
-    (c .before .before .before .before .before .run .ensures .1 .0, λ e. absurd (omega arith), omega (arith, x .pre .1))
+    (c .before .before .before .before .before .run .ensures .1 .0, λ e. absurd (omega arith))
 
 enum-known-r-2 : tie.Need-enum-known-r-2
 enum-known-r-2 c = search needs

@@ -3,7 +3,7 @@ use mathlib.Core.Path.{sym, _∙_}
 use native.Mathlib.Omega.{arith}
 use Rattle.shared_words.proofs.Bytes.{bytes-all}
 use Rattle.studio_rules.specs.Layout.{figure}
-use Rattle.studio_rules.specs.Rules.{file}
+use Rattle.studio_rules.specs.Parses.{inFile}
 use Rattle.studio_check.proofs.Accepted.{accepted-by}
 use Rattle.studio_list_rows.specs.Lent.{lent}
 use Rattle.studio_list.proofs.Whole.{rows-refused, whole-laid, whole-bounds, whole-room, rows-no-room, rows-filled}
@@ -33,7 +33,7 @@ list-run-requires c κs =
     let g = c .before .before .before .before .before .counts .given in
     let a = accepted-by (x .args .file .now) (g .0 .0) (sym (c .before .before .before .before .before .before .before .check .ensures) ∙ g .1) in
     let b = bytes-all (x .args .file .now) (λ i. omega (arith, c .before .before .before .before .before .before .before .before .before .before .shared-slice-known .given i)) in
-    (omega arith, whole-bounds a b, (file, figure (a .kids), whole-laid a b, whole-room a (lent (x .args .records .now) (x .args .bytes .now)) (c .before .before .if1 .left) (x .pre)))
+    (omega arith, whole-bounds a b, (inFile, figure (a .kids), whole-laid a b, whole-room a (lent (x .args .records .now) (x .args .bytes .now)) (c .before .before .if1 .left) (x .pre)))
 
 returns-2 : tie.Need-returns-2
 returns-2 c =
@@ -53,7 +53,7 @@ returns-3 c =
     let g = c .before .before .before .before .before .before .before .before .before .before .counts .given in
     let a = accepted-by (x .file .now) (g .0 .0) (sym (c .before .before .before .before .before .before .before .before .before .before .before .before .check .ensures) ∙ g .1) in
     let b = bytes-all (x .file .now) (λ i. omega (arith, c .before .before .before .before .before .before .before .before .before .before .before .before .before .before .before .shared-slice-known .given i)) in
-    rows-filled a (lent (x .records .now) (x .bytes .now)) (c .before .before .before .before .before .before .before .if1 .left) (c .before .before .before .before .list-run .ensures file (figure (a .kids)) (whole-laid a b))
+    rows-filled a (lent (x .records .now) (x .bytes .now)) (c .before .before .before .before .before .before .before .if1 .left) (c .before .before .before .before .list-run .ensures inFile (figure (a .kids)) (whole-laid a b))
 
 pub list-rows-spec : {M : Type 1} → statement M
 list-rows-spec =

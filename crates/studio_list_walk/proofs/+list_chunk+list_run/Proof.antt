@@ -8,14 +8,14 @@ use borrow.Author.Needs.{needs}
 use borrow.Fn.Kinds.{In}
 use borrow.Fn.PlainCycle.{Measures, is, falls, and}
 use Rattle.studio_rules.specs.Layout.{Run}
-use Rattle.studio_rules.specs.Rules.{Parent}
+use Rattle.studio_rules.specs.Parses.{Place}
 use Rattle.studio_lookup.proofs.Outlines.{outline-kind}
 use Rattle.studio_list_rows.specs.Lent.{lent}
 use Rattle.studio_list_walk.specs.Laid.{first, Laid}
 use Rattle.studio_list_rows.proofs.Rows.{room-less}
 use Rattle.studio_list_rows.proofs.Counts.{count-small}
 use Rattle.studio_list_walk.proofs.Runs.{FirstAt, split-count, header-ends, first-at}
-use Rattle.studio_list_walk.proofs.Chunks.{Entered, skipped-listed, entered, inner-laid, entered-listed, childless-listed}
+use Rattle.studio_list_walk.proofs.Chunks.{Entered, skipped-listed, entered, entered-listed, childless-listed}
 use Rattle.studio_list_walk.proofs.Loop.{Sofar, sofar-start, sofar-next, sofar-ends}
 use Rattle.studio_list_walk.proofs.list_chunk.Reads as list-chunk
 use Rattle.studio_list_walk.proofs.list_chunk.Kinds as list-chunk-kinds
@@ -72,7 +72,7 @@ run-calls t = (long-at-reads.Asked, long-at-reads.Learnt, list-chunk-below t, li
 -- where the table has a row for its identifier and own data has been measured, a chunk is a record and its children
 chunk-entered : (t : ℕ) (c : list-chunk-lts.After-own-length (chunk-calls t) (list-chunk-at t) list-chunk.Post) →
     let x = c .before .before .before .before .before .before .before .args in
-    (p : Parent) (u : Run) → Laid (x .file .now) (x .at) (x .stop) p (first u) →
+    (p : Place) (u : Run) → Laid (x .file .now) (x .at) (x .stop) p (first u) →
     Entered (x .file .now) (x .at) (x .stop) (c .before .before .before .word-at .result) (c .own-length .result) (first u)
 chunk-entered t c =
     let q = c .before .before .before .before .before .before .before .pre .1 in
@@ -157,7 +157,7 @@ list-chunk-list-run-requires t c κs =
       (
         omega arith,
         record { ends = omega arith; short = omega arith; deep = omega arith; over = omega arith; before = omega arith },
-        (e .around, e .kids, inner-laid e, room-less (k .0) (k .1 .0) (omega arith) (x .pre .1 .2 .3)),
+        (e .around, e .kids, e .laid, room-less (k .0) (k .1 .0) (omega arith) (x .pre .1 .2 .3)),
       ),
     )
 
@@ -173,14 +173,14 @@ list-chunk-returns-3 t c =
     λ p u l.
     let e = chunk-entered t (c .before .before .before .before .before .before .before .before .before .before .before .before .before .before .before) p u l in
     entered-listed e (lent (x .args .records .now) (x .args .bytes .now)) (x .args .depth) (x .args .parent) (x .args .next) (c .before .before .before .before .before .before .before .before .before .before .before .before .put-record .ensures)
-    (c .before .before .before .before .list-run .ensures (e .around) (e .kids) (inner-laid e))
+    (c .before .before .before .before .list-run .ensures (e .around) (e .kids) (e .laid))
 
 -- ---- a run
 
 abbrev list-run-Inv-loop : list-run-lts.InvT-loop
 list-run-Inv-loop file records₀ bytes₀ at end depth parent next from₀ number₀ records bytes from number =
     (at ≤ from) × (from ≤ end) × (6 * number ≤ from) × (length records ≡ length records₀) × (length bytes ≡ length bytes₀) ×
-    ((p : Parent) (t : Run) → Laid file at end p t → Sofar file end depth parent p (lent records₀ bytes₀) at next t (lent records bytes) from number)
+    ((p : Place) (t : Run) → Laid file at end p t → Sofar file end depth parent p (lent records₀ bytes₀) at next t (lent records bytes) from number)
 
 abbrev list-run-μ-loop : list-run-lts.MeasureT-loop
 list-run-μ-loop file records₀ bytes₀ at end depth parent next from₀ number₀ records bytes from number = end - from
@@ -188,11 +188,11 @@ list-run-μ-loop file records₀ bytes₀ at end depth parent next from₀ numbe
 -- what is left of the run begins with a chunk of the length that was read
 run-first : (t : ℕ) (c : list-run-lts.After-long-at (run-calls t) (list-run-at t) list-run.Post list-run-Inv-loop list-run-μ-loop) →
     let x = c .before .before .before .before .before .before .args in
-    (p : Parent) (u : Run) → Laid (x .file .now) (c .before .before .loop .from) (x .end) p u →
+    (p : Place) (u : Run) → Laid (x .file .now) (c .before .before .loop .from) (x .end) p u →
     FirstAt (x .file .now) (c .before .before .loop .from) (x .end) p (c .long-at .result) u
 run-first t c p u l =
     let q = c .before .before .before .before .before .before .pre .1 .1 in
-    first-at (c .before .loop-test .taken) (q .ends) (q .short) u l (c .long-at .result) (c .long-at .ensures .is)
+    first-at (c .before .loop-test .taken) u l (c .long-at .result) (c .long-at .ensures .is)
 
 list-run-loop-holds : (t : ℕ) → list-run-lts.Need-loop-holds (run-calls t) (list-run-at t) list-run.Post list-run-Inv-loop list-run-μ-loop
 list-run-loop-holds t c = (omega arith, omega arith, omega arith, refl, refl, λ p u l. sofar-start l)
@@ -205,7 +205,7 @@ list-run-long-at-requires t c κs =
     let x = c .before .before .before .before in
     let i = c .before .loop .inv in
     let f = i .5 (x .before .pre .1 .2 .0) (x .before .pre .1 .2 .1) (x .before .pre .1 .2 .2) in
-    let h = header-ends (c .loop-test .taken) (x .before .pre .1 .1 .ends) (x .before .pre .1 .1 .short) (f .left) (f .laid) in
+    let h = header-ends (c .loop-test .taken) (f .left) (f .laid) in
     omega arith
 
 list-run-cast-stop : (t : ℕ) → list-run-lts.Need-cast-stop (run-calls t) (list-run-at t) list-run.Post list-run-Inv-loop list-run-μ-loop
@@ -282,7 +282,7 @@ list-run-same-length-2 t c = c .before .loop .inv .4
 list-run-returns : (t : ℕ) → list-run-lts.Need-returns (run-calls t) (list-run-at t) list-run.Post list-run-Inv-loop list-run-μ-loop
 list-run-returns t c =
     let x = c .before .before .before .before in
-    λ p u l. sofar-ends (c .before .loop .inv .5 p u l) (x .before .pre .1 .1 .ends) (c .loop-test .left)
+    λ p u l. sofar-ends (c .before .loop .inv .5 p u l) (c .loop-test .left)
 
 pub +list-chunk+list-run-spec : {M : Type 1} → statement M
 +list-chunk+list-run-spec = close μ-list-chunk μ-list-run (λ t. list-chunk-lts.spec (chunk-calls t)

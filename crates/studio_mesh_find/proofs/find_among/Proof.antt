@@ -42,7 +42,7 @@ add-place-of : tie.Need-add-place-of Inv-loop μ-loop
 add-place-of c =
     let x = c .before .before .before .before .before .before .before .before in
     let g = x .pre in
-    omega (arith, c .before .before .before .before .loop-test .taken, g .3 .stays, g .3 .short)
+    omega (arith, c .before .before .before .before .loop-test .taken, g .3 .stands .stays, g .3 .stands .small)
 
 place-of-requires : tie.Need-place-of-requires Inv-loop μ-loop
 place-of-requires c κs =

@@ -22,7 +22,7 @@ word-at-requires : tie.Need-word-at-requires Inv-loop μ-loop
 word-at-requires c κs =
     let x = c .before .before .before in
     let r = c .before .loop .inv (x .pre .1 .0) (x .pre .1 .1) (x .pre .1 .2) in
-    omega (arith, header-there _ _ _ _ _ (r .spans) (c .loop-test .taken), r .spans .stays)
+    omega (arith, header-there _ _ _ _ _ (r .spans) (c .loop-test .taken), r .spans .stands .stays)
 
 returns : tie.Need-returns Inv-loop μ-loop
 returns c =
@@ -36,13 +36,13 @@ add-long-at : tie.Need-add-long-at Inv-loop μ-loop
 add-long-at c =
     let x = c .before .before .before .before .before in
     let r = c .before .before .before .loop .inv (x .pre .1 .0) (x .pre .1 .1) (x .pre .1 .2) in
-    omega (arith, header-there _ _ _ _ _ (r .spans) (c .before .before .loop-test .taken), r .spans .stays, r .spans .short)
+    omega (arith, header-there _ _ _ _ _ (r .spans) (c .before .before .loop-test .taken), r .spans .stands .stays, r .spans .stands .small)
 
 long-at-requires : tie.Need-long-at-requires Inv-loop μ-loop
 long-at-requires c κs =
     let x = c .before .before .before .before .before in
     let r = c .before .before .before .loop .inv (x .pre .1 .0) (x .pre .1 .1) (x .pre .1 .2) in
-    omega (arith, header-there _ _ _ _ _ (r .spans) (c .before .before .loop-test .taken), r .spans .stays, r .spans .short)
+    omega (arith, header-there _ _ _ _ _ (r .spans) (c .before .before .loop-test .taken), r .spans .stands .stays, r .spans .stands .small)
 
 cast-o : tie.Need-cast-o Inv-loop μ-loop
 cast-o c = omega (arith, c .long-at .ensures .small)
@@ -52,7 +52,7 @@ add-o c =
     let x = c .before .before .before .before .before .before in
     let q = c .before .before .before .before .loop .inv (x .pre .1 .0) (x .pre .1 .1) (x .pre .1 .2) in
     let g = passed (x .args .id) (x .pre .0) _ _ _ (x .args .stop) (q .rest) (q .spans) (c .before .before .before .loop-test .taken) (λ e. c .before .if1 .left (c .before .before .word-at .ensures .is ∙ e)) in
-    omega (arith, g .ends, q .spans .stays, q .spans .short, c .long-at .ensures .is)
+    omega (arith, g .ends, q .spans .stands .stays, q .spans .stands .small, c .long-at .ensures .is)
 
 loop-less : tie.Need-loop-less Inv-loop μ-loop
 loop-less c =

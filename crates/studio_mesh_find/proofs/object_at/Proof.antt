@@ -5,7 +5,7 @@ use native.Mathlib.Omega.{arith}
 use borrow.Author.Needs.{needs}
 use lib.ListN.{length}
 use Rattle.studio_rules.specs.Layout.{offsetOf}
-use Rattle.studio_mesh_find.proofs.Runs.{stands-here, kids-at}
+use Rattle.studio_mesh_find.proofs.Runs.{header-here, kids-at}
 use Rattle.studio_mesh_find.proofs.Parts.{all-listed, name-there, name-some}
 use Rattle.studio_mesh_find.proofs.object_at.Statement.{statement}
 use Rattle.studio_mesh_find.proofs.object_at.Tie as tie
@@ -17,8 +17,8 @@ long-at-requires : tie.Need-long-at-requires
 long-at-requires c κs =
     let x = c .before in
     let b = x .pre in
-    let w = stands-here (b .0) (x .args .file .now) (x .args .at) (b .4) 0x4000 (b .1) (b .2) (b .3) (b .5) in
-    omega (arith, w .six, b .5 .stays)
+    let w = header-here (b .0) (x .args .file .now) (x .args .at) (b .4) 0x4000 (b .1) (b .2) (b .3) (b .5) in
+    omega (arith, w .six, b .5 .stands .stays)
 
 cast-stop : tie.Need-cast-stop
 cast-stop c = search needs
@@ -33,8 +33,8 @@ name-size-requires : tie.Need-name-size-requires
 name-size-requires c κs =
     let x = c .before .before in
     let b = x .pre in
-    let w = stands-here (b .0) (x .args .file .now) (x .args .at) (b .4) 0x4000 (b .1) (b .2) (b .3) (b .5) in
-    omega (arith, w .ends, w .length-is, c .long-at .ensures .is, b .5 .stays)
+    let w = header-here (b .0) (x .args .file .now) (x .args .at) (b .4) 0x4000 (b .1) (b .2) (b .3) (b .5) in
+    omega (arith, w .ends, w .length-is, c .long-at .ensures .is, b .5 .stands .stays)
 
 add-next-child : tie.Need-add-next-child
 add-next-child c = search needs
@@ -43,15 +43,15 @@ add-next-child-2 : tie.Need-add-next-child-2
 add-next-child-2 c =
     let x = c .before .before .before in
     let b = x .pre in
-    let w = stands-here (b .0) (x .args .file .now) (x .args .at) (b .4) 0x4000 (b .1) (b .2) (b .3) (b .5) in
+    let w = header-here (b .0) (x .args .file .now) (x .args .at) (b .4) 0x4000 (b .1) (b .2) (b .3) (b .5) in
     let z : c .name-size .result ≡ length (b .1) = c .name-size .ensures ∙ rw (c .before .long-at .ensures .is) (name-there (b .0) (b .1) (b .2) (b .3) (x .args .file .now) (x .args .at) (b .4) (b .5)) in
-    omega (arith, w .ends, b .5 .stays, b .5 .short)
+    omega (arith, w .ends, b .5 .stands .stays, b .5 .stands .small)
 
 next-child-requires : tie.Need-next-child-requires
 next-child-requires c κs =
     let x = c .before .before .before in
     let b = x .pre in
-    let w = stands-here (b .0) (x .args .file .now) (x .args .at) (b .4) 0x4000 (b .1) (b .2) (b .3) (b .5) in
+    let w = header-here (b .0) (x .args .file .now) (x .args .at) (b .4) 0x4000 (b .1) (b .2) (b .3) (b .5) in
     let z : c .name-size .result ≡ length (b .1) = c .name-size .ensures ∙ rw (c .before .long-at .ensures .is) (name-there (b .0) (b .1) (b .2) (b .3) (x .args .file .now) (x .args .at) (b .4) (b .5)) in
     (all-listed .2, (_, _, kids-at (b .0) (x .args .file .now) (x .args .at) (b .4) 0x4000 (b .1) (b .2) (b .3) (b .5) (x .args .at + 6 + c .name-size .result) (c .before .long-at .result) (omega arith) (c .before .long-at .ensures .is)))
 
@@ -59,7 +59,7 @@ sub-t8 : tie.Need-sub-t8
 sub-t8 c =
     let x = c .before .before .before .before in
     let b = x .pre in
-    let w = stands-here (b .0) (x .args .file .now) (x .args .at) (b .4) 0x4000 (b .1) (b .2) (b .3) (b .5) in
+    let w = header-here (b .0) (x .args .file .now) (x .args .at) (b .4) 0x4000 (b .1) (b .2) (b .3) (b .5) in
     let z : c .before .name-size .result ≡ length (b .1) = c .before .name-size .ensures ∙ rw (c .before .before .long-at .ensures .is) (name-there (b .0) (b .1) (b .2) (b .3) (x .args .file .now) (x .args .at) (b .4) (b .5)) in
     omega (arith, name-some (b .0) (b .1) (b .2) (b .3) (x .args .file .now) (x .args .at) (b .4) (b .5))
 
@@ -75,7 +75,7 @@ returns c =
     record {
       name-size = rw n;
       mesh-at = c .next-child .ensures _ _ k ∙ ap (λ (o : ℕ). offsetOf 0x4100 o kids) f;
-      ends-at = rw (c .before .before .long-at .ensures .is, stands-here p s a stop 0x4000 own kids rest h .length-is);
+      ends-at = rw (c .before .before .long-at .ensures .is, header-here p s a stop 0x4000 own kids rest h .length-is);
     }
 
 pub object-at-spec : {M : Type 1} → statement M

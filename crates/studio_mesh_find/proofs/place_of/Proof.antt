@@ -2,7 +2,7 @@
 use Prim.Native.Nat.{_+_}
 use native.Mathlib.Omega.{arith}
 use borrow.Author.Needs.{needs}
-use Rattle.studio_mesh_find.proofs.Runs.{stands-here, kids-at}
+use Rattle.studio_mesh_find.proofs.Runs.{header-here, kids-at}
 use Rattle.studio_mesh_find.proofs.Parts.{all-listed, mesh-own, vertices-counted, faces-counted, place-there}
 use Rattle.studio_mesh_find.proofs.place_of.Statement.{statement}
 use Rattle.studio_mesh_find.proofs.place_of.Tie as tie
@@ -14,7 +14,7 @@ long-at-requires : tie.Need-long-at-requires
 long-at-requires c κs =
     let x = c .before in
     let b = x .pre in
-    omega (arith, stands-here (b .0) (x .args .file .now) (x .args .at) (b .4) 0x4100 (b .1) (b .2) (b .3) (b .5) .six, b .5 .stays)
+    omega (arith, header-here (b .0) (x .args .file .now) (x .args .at) (b .4) 0x4100 (b .1) (b .2) (b .3) (b .5) .six, b .5 .stands .stays)
 
 cast-stop : tie.Need-cast-stop
 cast-stop c = search needs
@@ -53,7 +53,7 @@ returns c =
     λ p own kids rest stop h.
     let z = mesh-own p own kids rest s a stop h in
     let k = kids-at p s a stop 0x4100 own kids rest h (a + 6) (w .result) (omega arith) (w .ensures .is) in
-    place-there _ kids s (k .obeys) (x .args .name) (x .args .size) (c .before .elements-of .result) (c .elements-of2 .result)
+    place-there _ (k .seen) kids s (k .obeys) (x .args .name) (x .args .size) (c .before .elements-of .result) (c .elements-of2 .result)
     (c .before .elements-of .ensures _ _ 12 vertices-counted k) (c .elements-of2 .ensures _ _ 8 faces-counted k)
 
 pub place-of-spec : {M : Type 1} → statement M

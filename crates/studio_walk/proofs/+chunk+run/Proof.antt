@@ -119,6 +119,7 @@ opened t d q seen k =
     record {
       starts = x .pre .1 .0;
       ends = x .pre .1 .2 .ends;
+      small = omega (arith, x .pre .1 .2 .short);
       are-bytes = file-bytes t l;
       head = found t l (d .id .given .1) q seen k;
       marks = l .look .ensures .1 .0 q seen k;
@@ -132,7 +133,7 @@ chunk-run-requires t c κs =
     let e = opened t (c .before .before) (p .0) (p .1) (p .2) in
     let v = e .within in
     let room : Room (c .before .before .id .given .0 .1 .1 .1 .1 .0) (c .before .before .id .given .0 .1 .1 .0) (x .args .file .now) noMarks = record { ends = omega (arith, x .pre .1 .2 .ends, v .2); short = x .pre .1 .2 .short; word = v .3; five = refl } in
-    (omega (arith, v .0, v .1, v .2, x .pre), (v .1, omega (arith, v .0), room, (inside (p .0) (c .before .before .id .given .0 .0) (ent e .own), [], inner-context e)))
+    (omega (arith, v .0, v .1, v .2, x .pre), (v .1, omega (arith, v .0), room, (inside (p .0) (p .1) (c .before .before .id .given .0 .0) (ent e .own), [], inner-context e)))
 
 chunk-enum-known-r-2 : (t : ℕ) → chunk-lts.Need-enum-known-r-2 (chunk-calls t) (chunk-at t) chunk.Post
 chunk-enum-known-r-2 t c = search needs
@@ -149,8 +150,7 @@ chunk-at-end-requires t c κs =
     let p = x .pre .1 .3 in
     let e = opened t (c .before .before .before .before .before .before .before .before) (p .0) (p .1) (p .2) in
     let y = c .before .before .before .before .before .run in
-    let m = x .pre .1 .2 .short in
-    (y .ensures .1 .0, enter-placed e (children e (y .ensures .0) (c .before .before .records .given .1)) (omega arith), omega arith)
+    (y .ensures .1 .0, enter-placed e (children e (y .ensures .0) (c .before .before .records .given .1)))
 
 chunk-enum-known-r-3 : (t : ℕ) → chunk-lts.Need-enum-known-r-3 (chunk-calls t) (chunk-at t) chunk.Post
 chunk-enum-known-r-3 t c = search needs
@@ -181,7 +181,7 @@ chunk-returns t c =
     let x = d .before .before .before .before .args in
     let ms = d .look .last .1 .1 .1 .1 .1 .0 in
     let g = c .before .r .given in
-    (λ q seen k. chunk-fault q (x .at) (x .marks .now) ms (step q seen (x .at) (slice (x .at) (x .end) (x .file .now))) (g .0 .0) (found t d (g .1) q seen k), (d .look .ensures .1 .1 .0, tt))
+    (λ q seen k. chunk-fault q seen (x .at) (x .marks .now) ms (step q seen (x .at) (slice (x .at) (x .end) (x .file .now))) (g .0 .0) (found t d (g .1) q seen k), (d .look .ensures .1 .1 .0, tt))
 
 chunk-same-length-2 : (t : ℕ) → chunk-lts.Need-same-length-2 (chunk-calls t) (chunk-at t) chunk.Post
 chunk-same-length-2 t c = search needs
@@ -194,7 +194,7 @@ chunk-returns-2 t c =
     let g = c .before .stop .given in
     let v = found-within t d (g .1) in (
       λ q seen k.
-          chunk-skip q (x .at) (x .marks .now) ms (step q seen (x .at) (slice (x .at) (x .end) (x .file .now))) (g .0 .0) (found t d (g .1) q seen k) (d .look .ensures .1 .0 q seen k),
+          chunk-skip q seen (x .at) (x .marks .now) ms (step q seen (x .at) (slice (x .at) (x .end) (x .file .now))) (g .0 .0) (found t d (g .1) q seen k) (d .look .ensures .1 .0 q seen k),
       (d .look .ensures .1 .1 .0, omega arith),
     )
 
@@ -314,11 +314,11 @@ came : (t : ℕ) (d : run-lts.After-chunk (run-calls t) (run-at t) run.Post run-
     let x = d .before .before .before .before .before .before .args in
     let i = d .before .before .before .loop in
     (q : Parent) (seen : List ℕ) → Context q seen (x .parent) (x .count) (i .marks) →
-    ChunkIs q (i .p) (step q seen (i .p) (slice (i .p) (x .end) (x .file .now))) r (i .marks) (d .chunk .last .1 .1 .1 .1 .1 .0)
+    ChunkIs q seen (i .p) (step q seen (i .p) (slice (i .p) (x .end) (x .file .now))) r (i .marks) (d .chunk .last .1 .1 .1 .1 .1 .0)
 came t d e q seen k =
     let x = d .before .before .before .before .before .before .args in
     let i = d .before .before .before .loop in
-    subst (λ r. ChunkIs q (i .p) (step q seen (i .p) (slice (i .p) (x .end) (x .file .now))) r (i .marks) (d .chunk .last .1 .1 .1 .1 .1 .0)) e (d .chunk .ensures .0 q seen k)
+    subst (λ r. ChunkIs q seen (i .p) (step q seen (i .p) (slice (i .p) (x .end) (x .file .now))) r (i .marks) (d .chunk .last .1 .1 .1 .1 .1 .0)) e (d .chunk .ensures .0 q seen k)
 
 run-returns : (t : ℕ) → run-lts.Need-returns (run-calls t) (run-at t) run.Post run-Inv-loop run-μ-loop
 run-returns t c =
