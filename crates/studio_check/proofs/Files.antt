@@ -117,7 +117,7 @@ top-listed : listed 0x4D4D ≡ true
 unfolding listed rows
 top-listed = refl
 
-pub figure-row : 0x00_1_0_5_004_1 ≡ rowOf 0x4D4D
+pub figure-row : 0x00_1_0_5_0004_1 ≡ rowOf 0x4D4D
 unfolding rows limits atMostOne places rowOf
 figure-row = refl
 

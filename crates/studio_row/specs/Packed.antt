@@ -69,12 +69,13 @@ sizeOf (counted k) = k
 sizeOf (each k) = k
 sizeOf named-words = 0
 
--- ---- a row as one number: place, holds, slot, kind, plus, size
+-- ---- a row as one number: place (four bits), holds (sixteen, so that there is room for fifteen places), slot, kind, plus
+-- (four each), size (eight)
 
 abbrev pub packed : ℕ → Row → ℕ
 packed x r =
-    placeFrom 1 (r .parents) places + 2 ^ 4 * holdsFrom 1 x places + 2 ^ 16 * slotUnder x (r .parents) + 2 ^ 20 * kindOf (r .shape) + 2 ^ 24 * cond (r .plus) 1 0 +
-    2 ^ 28 * sizeOf (r .shape)
+    placeFrom 1 (r .parents) places + 2 ^ 4 * holdsFrom 1 x places + 2 ^ 20 * slotUnder x (r .parents) + 2 ^ 24 * kindOf (r .shape) + 2 ^ 28 * cond (r .plus) 1 0 +
+    2 ^ 32 * sizeOf (r .shape)
 
 -- the packed row of an identifier, 0 where it has none
 unfoldable pub rowOf : ℕ → ℕ
@@ -86,20 +87,20 @@ abbrev pub mayHoldIn : ℕ → ℕ → Bool
 mayHoldIn parent row = eqb (parent / 16 / 2 ^ (row % 16) % 2) 1
 
 abbrev pub slotIn : ℕ → ℕ
-slotIn row = row / 2 ^ 16 % 16
+slotIn row = row / 2 ^ 20 % 16
 
 abbrev pub kindIn : ℕ → ℕ
-kindIn row = row / 2 ^ 20 % 16
+kindIn row = row / 2 ^ 24 % 16
 
 abbrev pub plusIn : ℕ → Bool
-plusIn row = eqb (row / 2 ^ 24 % 16) 1
+plusIn row = eqb (row / 2 ^ 28 % 16) 1
 
 -- own data of a fixed size, and no children: kind and plus are both 0
 abbrev pub plainIn : ℕ → Bool
-plainIn row = eqb (row / 2 ^ 20 % 256) 0
+plainIn row = eqb (row / 2 ^ 24 % 256) 0
 
 abbrev pub sizeIn : ℕ → ℕ
-sizeIn row = row / 2 ^ 28 % 256
+sizeIn row = row / 2 ^ 32 % 256
 
 -- a row that may have children; 0 for any other
 unfoldable pub holderIn : ℕ → ℕ

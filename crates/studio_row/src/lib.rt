@@ -13,30 +13,30 @@ pub fn may_hold(parent: u64, row: u64) -> bool
 pub fn slot(row: u64) -> usize
     ensures { λ r. ⌜ Slot row r ⌝ }
 {
-    (row / 65536 % 16) as usize
+    (row / 1048576 % 16) as usize
 }
 
 pub fn kind(row: u64) -> u64
     ensures { λ r. ⌜ r ≡ kindIn row ⌝ }
 {
-    row / 1048576 % 16
+    row / 16777216 % 16
 }
 
 pub fn may_have_children(row: u64) -> bool
     ensures { λ r. ⌜ r ≡ plusIn row ⌝ }
 {
-    row / 16777216 % 16 == 1
+    row / 268435456 % 16 == 1
 }
 
 // Own data of a fixed size, and no children: most chunks of most files are such.
 pub fn is_plain(row: u64) -> bool
     ensures { λ r. ⌜ r ≡ plainIn row ⌝ }
 {
-    row / 1048576 % 256 == 0
+    row / 16777216 % 256 == 0
 }
 
 pub fn size(row: u64) -> usize
     ensures { λ r. ⌜ Size row r ⌝ }
 {
-    (row / 268435456 % 256) as usize
+    (row / 4294967296 % 256) as usize
 }
