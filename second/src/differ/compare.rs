@@ -2,6 +2,7 @@
 //! and all lent bytes compared, those around the lent ones too.
 
 use super::random::Random;
+use super::run::{count, Tally};
 use crate::boundary::{refusal, Boundary, Chunk, RECORD_BYTES};
 use crate::RECORD;
 use std::fmt;
@@ -50,7 +51,7 @@ pub struct Pair<L, R> {
     pub left: L,
     pub right: R,
     /// How often each answer was met: 0 for accepted, else the number.
-    pub met: [u64; 18],
+    pub met: Tally,
     canary: Vec<u8>,
     ours: [Vec<u8>; 2],
     theirs: [Vec<u8>; 2],
@@ -62,7 +63,7 @@ impl<L: Boundary, R: Boundary> Pair<L, R> {
         Pair {
             left,
             right,
-            met: [0; 18],
+            met: Tally::default(),
             canary: random.bytes(6 * 1_048_576),
             ours: Default::default(),
             theirs: Default::default(),
@@ -84,7 +85,7 @@ impl<L: Boundary, R: Boundary> Pair<L, R> {
         if left != right || self.ours != self.theirs || !self.kept(call, left) {
             return Err(self.difference(call, left, right));
         }
-        self.met[(left >> 32).min(17) as usize] += 1;
+        count(&mut self.met, left);
         Ok(left)
     }
 
@@ -206,7 +207,7 @@ impl<L: Boundary, R: Boundary> Pair<L, R> {
     pub fn whole(&mut self, file: &[u8], random: &mut Random) -> Result<u64, Difference> {
         let answer = self.ask(file, Call::Check)?;
         if refusal(answer).is_some() {
-            self.refused(file, answer, random)?;
+            self.refused(file, answer, some_calls(random))?;
             return Ok(answer);
         }
         let needed = RECORD_BYTES * answer as usize;
@@ -241,16 +242,12 @@ impl<L: Boundary, R: Boundary> Pair<L, R> {
     }
 
     /// All other calls over a file that is refused answer the same.
-    fn refused(&mut self, file: &[u8], answer: u64, random: &mut Random) -> Result<(), Difference> {
-        let mesh = random.pick(&[0, 1, 2, u32::MAX]);
-        let calls = [
-            Call::List(random.below(200)),
-            Call::Records(random.below(50), random.below(9)),
-            Call::Counts(random.below(16)),
-            Call::Tables(mesh, random.below(50), random.below(30)),
-            Call::Name(mesh, random.below(12)),
-            Call::Box(mesh, random.below(44)),
-        ];
+    pub fn refused(
+        &mut self,
+        file: &[u8],
+        answer: u64,
+        calls: [Call; 6],
+    ) -> Result<(), Difference> {
         for call in calls {
             let other = self.ask(file, call)?;
             if other != answer {
@@ -304,10 +301,23 @@ impl<L: Boundary, R: Boundary> Pair<L, R> {
 
     /// The numbers that a mesh's tables need, learned from what no room
     /// answers; a mesh of an accepted file has no faces without vertices.
-    fn sizes(&mut self, file: &[u8], mesh: u32) -> Result<(usize, usize), Difference> {
+    pub fn sizes(&mut self, file: &[u8], mesh: u32) -> Result<(usize, usize), Difference> {
         let needed = |answer| refusal(answer).map_or(0, |(_, place)| place as usize);
         let n = needed(self.ask(file, Call::Tables(mesh, 0, 0))?);
         let f = needed(self.ask(file, Call::Tables(mesh, 4 * n, 0))?);
         Ok((n, f))
     }
+}
+
+/// All calls but the check, with rooms as they come.
+fn some_calls(random: &mut Random) -> [Call; 6] {
+    let mesh = random.pick(&[0, 1, 2, u32::MAX]);
+    [
+        Call::List(random.below(200)),
+        Call::Records(random.below(50), random.below(9)),
+        Call::Counts(random.below(16)),
+        Call::Tables(mesh, random.below(50), random.below(30)),
+        Call::Name(mesh, random.below(12)),
+        Call::Box(mesh, random.below(44)),
+    ]
 }

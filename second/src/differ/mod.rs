@@ -1,6 +1,7 @@
 //! The comparison of two readers over many files, long and short, valid and
 //! damaged, all grown from one seed.
 
+pub mod build;
 pub mod compare;
 pub mod damage;
 pub mod facts;
@@ -10,6 +11,7 @@ pub mod grow;
 pub mod harm;
 pub mod kinds;
 pub mod long;
+pub mod named;
 pub mod node;
 pub mod random;
 pub mod real;

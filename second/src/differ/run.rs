@@ -3,6 +3,7 @@
 
 use super::compare::{hex, Difference, Pair};
 use super::families::{judge, judge_tree, make, sweep, Family, Subject, FAMILIES};
+use super::named;
 use super::random::Random;
 use super::shrink::shrink;
 use super::writing::Writing;
@@ -10,7 +11,7 @@ use crate::boundary::{refusal, Boundary};
 use std::time::{Duration, Instant};
 
 /// How often each answer was met: 0 for accepted, else the refusal's number.
-pub type Tally = [u64; 18];
+pub type Tally = [u64; 31];
 
 /// The first difference found, and where.
 #[derive(Debug)]
@@ -31,12 +32,25 @@ pub struct Plan {
     pub trace: bool,
 }
 
-/// Runs all families; how often each answer was met, if no difference is found.
+/// Runs the named cases, then all families; how often each answer was met, if
+/// no difference is found.
 pub fn run<L: Boundary, R: Boundary>(
     plan: Plan,
     pair: &mut Pair<L, R>,
 ) -> Result<Tally, Box<Failure>> {
-    let mut total = [0; 18];
+    let begin = Instant::now();
+    let mut total = named::run(&named::cases(), pair)?;
+    plan.say("Named", "cases with the paper's answer", &total, begin);
+    add(&mut total, &grown(plan, pair)?);
+    Ok(total)
+}
+
+/// Runs all families.
+pub fn grown<L: Boundary, R: Boundary>(
+    plan: Plan,
+    pair: &mut Pair<L, R>,
+) -> Result<Tally, Box<Failure>> {
+    let mut total = Tally::default();
     for (family, share, what) in FAMILIES {
         let begin = Instant::now();
         let least = if family == Family::LongWriter {
@@ -50,7 +64,7 @@ pub fn run<L: Boundary, R: Boundary>(
         add(&mut total, &tally);
     }
     let begin = Instant::now();
-    let mut tally = [0; 18];
+    let mut tally = Tally::default();
     let step = if plan.count >= 20_000 { 1 } else { 31 };
     let swept = sweep(step, pair, |answer| count(&mut tally, answer));
     swept.map_err(|(file, difference)| {
@@ -70,7 +84,7 @@ pub fn run<L: Boundary, R: Boundary>(
 /// Counts an answer by its number.
 pub fn count(tally: &mut Tally, answer: u64) {
     let number = refusal(answer).map_or(0, |(number, _)| number as usize);
-    tally[number.min(17)] += 1;
+    tally[number.min(tally.len() - 1)] += 1;
 }
 
 fn add(total: &mut Tally, tally: &Tally) {
@@ -103,7 +117,7 @@ impl Plan {
         cases: u64,
         pair: &mut Pair<L, R>,
     ) -> Result<Tally, Box<Failure>> {
-        let mut tally = [0; 18];
+        let mut tally = Tally::default();
         for index in 0..cases {
             let source = Random::of_case(self.seed, family as u64, index);
             let mut random = source.clone();
