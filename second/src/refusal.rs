@@ -22,6 +22,9 @@ pub enum Number {
     NoRoom = 15,
     NoSuchMesh = 16,
     Empty = 17,
+    Slip = 18,
+    Differs = 19,
+    Text = 24,
 }
 
 /// One number and one place of the paper's table.

@@ -1,7 +1,8 @@
 //! Everything a side says of an accepted file, to be compared with what it
 //! should say: the list, the counts, and every mesh.
 
-use super::compare::{spoken, Difference, Pair};
+use super::compare::Pair;
+use super::lent::{spoken, Difference};
 use super::node::Node;
 use crate::boundary::{refusal, Boundary, RECORD_BYTES};
 use crate::row;

@@ -2,10 +2,11 @@
 //! sides must say of it.
 
 use super::build;
-use super::compare::{Call, Difference, Pair};
+use super::compare::{Call, Pair};
 use super::facts::Facts;
 use super::gaps;
 use super::grow::{figure, finite, grower, unlisted, Fill, LISTED};
+use super::lent::Difference;
 use super::node::Node;
 use super::random::Random;
 use super::writing::Writing;

@@ -1,9 +1,9 @@
 //! Demand 3: private chunks put into gaps, or taken out, and what every
 //! answer must then be, worked out from the answers before.
 
-use super::compare::{hex, Difference};
 use super::facts::{self, Facts, Rooms};
 use super::grow::unlisted;
+use super::lent::{hex, Difference};
 use super::random::Random;
 use crate::boundary::Boundary;
 use crate::row;

@@ -10,6 +10,7 @@ pub mod gaps;
 pub mod grow;
 pub mod harm;
 pub mod kinds;
+pub mod lent;
 pub mod long;
 pub mod named;
 pub mod node;

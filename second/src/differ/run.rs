@@ -1,8 +1,9 @@
 //! A whole run: so many cases from a seed, a line for each family, and the
 //! smallest file of the first difference.
 
-use super::compare::{hex, Difference, Pair};
+use super::compare::Pair;
 use super::families::{judge, judge_tree, make, sweep, Family, Subject, FAMILIES};
+use super::lent::{hex, Difference};
 use super::named;
 use super::random::Random;
 use super::shrink::shrink;

@@ -2,7 +2,8 @@
 //! and a byte more; of every mesh, and of some that are not there.
 
 use crate::boundary::{refusal, Boundary, RECORD_BYTES};
-use crate::differ::compare::{Call, Difference, Pair};
+use crate::differ::compare::{Call, Pair};
+use crate::differ::lent::Difference;
 use crate::RECORD;
 
 /// The check's answer, if both sides agree in all calls.

@@ -9,9 +9,10 @@ mod rows;
 mod tree;
 mod writings;
 
-use super::compare::{spoken, Difference, Pair};
+use super::compare::Pair;
 use super::facts::Facts;
 use super::families::Subject;
+use super::lent::{spoken, Difference};
 use super::run::{count, Failure, Tally};
 use crate::boundary::Boundary;
 
