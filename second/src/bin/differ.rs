@@ -1,11 +1,11 @@
 //! The comparison on the command line: many cases from a seed, every bit of
 //! some files turned, or all figures in some folders.
 
-use second::boundary::{Boundary, Right, Second, LINKED};
+use second::boundary::{Boundary, Right, Second, SlipRight, LINKED, SLIPS_LINKED};
 use second::differ::compare::Pair;
-use second::differ::run::{run, words, Plan};
+use second::differ::run::{add, run, words, Plan};
 use second::differ::seeded::{Seeded, ERRORS};
-use second::differ::{real, turned};
+use second::differ::{real, slips, turned};
 use std::path::Path;
 use std::process::ExitCode;
 use std::time::Instant;
@@ -73,21 +73,27 @@ fn plan(arguments: &[&str]) -> Option<Plan> {
     }
 }
 
-/// Many cases from a seed.
+/// Many cases from a seed, over figures and then over all other formats.
 fn grown<L: Boundary, R: Boundary>(plan: Plan, pair: &mut Pair<L, R>) -> Result<(), String> {
     let begin = Instant::now();
-    match run(plan, pair) {
-        Ok(total) => {
-            let seconds = begin.elapsed().as_secs_f64();
-            println!("{:<46}{seconds:>7.1} s {}", "Total", words(&total));
-            Ok(())
-        }
-        Err(failure) => {
-            let (family, index) = (&failure.family, failure.index);
-            println!("{family}, case {index}: a difference; looking for a smaller one");
-            Err(failure.shrunk(plan.seed, pair).words(plan.seed))
-        }
+    let mut total = run(plan, pair).map_err(|failure| {
+        let (family, index) = (&failure.family, failure.index);
+        println!("{family}, case {index}: a difference; looking for a smaller one");
+        failure.shrunk(plan.seed, pair).words(plan.seed)
+    })?;
+    if SLIPS_LINKED || !LINKED {
+        let slips = &mut Pair::new(Second, SlipRight::default());
+        let tally = slips::run(plan, slips);
+        add(
+            &mut total,
+            &tally.map_err(|failure| failure.words(plan.seed))?,
+        );
+    } else {
+        println!("slips are not compared: the library under test has no such calls yet");
     }
+    let seconds = begin.elapsed().as_secs_f64();
+    println!("{:<46}{seconds:>7.1} s {}", "Total", words(&total));
+    Ok(())
 }
 
 fn read(path: &Path) -> Result<Vec<u8>, String> {

@@ -1,6 +1,18 @@
 //! The comparison of two readers over many files, long and short, valid and
 //! damaged, all grown from one seed.
 
+/// Names the cases of an enum once, and lists them all.
+macro_rules! listed {
+    ($(#[$about:meta])* $name:ident, $all:ident: $($case:ident)*) => {
+        $(#[$about])*
+        #[derive(Clone, Copy, Debug, PartialEq, Eq)]
+        pub enum $name { $($case,)* }
+
+        /// All of them.
+        pub const $all: &[$name] = &[$($name::$case,)*];
+    };
+}
+
 pub mod build;
 pub mod compare;
 pub mod damage;
@@ -20,5 +32,6 @@ pub mod rows;
 pub mod run;
 pub mod seeded;
 pub mod shrink;
+pub mod slips;
 pub mod turned;
 pub mod writing;

@@ -140,10 +140,7 @@ fn free() -> Figures {
             figure(vec![zeros(0x3E3D, 0), zeros(0x4111, 5), zeros(0x7FFF, 300)]),
         ),
         ("a name that looks like a header", figure(vec![disguised])),
-        (
-            "a long name",
-            figure(vec![meshed(&"n".repeat(300), vec![])]),
-        ),
+        ("a long name", figure(vec![meshed("n".repeat(300), vec![])])),
     ]
 }
 

@@ -51,7 +51,7 @@ pub fn run<'a, L: Boundary, R: Boundary>(
                 return Err(Box::new(Failure {
                     family: format!("Named ({})", case.name),
                     index: index as u64,
-                    subject: case.subject.clone(),
+                    subject: Some(case.subject.clone()),
                     difference,
                 }))
             }
