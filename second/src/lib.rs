@@ -4,6 +4,7 @@
 pub mod boundary;
 mod bounding_box;
 mod bytes;
+mod cob;
 pub mod differ;
 mod judge;
 mod list;
@@ -16,6 +17,7 @@ mod tables;
 mod writer;
 
 pub use bounding_box::{bounding_box, BoundingBox};
+pub use cob::{read_cob, Cob, CobMesh, CobRecord};
 pub use judge::{check, Counts};
 pub use list::list;
 pub use refusal::{Number, Refusal};

@@ -24,6 +24,9 @@ pub enum Number {
     Empty = 17,
     Slip = 18,
     Differs = 19,
+    Header = 20,
+    Owner = 21,
+    Size = 22,
     Text = 24,
 }
 

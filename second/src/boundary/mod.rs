@@ -2,8 +2,10 @@
 //! 64-bit number; this library behind it, and the one under test. Here are the
 //! calls over figures, and what all calls share.
 
+mod cobs;
 mod slips;
 
+pub use cobs::{CobRight, Cobs, COBS_LINKED, COB_RECORD_BYTES};
 pub use slips::{SlipRight, Slips, ENTRY_BYTES, SLIPS_LINKED};
 
 use crate::{bounding_box, check, list, name, tables, write, Refusal, RECORD};
