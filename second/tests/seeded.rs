@@ -6,7 +6,6 @@ use second::differ::compare::Pair;
 use second::differ::named;
 use second::differ::run::{grown, Plan};
 use second::differ::seeded::{misread_rows, Error, Seeded, ERRORS};
-use second::differ::slips::{self, erring};
 
 /// A small run that prints nothing.
 fn plan(count: u64) -> Plan {
@@ -82,29 +81,5 @@ fn named_cases_alone_see_every_misread_row() {
         let about = cases.iter().filter(|case| case.name.contains(&row));
         named::run(about, pair).is_ok() && named::run(&cases, pair).is_ok()
     });
-    assert!(unseen.is_empty(), "not seen: {unseen:?}");
-}
-
-#[test]
-fn slips_that_agree_agree() {
-    let mut pair = Pair::new(Second, erring::Erring::default());
-    let tally = slips::run(plan(2_000), &mut pair).unwrap_or_else(|failure| {
-        panic!("{}", failure.words(7));
-    });
-    let unmet: Vec<usize> = [0, 1, 18, 19]
-        .into_iter()
-        .filter(|number| tally[*number] == 0)
-        .collect();
-    assert_eq!(unmet, [], "refusals that no case has met");
-}
-
-#[test]
-fn every_error_in_slips_is_seen() {
-    let mut pair = Pair::new(Second, erring::Erring::default());
-    let unseen = erring::ERRORS.iter().filter(|error| {
-        pair.right.error = Some(**error);
-        slips::run(plan(2_000), &mut pair).is_ok()
-    });
-    let unseen: Vec<_> = unseen.collect();
     assert!(unseen.is_empty(), "not seen: {unseen:?}");
 }

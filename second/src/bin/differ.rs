@@ -1,11 +1,13 @@
 //! The comparison on the command line: many cases from a seed, every bit of
 //! some files turned, or all figures in some folders.
 
-use second::boundary::{Boundary, Right, Second, SlipRight, LINKED, SLIPS_LINKED};
+use second::boundary::{
+    Boundary, CobRight, Right, Second, SlipRight, COBS_LINKED, LINKED, SLIPS_LINKED,
+};
 use second::differ::compare::Pair;
-use second::differ::run::{add, run, words, Plan};
+use second::differ::run::{add, run, words, Failure, Plan, Tally};
 use second::differ::seeded::{Seeded, ERRORS};
-use second::differ::{real, slips, turned};
+use second::differ::{cobs, real, slips, turned};
 use std::path::Path;
 use std::process::ExitCode;
 use std::time::Instant;
@@ -73,6 +75,18 @@ fn plan(arguments: &[&str]) -> Option<Plan> {
     }
 }
 
+/// The runs over other formats: what they are over, whether the library under
+/// test has the calls, and the run.
+type Other = (&'static str, bool, fn(Plan) -> Result<Tally, Box<Failure>>);
+const OTHERS: [Other; 2] = [
+    ("slips", SLIPS_LINKED, |plan| {
+        slips::run(plan, &mut Pair::new(Second, SlipRight::default()))
+    }),
+    ("Caligari figures", COBS_LINKED, |plan| {
+        cobs::run(plan, &mut Pair::new(Second, CobRight::default()))
+    }),
+];
+
 /// Many cases from a seed, over figures and then over all other formats.
 fn grown<L: Boundary, R: Boundary>(plan: Plan, pair: &mut Pair<L, R>) -> Result<(), String> {
     let begin = Instant::now();
@@ -81,15 +95,13 @@ fn grown<L: Boundary, R: Boundary>(plan: Plan, pair: &mut Pair<L, R>) -> Result<
         println!("{family}, case {index}: a difference; looking for a smaller one");
         failure.shrunk(plan.seed, pair).words(plan.seed)
     })?;
-    if SLIPS_LINKED || !LINKED {
-        let slips = &mut Pair::new(Second, SlipRight::default());
-        let tally = slips::run(plan, slips);
-        add(
-            &mut total,
-            &tally.map_err(|failure| failure.words(plan.seed))?,
-        );
-    } else {
-        println!("slips are not compared: the library under test has no such calls yet");
+    for (what, linked, run) in OTHERS {
+        if linked || !LINKED {
+            let tally = run(plan).map_err(|failure| failure.words(plan.seed))?;
+            add(&mut total, &tally);
+        } else {
+            println!("{what} are not compared: the library under test has no such calls yet");
+        }
     }
     let seconds = begin.elapsed().as_secs_f64();
     println!("{:<46}{seconds:>7.1} s {}", "Total", words(&total));

@@ -1,7 +1,7 @@
 //! The calls over Caligari figures.
 
 use super::{answer, few, put, Second};
-use crate::{read_cob, CobMesh, Number, Refusal};
+use crate::{read_cob, Cob, CobMesh, Number, Refusal};
 
 /// The bytes of one record on the boundary.
 pub const COB_RECORD_BYTES: usize = 24;
@@ -24,43 +24,62 @@ impl Cobs for Second {
     }
 
     fn cob_list(&self, file: &[u8], records: &mut [u8]) -> u64 {
-        answer(read_cob(file).and_then(|cob| {
-            let count = cob.records.len();
-            Number::NoRoom.unless(count <= records.len() / COB_RECORD_BYTES, count)?;
-            let numbers = cob.records.as_flattened().iter();
-            put(records, numbers.map(|number| number.to_le_bytes()));
-            Ok(count)
-        }))
+        cob_list_of(read_cob(file), records)
     }
 
     fn cob_sizes(&self, file: &[u8], mesh: u32, sizes: &mut [u8]) -> u64 {
-        let two = find(file, mesh).map(|mesh| {
-            [mesh.vertices.len(), mesh.corners.len()].map(|numbers| numbers as u32 / 3)
-        });
-        few(two, sizes)
+        cob_sizes_of(read_cob(file), mesh, sizes)
     }
 
     fn cob_tables(&self, file: &[u8], mesh: u32, vertices: &mut [u8], corners: &mut [u8]) -> u64 {
-        answer(find(file, mesh).and_then(|mesh| {
-            let (n, c) = (mesh.vertices.len(), mesh.corners.len());
-            Number::NoRoom.unless(n <= vertices.len() / 4, n)?;
-            Number::NoRoom.unless(c <= corners.len() / 4, c)?;
-            put(
-                vertices,
-                mesh.vertices.iter().map(|float| float.to_le_bytes()),
-            );
-            put(
-                corners,
-                mesh.corners.iter().map(|corner| corner.to_le_bytes()),
-            );
-            Ok(n / 3)
-        }))
+        cob_tables_of(read_cob(file), mesh, vertices, corners)
     }
 }
 
-/// A mesh of a file; the file's own fault comes first.
-fn find(file: &[u8], mesh: u32) -> Result<CobMesh, Refusal> {
-    let mut meshes = read_cob(file)?.meshes;
+/// The list of what was read.
+pub(crate) fn cob_list_of(read: Result<Cob, Refusal>, records: &mut [u8]) -> u64 {
+    answer(read.and_then(|cob| {
+        let count = cob.records.len();
+        Number::NoRoom.unless(count <= records.len() / COB_RECORD_BYTES, count)?;
+        let numbers = cob.records.as_flattened().iter();
+        put(records, numbers.map(|number| number.to_le_bytes()));
+        Ok(count)
+    }))
+}
+
+/// The sizes of a mesh of what was read.
+pub(crate) fn cob_sizes_of(read: Result<Cob, Refusal>, mesh: u32, sizes: &mut [u8]) -> u64 {
+    let two = find(read, mesh)
+        .map(|mesh| [mesh.vertices.len(), mesh.corners.len()].map(|numbers| numbers as u32 / 3));
+    few(two, sizes)
+}
+
+/// The tables of a mesh of what was read.
+pub(crate) fn cob_tables_of(
+    read: Result<Cob, Refusal>,
+    mesh: u32,
+    vertices: &mut [u8],
+    corners: &mut [u8],
+) -> u64 {
+    answer(find(read, mesh).and_then(|mesh| {
+        let (n, c) = (mesh.vertices.len(), mesh.corners.len());
+        Number::NoRoom.unless(n <= vertices.len() / 4, n)?;
+        Number::NoRoom.unless(c <= corners.len() / 4, c)?;
+        put(
+            vertices,
+            mesh.vertices.iter().map(|float| float.to_le_bytes()),
+        );
+        put(
+            corners,
+            mesh.corners.iter().map(|corner| corner.to_le_bytes()),
+        );
+        Ok(n / 3)
+    }))
+}
+
+/// A mesh of what was read; the file's own fault comes first.
+fn find(read: Result<Cob, Refusal>, mesh: u32) -> Result<CobMesh, Refusal> {
+    let mut meshes = read?.meshes;
     let (mesh, count) = (mesh as usize, meshes.len());
     Number::NoSuchMesh.unless(mesh < count, count)?;
     Ok(meshes.swap_remove(mesh))

@@ -5,6 +5,7 @@
 mod cobs;
 mod slips;
 
+pub(crate) use cobs::{cob_list_of, cob_sizes_of, cob_tables_of};
 pub use cobs::{CobRight, Cobs, COBS_LINKED, COB_RECORD_BYTES};
 pub use slips::{SlipRight, Slips, ENTRY_BYTES, SLIPS_LINKED};
 
@@ -157,7 +158,7 @@ impl Boundary for Second {
 }
 
 /// The answer of a call: what it counts to, or its refusal.
-fn answer(result: Result<usize, Refusal>) -> u64 {
+pub(crate) fn answer(result: Result<usize, Refusal>) -> u64 {
     match result {
         Ok(count) => count as u64,
         Err(Refusal { number, place }) => refused(number, place),

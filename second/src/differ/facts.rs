@@ -112,7 +112,7 @@ fn accepted(call: &str, answer: u64) -> Result<u64, String> {
 }
 
 /// The numbers in bytes, so many at a time.
-fn numbers<const N: usize>(bytes: &[u8]) -> Vec<[u32; N]> {
+pub fn numbers<const N: usize>(bytes: &[u8]) -> Vec<[u32; N]> {
     let whole = bytes.as_chunks::<4>().0.iter();
     let numbers: Vec<u32> = whole.map(|bytes| u32::from_le_bytes(*bytes)).collect();
     numbers.as_chunks::<N>().0.to_vec()

@@ -14,6 +14,7 @@ macro_rules! listed {
 }
 
 pub mod build;
+pub mod cobs;
 pub mod compare;
 pub mod damage;
 pub mod facts;
