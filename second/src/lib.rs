@@ -4,6 +4,7 @@
 pub mod boundary;
 mod bounding_box;
 mod bytes;
+mod c4d;
 mod cob;
 pub mod differ;
 mod judge;
@@ -17,6 +18,7 @@ mod tables;
 mod writer;
 
 pub use bounding_box::{bounding_box, BoundingBox};
+pub use c4d::{read_c4d, C4d};
 pub use cob::{read_cob, Cob, CobMesh, CobRecord};
 pub use judge::{check, Counts};
 pub use list::list;

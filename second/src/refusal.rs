@@ -28,6 +28,10 @@ pub enum Number {
     Owner = 21,
     Size = 22,
     Text = 24,
+    Form = 25,
+    Order = 26,
+    Combination = 27,
+    Material = 28,
 }
 
 /// One number and one place of the paper's table.

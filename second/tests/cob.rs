@@ -405,8 +405,8 @@ fn indices_are_below_their_counts() {
     );
 }
 
-#[test]
-fn tables_have_the_triangles_without_holes() {
+/// A file of two meshes; the second has triangles with and without holes.
+fn two_meshes() -> Vec<u8> {
     let three = |k| [[k, 0], [k + 1, 0], [k + 2, 0]];
     let faces = [
         face(0, &three(0)),
@@ -421,11 +421,16 @@ fn tables_have_the_triangles_without_holes() {
     ];
     let vertices = [[1.0, -0.0, 2.0]; 6];
     let body = polygons(&vertices, &[[0.0; 2]], &faces);
-    let file = file(&[
+    file(&[
         sized(MESH, [1, 0], &triangle()),
         sized(MESH, [2, 1], &body),
         end(),
-    ]);
+    ])
+}
+
+#[test]
+fn tables_have_the_triangles_without_holes() {
+    let file = two_meshes();
     let (answer, [sizes, _]) = both([9, 0], |side, sizes, _| side.cob_sizes(&file, 1, sizes));
     assert_eq!(
         (answer, &sizes[..]),

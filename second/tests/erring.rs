@@ -4,7 +4,7 @@
 use second::boundary::Second;
 use second::differ::compare::Pair;
 use second::differ::run::{Failure, Plan, Tally};
-use second::differ::{cobs, slips};
+use second::differ::{c4ds, cobs, slips};
 
 /// A small run that prints nothing.
 const PLAN: Plan = Plan {
@@ -49,4 +49,11 @@ fn errors_in_caligari_figures_are_seen() {
     let run = |error| cobs::run(PLAN, &mut Pair::new(Second, cobs::erring::Erring { error }));
     agrees(run(None), &[0, 1, 3, 5, 10, 11, 12, 14, 20, 21, 22]);
     all_seen(cobs::erring::ERRORS, |error| run(Some(error)));
+}
+
+#[test]
+fn errors_in_cinema_figures_are_seen() {
+    let run = |error| c4ds::run(PLAN, &mut Pair::new(Second, c4ds::erring::Erring { error }));
+    agrees(run(None), &[0, 1, 5, 10, 25, 26, 27, 28]);
+    all_seen(c4ds::erring::ERRORS, |error| run(Some(error)));
 }

@@ -2,12 +2,13 @@
 //! some files turned, or all figures in some folders.
 
 use second::boundary::{
-    Boundary, CobRight, Right, Second, SlipRight, COBS_LINKED, LINKED, SLIPS_LINKED,
+    Boundary, C4dRight, CobRight, Right, Second, SlipRight, C4DS_LINKED, COBS_LINKED, LINKED,
+    SLIPS_LINKED,
 };
 use second::differ::compare::Pair;
 use second::differ::run::{add, run, words, Failure, Plan, Tally};
 use second::differ::seeded::{Seeded, ERRORS};
-use second::differ::{cobs, real, slips, turned};
+use second::differ::{c4ds, cobs, real, slips, turned};
 use std::path::Path;
 use std::process::ExitCode;
 use std::time::Instant;
@@ -78,12 +79,15 @@ fn plan(arguments: &[&str]) -> Option<Plan> {
 /// The runs over other formats: what they are over, whether the library under
 /// test has the calls, and the run.
 type Other = (&'static str, bool, fn(Plan) -> Result<Tally, Box<Failure>>);
-const OTHERS: [Other; 2] = [
+const OTHERS: [Other; 3] = [
     ("slips", SLIPS_LINKED, |plan| {
         slips::run(plan, &mut Pair::new(Second, SlipRight::default()))
     }),
     ("Caligari figures", COBS_LINKED, |plan| {
         cobs::run(plan, &mut Pair::new(Second, CobRight::default()))
+    }),
+    ("Cinema 4D figures", C4DS_LINKED, |plan| {
+        c4ds::run(plan, &mut Pair::new(Second, C4dRight::default()))
     }),
 ];
 

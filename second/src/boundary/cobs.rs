@@ -85,14 +85,7 @@ fn find(read: Result<Cob, Refusal>, mesh: u32) -> Result<CobMesh, Refusal> {
     Ok(meshes.swap_remove(mesh))
 }
 
-/// Whether the right-hand side over Caligari figures is the library under test.
-pub const COBS_LINKED: bool = cfg!(all(feature = "tds", feature = "cob"));
-
-/// The right-hand side over Caligari figures.
-#[cfg(all(feature = "tds", feature = "cob"))]
-pub type CobRight = super::Tds;
-#[cfg(not(all(feature = "tds", feature = "cob")))]
-pub type CobRight = Second;
+right!(CobRight, COBS_LINKED, "cob");
 
 #[cfg(all(feature = "tds", feature = "cob"))]
 mod linked {

@@ -2,9 +2,27 @@
 //! 64-bit number; this library behind it, and the one under test. Here are the
 //! calls over figures, and what all calls share.
 
+/// Names the right-hand side over a format: the library under test where its
+/// calls are linked, else this library again; and whether it is the former.
+macro_rules! right {
+    ($right:ident, $linked:ident, $feature:literal) => {
+        /// The right-hand side over this format.
+        #[cfg(all(feature = "tds", feature = $feature))]
+        pub type $right = super::Tds;
+        #[cfg(not(all(feature = "tds", feature = $feature)))]
+        pub type $right = super::Second;
+
+        /// Whether it is the library under test.
+        pub const $linked: bool = cfg!(all(feature = "tds", feature = $feature));
+    };
+}
+
+mod c4ds;
 mod cobs;
 mod slips;
 
+pub(crate) use c4ds::c4d_list_of;
+pub use c4ds::{C4dRight, C4ds, C4DS_LINKED, OBJECT_BYTES};
 pub(crate) use cobs::{cob_list_of, cob_sizes_of, cob_tables_of};
 pub use cobs::{CobRight, Cobs, COBS_LINKED, COB_RECORD_BYTES};
 pub use slips::{SlipRight, Slips, ENTRY_BYTES, SLIPS_LINKED};

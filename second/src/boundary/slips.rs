@@ -94,14 +94,7 @@ fn entry(numbers: &[u32]) -> Entry {
     }
 }
 
-/// Whether the right-hand side over slips is the library under test.
-pub const SLIPS_LINKED: bool = cfg!(all(feature = "tds", feature = "slip"));
-
-/// The right-hand side over slips.
-#[cfg(all(feature = "tds", feature = "slip"))]
-pub type SlipRight = super::Tds;
-#[cfg(not(all(feature = "tds", feature = "slip")))]
-pub type SlipRight = Second;
+right!(SlipRight, SLIPS_LINKED, "slip");
 
 #[cfg(all(feature = "tds", feature = "slip"))]
 mod linked {

@@ -48,11 +48,11 @@ impl Try {
         if said.as_ref() == Ok(&self.expected) {
             return Ok(());
         }
-        Err(Difference {
-            call: format!("demand 3, {name} side, file after {}", hex(&self.after)),
-            left: format!("should say {:?}", self.expected),
-            right: format!("says {said:?}"),
-        })
+        Err(Difference::should(
+            format!("demand 3, {name} side, file after {}", hex(&self.after)),
+            &self.expected,
+            &said,
+        ))
     }
 }
 

@@ -28,6 +28,17 @@ pub struct Difference {
     pub right: String,
 }
 
+impl Difference {
+    /// A side that says something else than it should.
+    pub fn should(call: String, expected: &dyn fmt::Debug, said: &dyn fmt::Debug) -> Difference {
+        Difference {
+            call,
+            left: format!("should say {expected:?}"),
+            right: format!("says {said:?}"),
+        }
+    }
+}
+
 impl fmt::Display for Difference {
     fn fmt(&self, to: &mut fmt::Formatter<'_>) -> fmt::Result {
         let Difference { call, left, right } = self;

@@ -14,9 +14,11 @@ macro_rules! listed {
 }
 
 pub mod build;
+pub mod c4ds;
 pub mod cobs;
 pub mod compare;
 pub mod damage;
+pub mod drafts;
 pub mod facts;
 pub mod families;
 pub mod gaps;

@@ -1,8 +1,10 @@
 //! The calls over Caligari figures on both sides, with rooms too small, exact
 //! and larger, and against what is to be said of a file.
 
+use super::grow::File;
 use crate::boundary::{refusal, Cobs, COB_RECORD_BYTES};
 use crate::differ::compare::Pair;
+use crate::differ::drafts::Asks;
 use crate::differ::facts::numbers;
 use crate::differ::lent::{hex, inside, spoken, Buffers, Difference, Lent};
 use crate::differ::random::Random;
@@ -69,43 +71,55 @@ fn ask<L: Cobs, R: Cobs>(
     )
 }
 
-/// All calls over one file; the answer of the check.
-pub fn whole<L: Cobs, R: Cobs>(
-    file: &[u8],
-    random: &mut Random,
-    pair: &mut Pair<L, R>,
-) -> Result<u64, Difference> {
-    let answer = ask(file, Call::Check, pair)?;
-    let needed = Call::List(0).filled(answer)[0];
-    for room in [
-        needed,
-        needed.saturating_sub(1),
-        needed + random.below(30),
-        random.below(needed + 1),
-    ] {
-        ask(file, Call::List(room), pair)?;
+impl<L: Cobs, R: Cobs> Asks<File> for Pair<L, R> {
+    fn whole(&mut self, file: &[u8], random: &mut Random) -> Result<u64, Difference> {
+        let answer = ask(file, Call::Check, self)?;
+        let needed = Call::List(0).filled(answer)[0];
+        for room in [
+            needed,
+            needed.saturating_sub(1),
+            needed + random.below(30),
+            random.below(needed + 1),
+        ] {
+            ask(file, Call::List(room), self)?;
+        }
+        let count = ask(file, Call::Sizes(u32::MAX, 8), self)? as u32;
+        if refusal(answer).is_some() {
+            ask(
+                file,
+                Call::Tables(random.below(2) as u32, random.below(50), random.below(50)),
+                self,
+            )?;
+            return Ok(answer);
+        }
+        for mesh in [count, count + 1, random.next() as u32 | 1 << 20] {
+            ask(file, Call::Sizes(mesh, random.below(9)), self)?;
+            ask(
+                file,
+                Call::Tables(mesh, random.below(9), random.below(9)),
+                self,
+            )?;
+        }
+        for mesh in (0..count).take(3) {
+            one(file, mesh, random, self)?;
+        }
+        Ok(answer)
     }
-    let count = ask(file, Call::Sizes(u32::MAX, 8), pair)? as u32;
-    if refusal(answer).is_some() {
-        ask(
-            file,
-            Call::Tables(random.below(2) as u32, random.below(50), random.below(50)),
-            pair,
-        )?;
-        return Ok(answer);
+
+    fn said(&self, draft: &File, file: &[u8]) -> Result<(), Difference> {
+        let expected = draft.read();
+        for side in [&self.left as &dyn Cobs, &self.right] {
+            let said = all(side, file, &expected);
+            if said.as_ref() != Ok(&expected) {
+                return Err(Difference::should(
+                    format!("a valid file {}", hex(&file[..file.len().min(2_000)])),
+                    &expected,
+                    &said,
+                ));
+            }
+        }
+        Ok(())
     }
-    for mesh in [count, count + 1, random.next() as u32 | 1 << 20] {
-        ask(file, Call::Sizes(mesh, random.below(9)), pair)?;
-        ask(
-            file,
-            Call::Tables(mesh, random.below(9), random.below(9)),
-            pair,
-        )?;
-    }
-    for mesh in (0..count).take(3) {
-        one(file, mesh, random, pair)?;
-    }
-    Ok(answer)
 }
 
 /// One mesh, with all kinds of room.
@@ -129,25 +143,6 @@ fn one<L: Cobs, R: Cobs>(
     ];
     for (vertices, corners) in rooms {
         ask(file, Call::Tables(mesh, vertices, corners), pair)?;
-    }
-    Ok(())
-}
-
-/// Whether both sides say of a file what is to be said.
-pub fn said<L: Cobs, R: Cobs>(
-    file: &[u8],
-    expected: &Cob,
-    pair: &Pair<L, R>,
-) -> Result<(), Difference> {
-    for side in [&pair.left as &dyn Cobs, &pair.right] {
-        let said = all(side, file, expected);
-        if said.as_ref() != Ok(expected) {
-            return Err(Difference {
-                call: format!("a valid file {}", hex(&file[..file.len().min(2_000)])),
-                left: format!("should say {expected:?}"),
-                right: format!("says {said:?}"),
-            });
-        }
     }
     Ok(())
 }

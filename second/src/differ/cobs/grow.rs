@@ -1,6 +1,8 @@
 //! Valid Caligari figures grown at random, with what a reader gets from them
 //! worked out from how they were grown.
 
+use super::harm;
+use crate::differ::drafts::Draft;
 use crate::differ::grow::finite;
 use crate::differ::random::Random;
 use crate::{Cob, CobMesh, LIMIT};
@@ -8,7 +10,7 @@ use std::collections::HashMap;
 
 /// A file before it is bytes.
 #[derive(Clone, Debug, Default)]
-pub struct Draft {
+pub struct File {
     pub head: Vec<u8>,
     pub chunks: Vec<Chunk>,
     pub tail: Vec<u8>,
@@ -68,10 +70,11 @@ const OTHERS: [(&[u8; 4], [u16; 2]); 8] = [
     (b"END\0", [1, 0]),
 ];
 
-impl Draft {
-    /// A valid file.
-    pub fn grown(random: &mut Random) -> Draft {
-        let mut draft = Draft::default();
+impl Draft for File {
+    const FAULTS: u64 = 16;
+
+    fn grown(random: &mut Random) -> File {
+        let mut draft = File::default();
         for _ in 0..random.below(7) {
             let chunk = draft.chunk(random);
             draft.chunks.push(chunk);
@@ -79,10 +82,10 @@ impl Draft {
         draft.finish(random)
     }
 
-    /// A file at the limit of length: very many chunks one inside the other, a
-    /// large mesh, or one large chunk that is skipped; or one byte more.
-    pub fn long(index: u64, random: &mut Random) -> Draft {
-        let mut draft = Draft::default();
+    /// Very many chunks one inside the other, a large mesh, or one large chunk
+    /// that is skipped.
+    fn long(index: u64, random: &mut Random) -> File {
+        let mut draft = File::default();
         match index % 3 {
             0 => {
                 for identifier in 1..(LIMIT as u32 - 400) / 20 {
@@ -110,8 +113,23 @@ impl Draft {
         draft.finish(random)
     }
 
+    fn bytes(&self) -> Vec<u8> {
+        let mut bytes = self.head.clone();
+        for chunk in &self.chunks {
+            bytes.extend(chunk.bytes());
+        }
+        bytes.extend_from_slice(&self.tail);
+        bytes
+    }
+
+    fn harm(&mut self, kind: u64, random: &mut Random) {
+        harm::once(self, kind, random);
+    }
+}
+
+impl File {
     /// Puts the first bytes and the END around the chunks.
-    fn finish(mut self, random: &mut Random) -> Draft {
+    fn finish(mut self, random: &mut Random) -> File {
         self.head = HEAD.to_vec();
         self.chunks.push(Chunk {
             letters: *b"END ",
@@ -146,16 +164,6 @@ impl Draft {
             chunk.stated = random.pick(&[None, Some(-1)]);
         }
         chunk
-    }
-
-    /// Its bytes.
-    pub fn bytes(&self) -> Vec<u8> {
-        let mut bytes = self.head.clone();
-        for chunk in &self.chunks {
-            bytes.extend(chunk.bytes());
-        }
-        bytes.extend_from_slice(&self.tail);
-        bytes
     }
 
     /// What is to be read from a valid file.

@@ -1,22 +1,11 @@
 //! Faults put into Caligari figures on purpose: each kind alone, and several
 //! together, to see which is answered.
 
-use super::grow::{Body, Chunk, Draft, Face, Mesh};
+use super::grow::{Body, Chunk, Face, File, Mesh};
 use crate::differ::random::Random;
 
-/// How many kinds of fault there are.
-const KINDS: u64 = 16;
-
-/// Puts in a fault of the kind of an index, and perhaps more.
-pub fn harm(draft: &mut Draft, index: u64, random: &mut Random) {
-    once(draft, index % KINDS, random);
-    while random.chance(35) {
-        once(draft, random.next() % KINDS, random);
-    }
-}
-
 /// Puts in one fault, at any chunk or at the file's ends.
-fn once(draft: &mut Draft, kind: u64, random: &mut Random) {
+pub fn once(draft: &mut File, kind: u64, random: &mut Random) {
     let count = draft.chunks.len();
     let which = random.below(count.max(1));
     let others: Vec<u32> = draft.chunks.iter().map(|chunk| chunk.identifier).collect();
@@ -81,7 +70,7 @@ fn stretch(body: &mut Body, random: &mut Random) {
     }
 }
 
-impl Draft {
+impl File {
     /// The meshes of the file.
     fn meshes(&mut self) -> Vec<&mut Mesh> {
         let bodies = self.chunks.iter_mut().map(|chunk| &mut chunk.body);

@@ -6,7 +6,11 @@ use crate::boundary::{refusal, refused, Second, Slips, ENTRY_BYTES};
 listed! {
     /// The errors that can be made.
     Error, ERRORS:
-    SumsExchanged SumsModulo256 LimitNotJudged LengthNotJudged SumsJudgedFirst HighSumsIgnored SumOf255Read RepeatsRead EmptyNameRead CountMissingAtHead LeftOverAtHead CountUnlimited NameOffsetOfEntry RoomOfPart RoomFirst PartOfEntryLost RepeatsWritten ThousandthRefused BadEntryAfterMany WritesBeforeRefusing EmptyPartKeeps255 JoinByFirstLength JoinForgetsLength LengthsWrap StateLengthCut
+    SumsExchanged SumsModulo256 LimitNotJudged LengthNotJudged SumsJudgedFirst HighSumsIgnored
+    SumOf255Read RepeatsRead EmptyNameRead CountMissingAtHead LeftOverAtHead CountUnlimited
+    NameOffsetOfEntry RoomOfPart RoomFirst PartOfEntryLost RepeatsWritten ThousandthRefused
+    BadEntryAfterMany WritesBeforeRefusing EmptyPartKeeps255 JoinByFirstLength JoinForgetsLength
+    LengthsWrap StateLengthCut
 }
 
 /// This library, with an error or without.
