@@ -32,6 +32,8 @@ pub enum Number {
     Order = 26,
     Combination = 27,
     Material = 28,
+    SameName = 29,
+    NoMaterial = 30,
 }
 
 /// One number and one place of the paper's table.

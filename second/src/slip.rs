@@ -92,9 +92,15 @@ impl Entry {
 
     /// Whether the name can be printed on a label, once that is asked for.
     fn fits_label(&self, names: &[u8]) -> bool {
-        let name = self.name(names);
-        !LABELS_JUDGED || name.len() <= LABEL && name.iter().all(|byte| (32..=126).contains(byte))
+        !LABELS_JUDGED || label_fault(self.name(names)).is_none()
     }
+}
+
+/// The first byte of a name that cannot be printed on a label.
+pub fn label_fault(name: &[u8]) -> Option<usize> {
+    let bad = name.iter().position(|byte| !(32..=126).contains(byte));
+    let long = (name.len() > LABEL).then_some(LABEL);
+    bad.into_iter().chain(long).min()
 }
 
 /// The bytes of a slip of these entries.

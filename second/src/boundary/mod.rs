@@ -19,12 +19,14 @@ macro_rules! right {
 
 mod c4ds;
 mod cobs;
+mod figures;
 mod slips;
 
 pub(crate) use c4ds::c4d_list_of;
 pub use c4ds::{C4dRight, C4ds, C4DS_LINKED, OBJECT_BYTES};
 pub(crate) use cobs::{cob_list_of, cob_sizes_of, cob_tables_of};
 pub use cobs::{CobRight, Cobs, COBS_LINKED, COB_RECORD_BYTES};
+pub use figures::{FigureRight, Figures, Rows, FIGURES_LINKED};
 pub use slips::{SlipRight, Slips, ENTRY_BYTES, SLIPS_LINKED};
 
 use crate::{bounding_box, check, list, name, tables, write, Refusal, RECORD};
