@@ -6,7 +6,7 @@
 .DEFAULT_GOAL := run
 SHELL := /bin/bash
 .SHELLFLAGS := -o pipefail -c
-.PHONY: prove test rust-test differ fuzz real turned bench c-check asked clean
+.PHONY: prove test rust-test differ fuzz real turned bench bench-build c-check asked clean
 
 prove:
 	rt check
@@ -48,6 +48,10 @@ turned: differ samples
 
 bench: target/staticlib/libtds.a
 	cargo run $(CARGO_FLAGS) bench/Cargo.toml
+
+# for the gate: it builds, and is not timed
+bench-build: target/staticlib/libtds.a
+	cargo build $(CARGO_FLAGS) bench/Cargo.toml
 
 # ---- the C side: run, c-test, c-memcheck, samples, install
 
