@@ -5,11 +5,14 @@ BUILD=${BUILD:-build}
 # shellcheck source=tests/c/counting.sh
 . tests/c/counting.sh
 
-# The longest of them runs beside the others.
-side=$(mktemp "${TMPDIR:-/tmp}/tds-side.XXXXXX") || exit 2
-trap 'rm -f "$side"' EXIT
-sh tests/c/stick_test.sh >"$side" 2>&1 &
-beside=$!
+# The tests of the bench tool run beside the others.
+side=$(mktemp -d "${TMPDIR:-/tmp}/tds-side.XXXXXX") || exit 2
+trap 'rm -rf "$side"' EXIT
+tool='stick terminal medium against copy batch run'
+for test in $tool; do
+    sh "tests/c/${test}_test.sh" >"$side/$test" 2>&1
+    echo $? >"$side/$test.status"
+done &
 
 one sh tests/c/counting_test.sh
 one sh tests/c/header_test.sh
@@ -19,7 +22,9 @@ one ${RUN:-} "$BUILD/c-test/boundary_test"
 one sh tests/c/samples_test.sh
 one sh tests/c/viewer_test.sh
 one sh tests/c/install_test.sh
-wait "$beside"
-judge "$?" "$(cat "$side")" tests/c/stick_test.sh
+wait
+for test in $tool; do
+    judge "$(cat "$side/$test.status")" "$(cat "$side/$test")" "tests/c/${test}_test.sh"
+done
 echo "c-test: $all_passed passed, $all_failed failed"
 [ "$all_failed" -eq 0 ]
