@@ -147,29 +147,28 @@ if traced 'do' "kill -INT \$PROCESS" "$F/chisel.3ds" --quiet "$F"; then
     has out 'DO NOT SEAL: not finished: 1 figure checked'
 fi
 try 'stopped twice, while nothing moves'
-# The pipe is never read, so the tool waits there for ever; the second signal ends it.
-mkfifo "$T/stuck"
-exec 5<>"$T/stuck"
-head -c 65536 /dev/zero >&5
-# shellcheck disable=SC2086
-$RUN "$S" samples/damaged >&5 2>"$T/err" &
-tool=$!
-tries=0
-until [ "$(cut -d ' ' -f 3 "/proc/$tool/stat")" = S ] || [ "$tries" -gt 600 ]; do
-    tries=$((tries + 1))
-    sleep 0.1
-done
-kill -TERM "$tool"
-kill -TERM "$tool" 2>/dev/null
-tries=0
-while kill -0 "$tool" 2>/dev/null && [ "$tries" -le 600 ]; do
-    tries=$((tries + 1))
-    kill -TERM "$tool" 2>/dev/null
-    sleep 0.1
-done
-wait "$tool"
-status=$?
-exec 5>&-
-status_is 2
-has err 'DO NOT SEAL: not finished'
+# The pipe is full and never read, so the tool waits there for ever; the second signal ends it.
+if [ -n "$RUN" ]; then skip "$RUN waits itself"; else
+    mkfifo "$T/stuck"
+    exec 5<>"$T/stuck"
+    head -c 65536 /dev/zero >&5
+    "$S" samples/damaged >&5 2>"$T/err" &
+    tool=$!
+    tries=0
+    # until it listens to this signal: the 15th of those that it catches
+    until grep -q '^SigCgt:.*[4-7c-f]...$' "/proc/$tool/status" || [ "$tries" -ge 600 ]; do
+        tries=$((tries + 1))
+        sleep 0.1
+    done
+    while [ "$tries" -lt 600 ] && kill -s TERM "$tool" 2>/dev/null; do
+        tries=$((tries + 1))
+        sleep 0.1
+    done
+    kill -s KILL "$tool" 2>/dev/null
+    wait "$tool"
+    status=$?
+    exec 5>&-
+    status_is 2
+    has err 'DO NOT SEAL: not finished'
+fi
 finish terminal_test
