@@ -7,7 +7,7 @@ use libc::STDOUT_FILENO;
 fn main() {
     let mut buffer = [0u8; 65536];
     let mut text = [0u8; listing_text::ROOM];
-    let input = input::read(STDIN_FILENO, &mut buffer);
+    let input = listing_input::read(STDIN_FILENO, &mut buffer);
     let n = listing_text::answer(&buffer, input, &mut text);
     if n == 0 {
         io::write_all(STDERR_FILENO, b"listing: the input could not be read\n");

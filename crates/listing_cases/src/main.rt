@@ -15,7 +15,7 @@ fn show(name: &[u8]) {
     }
     let mut buffer = [0u8; 65536];
     let mut text = [0u8; listing_text::ROOM];
-    let input = input::read(fd, &mut buffer);
+    let input = listing_input::read(fd, &mut buffer);
     libc::close(fd);
     let n = listing_text::answer(&buffer, input, &mut text);
     io::write_all(STDOUT_FILENO, name);

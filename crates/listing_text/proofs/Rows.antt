@@ -6,8 +6,8 @@ use native.Mathlib.Numerals.{add-one}
 use native.Mathlib.Omega.{arith}
 use lib.ListN.{length, drop, getD}
 use lib.Seq.{getD-drop}
-use Rattle.rules.specs.declared.Record.{Record}
-use Rattle.rules.specs.Gives.{flat}
+use Rattle.studio_rules.specs.declared.Record.{Record}
+use Rattle.studio_rules.specs.Gives.{flat}
 use Rattle.listing_text.specs.Lines.{chunkLine, lines, lineAt, rowLines}
 
 -- the record after the first stands six numbers further on

@@ -1,10 +1,11 @@
 -- The samples, by computation.
 use mathlib.Core.Path.{refl}
-use Rattle.rules.specs.Bytes.{every}
-use Rattle.rules.specs.Table.{rows, atMostOne, atLeastOne, listed, under, shape, plus, limits, needs}
-use Rattle.rules.specs.OwnData.{finite}
-use Rattle.rules.specs.Walk.{broken, step, walk, verdict}
-use Rattle.printing.specs.Text.{numeral, decimal}
+use Rattle.shared_words.specs.Lists.{every}
+use Rattle.studio_rules.specs.Table.{rows, atMostOne, atLeastOne, listed, under, shape, plus, limits, needs}
+use Rattle.shared_words.specs.Floats.{finite}
+use Rattle.shared_words.specs.Conditions.{broken}
+use Rattle.studio_rules.specs.Walk.{step, walk, verdict}
+use Rattle.listing_printing.specs.Text.{numeral, decimal}
 use Rattle.listing_text.specs.Lines.{refusalLine, countsLine, chunkLine}
 use Rattle.listing_text.specs.Listing.{listing}
 use Rattle.listing_text.specs.Samples.{Samples}

@@ -1,4 +1,4 @@
--- What `lister::list` answers with room for 1,024 records, and the listing that is printed of it.
+-- What `studio_list::list` answers with room for 1,024 records, and the listing that is printed of it.
 use mathlib.Core.Path.{_≡_, refl, sym, ap, _∙_}
 use mathlib.Core.Bool.{Bool, true, false, cond}
 use mathlib.Core.List.{List, _++_}
@@ -7,17 +7,19 @@ use native.Mathlib.Omega.{arith}
 use lib.Dec.{leb}
 use lib.ListN.{length, drop}
 use borrow.Author.Tests.{leb-true}
-use Rattle.rules.specs.declared.Refusal.{Refusal}
-use Rattle.rules.specs.declared.Refusal.the-variants.{NoRoom}
-use Rattle.rules.specs.declared.Record.{Record}
-use Rattle.rules.specs.declared.Counts.{Counts}
-use Rattle.rules.specs.declared.Checked.{Checked}
-use Rattle.rules.specs.Layout.{Run, figure}
-use Rattle.rules.specs.Walk.{Answer, refused, accepted, verdict}
-use Rattle.rules.specs.Gives.{recordCount, list, flat}
-use Rattle.rules.specs.Encodings.{flatRecords}
-use Rattle.rules.specs.Calls.{leaving, filled, countsOf, listOf, listCall}
-use Rattle.record_rows.proofs.Counts.{length-records}
+use Rattle.shared_words.specs.declared.Refusal.{Refusal}
+use Rattle.shared_words.specs.declared.Refusal.the-variants.{NoRoom}
+use Rattle.studio_rules.specs.declared.Record.{Record}
+use Rattle.studio_rules.specs.declared.Counts.{Counts}
+use Rattle.studio_rules.specs.declared.Checked.{Checked}
+use Rattle.studio_rules.specs.Layout.{Run, figure}
+use Rattle.shared_words.specs.Conditions.{Answer, refused, accepted}
+use Rattle.studio_rules.specs.Walk.{verdict}
+use Rattle.studio_rules.specs.Gives.{recordCount, list, flat}
+use Rattle.studio_rules.specs.Encodings.{flatRecords}
+use Rattle.shared_words.specs.Effects.{leaving, filled}
+use Rattle.studio_rules.specs.Calls.{countsOf, listOf, listCall}
+use Rattle.studio_list_rows.proofs.Counts.{length-records}
 use Rattle.listing_text.specs.Lines.{refusalLine, countsLine, lines, rowLines}
 use Rattle.listing_text.specs.Listing.{listingOf, listing}
 use Rattle.listing_text.proofs.Rows.{lines-flat}
@@ -34,7 +36,7 @@ module _ (row : List ℕ) (room : length row / 6 ≡ 1024) where
   no-room-of size kids r true e = absurd (let z : _≡_ {A = ℕ} 0 1 = cc in omega arith)
   no-room-of size kids r false e = let p : NoRoom (recordCount (figure kids)) ≡ r = cc in ap refusalLine p
 
-  refused-of : (size : ℕ) (a : Answer) (r : Refusal) → listOf flatRecords row a .answer ≡ Checked.Refused r → listingOf size a ≡ refusalLine r
+  refused-of : (size : ℕ) (a : Answer Run) (r : Refusal) → listOf flatRecords row a .answer ≡ Checked.Refused r → listingOf size a ≡ refusalLine r
   refused-of size (refused q) r e = let p : q ≡ r = cc in ap refusalLine p
   refused-of size (accepted kids) r e = no-room-of size kids r (leb (recordCount (figure kids)) 1024) (rw room at e)
 
@@ -60,7 +62,7 @@ module _ (row : List ℕ) (room : length row / 6 ≡ 1024) where
       )
   filled-of size kids counts false h e = absurd (let z : _≡_ {A = ℕ} 0 1 = cc in omega arith)
 
-  accepted-of : (size : ℕ) (a : Answer) (counts : Counts) → listOf flatRecords row a .answer ≡ Checked.Accepted counts →
+  accepted-of : (size : ℕ) (a : Answer Run) (counts : Counts) → listOf flatRecords row a .answer ≡ Checked.Accepted counts →
       (listingOf size a ≡ countsLine size counts ++ rowLines (counts .records) (listOf flatRecords row a .rows)) × (counts .records ≤ 1024)
   accepted-of size (refused q) counts e = absurd (let z : _≡_ {A = ℕ} 0 1 = cc in omega arith)
   accepted-of size (accepted kids) counts e =

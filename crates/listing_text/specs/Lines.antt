@@ -2,11 +2,11 @@
 use Prim.Native.Nat.{ℕ, zero, suc, _+_}
 use mathlib.Core.List.{List, [], _∷_, _++_}
 use lib.ListN.{drop, getD}
-use Rattle.rules.specs.declared.Record.{Record}
-use Rattle.rules.specs.declared.Counts.{Counts}
-use Rattle.rules.specs.declared.Refusal.{Refusal}
-use Rattle.rules.specs.Refusals.{numberOf, placeOf}
-use Rattle.printing.specs.Text.{decimal, fourDigits}
+use Rattle.studio_rules.specs.declared.Record.{Record}
+use Rattle.studio_rules.specs.declared.Counts.{Counts}
+use Rattle.shared_words.specs.declared.Refusal.{Refusal}
+use Rattle.shared_words.specs.Refusals.{numberOf, placeOf}
+use Rattle.listing_printing.specs.Text.{decimal, fourDigits}
 
 -- "ok"
 abbrev pub ok : List ℕ

@@ -4,17 +4,18 @@ use mathlib.Core.Bool.{cond}
 use mathlib.Core.List.{List, [], _++_}
 use lib.Dec.{leb}
 use lib.ListN.{length, take}
-use Rattle.rules.specs.declared.Refusal.the-variants.{TooLong, NoRoom}
-use Rattle.rules.specs.Layout.{figure}
-use Rattle.rules.specs.Walk.{Answer, refused, accepted, verdict}
-use Rattle.rules.specs.Gives.{recordCount, list}
-use Rattle.rules.specs.Calls.{countsOf}
-use Rattle.input.specs.declared.Input.{Input}
-use Rattle.input.specs.declared.Input.the-variants.{Whole, Longer, Failed}
+use Rattle.shared_words.specs.declared.Refusal.the-variants.{TooLong, NoRoom}
+use Rattle.studio_rules.specs.Layout.{Run, figure}
+use Rattle.shared_words.specs.Conditions.{Answer, refused, accepted}
+use Rattle.studio_rules.specs.Walk.{verdict}
+use Rattle.studio_rules.specs.Gives.{recordCount, list}
+use Rattle.studio_rules.specs.Calls.{countsOf}
+use Rattle.listing_input.specs.declared.Input.{Input}
+use Rattle.listing_input.specs.declared.Input.the-variants.{Whole, Longer, Failed}
 use Rattle.listing_text.specs.Lines.{refusalLine, countsLine, lines}
 
 -- the program has 1,024 records
-abbrev pub listingOf : ℕ → Answer → List ℕ
+abbrev pub listingOf : ℕ → Answer Run → List ℕ
 listingOf size (refused r) = refusalLine r
 listingOf size (accepted kids) =
     cond (leb (recordCount (figure kids)) 1024)

@@ -2,8 +2,8 @@
 use mathlib.Core.Path.{_≡_}
 use Prim.Native.Nat.{ℕ}
 use mathlib.Core.List.{List, [], _∷_}
-use Rattle.rules.specs.declared.Refusal.the-variants.{TooLong, NoRoom}
-use Rattle.rules.specs.Samples.{triangle}
+use Rattle.shared_words.specs.declared.Refusal.the-variants.{TooLong, NoRoom}
+use Rattle.studio_rules.specs.Samples.{triangle}
 use Rattle.listing_text.specs.Lines.{refusalLine}
 use Rattle.listing_text.specs.Listing.{listing}
 

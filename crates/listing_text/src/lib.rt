@@ -1,19 +1,19 @@
 // What the listing program prints, as bytes in a lent buffer. Each `put_` function puts text at a position of out and
 // answers the position behind it; the bytes around the text stay.
-use input::Input;
-use printing::put_byte;
-use printing::put_decimal;
-use printing::put_four_digits;
-use printing::put_text;
-use rules::Checked;
-use rules::Counts;
-use rules::Refusal;
+use listing_input::Input;
+use listing_printing::put_byte;
+use listing_printing::put_decimal;
+use listing_printing::put_four_digits;
+use listing_printing::put_text;
+use shared_words::Refusal;
+use studio_rules::Checked;
+use studio_rules::Counts;
 ghost use Prim.Native.Nat.{_+_, _*_, _<_, _≤_};
 ghost use lib.ListN.{length};
 ghost use Rattle.io.specs.Counts.{Counts as Io·Counts};
-ghost use Rattle.little_endian.specs.Put.{Put};
+ghost use Rattle.shared_numbers.specs.Put.{Put};
 ghost use Rattle.listing_text.specs.Lines.{field, refusalLine, countsLine, chunkLine, rowLines};
-ghost use Rattle.input.specs.Within.{Within};
+ghost use Rattle.listing_input.specs.Within.{Within};
 ghost use Rattle.listing_text.specs.Listing.{listing, printed};
 
 // The numbers of the program's row of 1,024 records.
@@ -40,8 +40,8 @@ fn put_refusal(r: Refusal, at: usize, out: &mut [u8]) -> usize
     ensures within { λ e. ⌜ e ≤ at + 50 ⌝ }
 {
     let number = put_text(b"refused", at, out);
-    let place = put_field(refusals::number(r) as usize, number, out);
-    let end = put_field(refusals::place(r), place, out);
+    let place = put_field(shared_refusals::number(r) as usize, number, out);
+    let end = put_field(shared_refusals::place(r), place, out);
     put_byte(b'\n', end, out)
 }
 
@@ -97,7 +97,7 @@ fn put_listing(file: &[u8], out: &mut [u8; ROOM]) -> usize
     ensures within { λ r. ⌜ r ≤ length (now (out .exit)) ⌝ }
 {
     let mut row = [0u32; ROW];
-    match lister::list(file, &mut row) {
+    match studio_list::list(file, &mut row) {
         Checked::Refused(r) => put_refusal(r, 0, out),
         Checked::Accepted(counts) => {
             let first = put_counts(file.len(), counts, 0, out);

@@ -2,12 +2,12 @@
 // the number of the mesh, the call, and what it answered. Floats are printed as their bits. A row is filled with 7.0, or
 // with the corner 9, before it is lent.
 use libc::STDOUT_FILENO;
-use rules::BoundingBox;
-use rules::Boxed;
-use rules::Corner;
-use rules::Named;
-use rules::Refusal;
-use rules::Tabled;
+use shared_words::Refusal;
+use studio_rules::BoundingBox;
+use studio_rules::Boxed;
+use studio_rules::Corner;
+use studio_rules::Named;
+use studio_rules::Tabled;
 ghost use Prim.Native.Nat.{_+_, _≤_, _<_};
 
 // The numbers of the longest vertex list.
@@ -37,8 +37,8 @@ fn print_bits(x: f32) {
 
 fn print_refusal(r: Refusal) {
     io::write_all(STDOUT_FILENO, b" refused");
-    print_number(refusals::number(r) as usize);
-    print_number(refusals::place(r));
+    print_number(shared_refusals::number(r) as usize);
+    print_number(shared_refusals::place(r));
 }
 
 fn print_call(figure: &[u8], mesh: u32, call: &[u8]) {
@@ -80,7 +80,7 @@ fn print_tabled(answer: Tabled) {
 // The answer of the tables, and then the whole of both rows.
 fn show_tables(figure: &[u8], file: &[u8], mesh: u32, vertices: &mut [f32], corners: &mut [u16]) {
     print_call(figure, mesh, b" tables");
-    print_tabled(tables::tables(file, mesh, vertices, corners));
+    print_tabled(studio_mesh_tables::tables(file, mesh, vertices, corners));
     io::write_all(STDOUT_FILENO, b" vertices");
     print_floats(vertices);
     io::write_all(STDOUT_FILENO, b" corners");
@@ -90,7 +90,7 @@ fn show_tables(figure: &[u8], file: &[u8], mesh: u32, vertices: &mut [f32], corn
 
 fn show_name(figure: &[u8], file: &[u8], mesh: u32) {
     print_call(figure, mesh, b" name");
-    match mesh::name(file, mesh) {
+    match studio_mesh_calls::name(file, mesh) {
         Named::Refused(r) => print_refusal(r),
         Named::At(span) => {
             print_number(span.offset);
@@ -115,7 +115,7 @@ fn print_box(b: BoundingBox, centre: Corner) {
 
 fn show_box(figure: &[u8], file: &[u8], mesh: u32) {
     print_call(figure, mesh, b" box");
-    match mesh::bounding_box(file, mesh) {
+    match studio_mesh_calls::bounding_box(file, mesh) {
         Boxed::Refused(r) => print_refusal(r),
         Boxed::Around(b, centre) => print_box(b, centre),
     }
@@ -323,7 +323,7 @@ fn show_long(file: &[u8; LONG]) {
     let mut vertices = [7.0f32; NUMBERS];
     let mut corners = [9u16; 3];
     print_call(b"long", 0, b" tables");
-    print_tabled(tables::tables(file, 0, &mut vertices, &mut corners));
+    print_tabled(studio_mesh_tables::tables(file, 0, &mut vertices, &mut corners));
     print_ends(&vertices, &corners);
     end_line();
     show_name(b"long", file, 0);

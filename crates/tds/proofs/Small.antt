@@ -3,13 +3,13 @@ use mathlib.Core.Path.{_≡_, refl, ap}
 use mathlib.Core.List.{List}
 use Prim.Native.Nat.{ℕ}
 use native.Mathlib.Omega.{arith}
-use Rattle.rules.specs.declared.Counts.{Counts}
-use Rattle.rules.specs.declared.Checked.{Checked}
-use Rattle.rules.specs.Bytes.{Bytes}
-use Rattle.rules.specs.Calls.{checkCall}
-use Rattle.rules.proofs.Theorems.{counts-add}
-use Rattle.reader.proofs.Accepted.{accepted-by, meets-by}
-use Rattle.rules.specs.Within.{CountsWithin}
+use Rattle.studio_rules.specs.declared.Counts.{Counts}
+use Rattle.studio_rules.specs.declared.Checked.{Checked}
+use Rattle.shared_words.specs.Bytes.{Bytes}
+use Rattle.studio_rules.specs.Calls.{checkCall}
+use Rattle.studio_rules.proofs.Theorems.{counts-add}
+use Rattle.studio_check.proofs.Accepted.{accepted-by, meets-by}
+use Rattle.studio_rules.specs.Within.{CountsWithin}
 
 pub counts-within : (s : List ℕ) → Bytes s → CountsWithin (checkCall s)
 counts-within s b = go (checkCall s) refl

@@ -6,8 +6,8 @@ use native.Mathlib.Omega.{arith}
 use lib.ListN.{length}
 use lib.Seq.{length-take-le}
 use Rattle.io.specs.Counts.{Counts}
-use Rattle.little_endian.proofs.Put.{put-none}
-use Rattle.input.specs.Within.{Within}
+use Rattle.shared_numbers.proofs.Put.{put-none}
+use Rattle.listing_input.specs.Within.{Within}
 use borrow.Author.Needs.{needs}
 use Rattle.listing_text.proofs.answer.Statement.{statement}
 use Rattle.listing_text.proofs.answer.Tie as tie

@@ -3,8 +3,8 @@ use mathlib.Core.Path.{_≡_, refl}
 use Prim.Native.Nat.{_+_, _*_, _-_, _≤_}
 use native.Mathlib.Omega.{arith}
 use lib.ListN.{length}
-use Rattle.little_endian.specs.Put.{Put}
-use Rattle.little_endian.proofs.Put.{put-none, put-then}
+use Rattle.shared_numbers.specs.Put.{Put}
+use Rattle.shared_numbers.proofs.Put.{put-none, put-then}
 use Rattle.listing_text.specs.Lines.{rowLines}
 use Rattle.listing_text.proofs.Rows.{lines-more}
 use Rattle.listing_text.proofs.put_chunks.Statement.{statement}

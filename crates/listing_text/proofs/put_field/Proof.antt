@@ -1,6 +1,6 @@
 -- A space, and the digits.
 use native.Mathlib.Omega.{arith}
-use Rattle.little_endian.proofs.Put.{put-then}
+use Rattle.shared_numbers.proofs.Put.{put-then}
 use borrow.Author.Needs.{needs}
 use Rattle.listing_text.proofs.put_field.Statement.{statement}
 use Rattle.listing_text.proofs.put_field.Tie as tie

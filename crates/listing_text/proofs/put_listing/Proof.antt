@@ -1,7 +1,7 @@
 -- A refused file has one line; an accepted one has the line of its counts, and then one for each record in the row.
 use mathlib.Core.Path.{refl, sym, _∙_}
 use native.Mathlib.Omega.{arith}
-use Rattle.little_endian.proofs.Put.{put-then}
+use Rattle.shared_numbers.proofs.Put.{put-then}
 use Rattle.listing_text.proofs.Whole.{refused-shown, accepted-shown}
 use borrow.Author.Needs.{needs}
 use Rattle.listing_text.proofs.put_listing.Statement.{statement}

@@ -1,6 +1,6 @@
 -- The answer of the check, as a number.
 use mathlib.Core.Path.{ap, _∙_}
-use Rattle.codes.specs.Codes.{recordsOr}
+use Rattle.c_codes.specs.Codes.{recordsOr}
 use borrow.Author.Needs.{needs}
 use Rattle.tds.proofs.tds_check.Statement.{statement}
 use Rattle.tds.proofs.tds_check.Tie as tie

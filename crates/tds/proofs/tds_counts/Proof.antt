@@ -1,11 +1,11 @@
 -- The answer of the check, its counts given out.
 use mathlib.Core.Path.{sym, ap, subst, _∙_}
 use native.Mathlib.Omega.{arith}
-use Rattle.rules.proofs.Bytes.{bytes-all}
+use Rattle.shared_words.proofs.Bytes.{bytes-all}
 use Rattle.tds.proofs.Small.{counts-within}
-use Rattle.rules.specs.Within.{CountsWithin}
-use Rattle.answers.specs.Given.{countsGiven}
-use Rattle.answers.proofs.Gives.{parts}
+use Rattle.studio_rules.specs.Within.{CountsWithin}
+use Rattle.c_answers.specs.Given.{countsGiven}
+use Rattle.c_answers.proofs.Gives.{parts}
 use borrow.Author.Needs.{needs}
 use Rattle.tds.proofs.tds_counts.Statement.{statement}
 use Rattle.tds.proofs.tds_counts.Tie as tie

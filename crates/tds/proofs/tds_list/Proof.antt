@@ -1,6 +1,6 @@
 -- The answer of the list, as a number; the slice is as it left it.
 use mathlib.Core.Path.{ap, _∙_}
-use Rattle.codes.specs.Codes.{recordsOr}
+use Rattle.c_codes.specs.Codes.{recordsOr}
 use borrow.Author.Needs.{needs}
 use Rattle.tds.proofs.tds_list.Statement.{statement}
 use Rattle.tds.proofs.tds_list.Tie as tie

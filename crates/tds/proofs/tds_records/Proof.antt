@@ -36,22 +36,24 @@ use denote.Triple.Entry.{Vals, alive, onEntry}
 use denote.Triple.Spec.{Back, Meets, tripleOf}
 use denote.Triple.Table.{entered, cited}
 use denote.Triple.Clauses.{Lasts, ensured, lasts}
-use Rattle.rules.specs.declared.Record.{Record}
-use Rattle.rules.specs.declared.Checked.{Checked}
-use Rattle.rules.specs.Encodings.{beside, flatRecords, recordTable}
-use Rattle.rules.specs.Calls.{Effect, listCall}
-use Rattle.rules.proofs.Record as T
-use Rattle.rules.proofs.Checked as E
-use Rattle.rules.proofs.Checked.Laws as E′
-use Rattle.records.proofs.list_records as list-records
-use Rattle.records.proofs.list_records.Symbol as list-records-def
-use Rattle.records.proofs.list_records.Symbol.{name as #records·list-records}
-use Rattle.records.proofs.list_records.Met as list-records-thm
-use Rattle.codes.specs.Codes.{recordsOr}
-use Rattle.codes.proofs.checked_code as checked-code
-use Rattle.codes.proofs.checked_code.Symbol as checked-code-def
-use Rattle.codes.proofs.checked_code.Symbol.{name as #codes·checked-code}
-use Rattle.codes.proofs.checked_code.Met as checked-code-thm
+use Rattle.studio_rules.specs.declared.Record.{Record}
+use Rattle.studio_rules.specs.declared.Checked.{Checked}
+use Rattle.shared_words.specs.Encodings.{beside, plainRow}
+use Rattle.studio_rules.specs.Encodings.{flatRecords}
+use Rattle.shared_words.specs.Effects.{Effect}
+use Rattle.studio_rules.specs.Calls.{listCall}
+use Rattle.studio_rules.proofs.Record as T
+use Rattle.studio_rules.proofs.Checked as E
+use Rattle.studio_rules.proofs.Checked.Laws as E′
+use Rattle.studio_list_table.proofs.list_records as list-records
+use Rattle.studio_list_table.proofs.list_records.Symbol as list-records-def
+use Rattle.studio_list_table.proofs.list_records.Symbol.{name as #studio_list_table·list-records}
+use Rattle.studio_list_table.proofs.list_records.Met as list-records-thm
+use Rattle.c_codes.specs.Codes.{recordsOr}
+use Rattle.c_codes.proofs.checked_code as checked-code
+use Rattle.c_codes.proofs.checked_code.Symbol as checked-code-def
+use Rattle.c_codes.proofs.checked_code.Symbol.{name as #c_codes·checked-code}
+use Rattle.c_codes.proofs.checked_code.Met as checked-code-thm
 use Rattle.tds.proofs.tds_records.Key.{name as #tds·tds-records}
 use Rattle.tds.proofs.tds_records as tds-records
 use Rattle.tds.proofs.tds_records.Statement as stated
@@ -83,8 +85,8 @@ module _ {M : Type 1} (𝓤 : URA M) (H : Heap 𝓤) (A : Atoms 𝓤) (mem : Mem
   TdsRecords = tripleOf 𝓤 H A tds-records.signature (tds-records.spec 𝓤 H A mem run)
 
   pub record Known (C : Calls 𝓤 H) : Type 2 where
-    pub lists : Triple 𝓤 (C #records·list-records) ListRecords
-    pub codes : Triple 𝓤 (C #codes·checked-code) CheckedCode
+    pub lists : Triple 𝓤 (C #studio_list_table·list-records) ListRecords
+    pub codes : Triple 𝓤 (C #c_codes·checked-code) CheckedCode
 
 module _ {M : Type 1} (𝓤 : URA M) (H : Heap 𝓤) (A : Atoms 𝓤) (W : Given 𝓤 H A) (mem : Memory → SProp 𝓤) (run : Routine → Fun 𝓤) (κs : Lfts 3) (qs : Shares 3) (a : Arg) where
   abbrev fv : Val
@@ -116,7 +118,7 @@ module _ {M : Type 1} (𝓤 : URA M) (H : Heap 𝓤) (A : Atoms 𝓤) (W : Given
   Told n = ensured 𝓤 H A tds-records.ended (tds-records.clauses 𝓤 H A mem run) κs a tt n
 
   abbrev inTable : Effect Checked (List Record)
-  inTable = listCall (beside (length (a .1 .0 .now) / 6) recordTable) (a .0 .now) (a .1 .1 .0 .now)
+  inTable = listCall (beside (length (a .1 .0 .now) / 6) plainRow) (a .0 .now) (a .1 .1 .0 .now)
 
   abbrev inRow : Effect Checked (List ℕ)
   inRow = listCall (beside (length (a .1 .1 .0 .now)) flatRecords) (a .0 .now) (a .1 .0 .now)
@@ -190,6 +192,6 @@ tds-records-spec 𝓤 H 𝓜 𝓖 𝓡 =
     entered 𝓤 H (TdsRecords 𝓤 H (𝓖 .A) (𝓜 .mem) (𝓡 .run))
     (tables 𝓤 H 𝓜 𝓡 code.env .C) (tables 𝓤 H 𝓜 𝓡 code.env .Λ) #tds·tds-records code.function (code.unfolded 𝓤 H 𝓜 𝓡)
     (meets 𝓤 H (𝓖 .A) (givenOf 𝓤 H 𝓜 𝓖) (𝓜 .mem) (𝓡 .run) (tablesOf 𝓤 H 𝓜 (tables 𝓤 H 𝓜 𝓡 code.env)) record {
-      lists = cited 𝓤 H (ListRecords 𝓤 H (𝓖 .A) (𝓜 .mem) (𝓡 .run)) 𝓜 𝓡 code.env #records·list-records list-records-def.routine code.calls-records·list-records (list-records-thm.met 𝓤 H 𝓜 𝓖 𝓡);
-      codes = cited 𝓤 H (CheckedCode 𝓤 H (𝓖 .A) (𝓜 .mem) (𝓡 .run)) 𝓜 𝓡 code.env #codes·checked-code checked-code-def.routine code.calls-codes·checked-code (checked-code-thm.met 𝓤 H 𝓜 𝓖 𝓡);
+      lists = cited 𝓤 H (ListRecords 𝓤 H (𝓖 .A) (𝓜 .mem) (𝓡 .run)) 𝓜 𝓡 code.env #studio_list_table·list-records list-records-def.routine code.calls-studio-list-table·list-records (list-records-thm.met 𝓤 H 𝓜 𝓖 𝓡);
+      codes = cited 𝓤 H (CheckedCode 𝓤 H (𝓖 .A) (𝓜 .mem) (𝓡 .run)) 𝓜 𝓡 code.env #c_codes·checked-code checked-code-def.routine code.calls-c-codes·checked-code (checked-code-thm.met 𝓤 H 𝓜 𝓖 𝓡);
     })

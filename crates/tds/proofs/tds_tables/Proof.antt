@@ -1,6 +1,6 @@
 -- The answer of the tables, as a number; the slices are as it left them.
 use mathlib.Core.Path.{ap, _∙_}
-use Rattle.codes.specs.Codes.{sizesOr}
+use Rattle.c_codes.specs.Codes.{sizesOr}
 use borrow.Author.Needs.{needs}
 use Rattle.tds.proofs.tds_tables.Statement.{statement}
 use Rattle.tds.proofs.tds_tables.Tie as tie

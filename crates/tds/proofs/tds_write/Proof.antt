@@ -1,6 +1,6 @@
 -- The answer of the writer, as a number; the buffer is as it left it.
 use mathlib.Core.Path.{ap, _∙_}
-use Rattle.codes.specs.Codes.{sizeOr}
+use Rattle.c_codes.specs.Codes.{sizeOr}
 use borrow.Author.Needs.{needs}
 use Rattle.tds.proofs.tds_write.Statement.{statement}
 use Rattle.tds.proofs.tds_write.Tie as tie

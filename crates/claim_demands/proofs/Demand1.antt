@@ -1,0 +1,99 @@
+-- Demand 1, of the calls. A call is a fold of the walk's answer, and each line of each fold accepts, or refuses and gives
+-- back what was lent; every refusal has a number of the table.
+use mathlib.Core.Path.{refl}
+use mathlib.Core.Bool.{Bool, true, false, cond}
+use mathlib.Core.List.{List}
+use mathlib.Core.Logic.{inl, inr}
+use mathlib.Core.Option.{Option, none, some}
+use Prim.Native.Nat.{ℕ}
+use lib.Dec.{eqb, leb}
+use lib.ListN.{length, getElem?}
+use Rattle.studio_rules.specs.declared.Record.{Record}
+use Rattle.shared_words.specs.declared.Refusal.{Refusal}
+use Rattle.shared_words.specs.declared.Refusal.the-variants.{NoRoom, NoSuchMesh, Empty}
+use Rattle.studio_rules.specs.declared.Checked.{Checked}
+use Rattle.studio_rules.specs.declared.Tabled.{Tabled}
+use Rattle.studio_rules.specs.declared.Named.{Named}
+use Rattle.studio_rules.specs.declared.Boxed.{Boxed}
+use Rattle.studio_rules.specs.Layout.{Run, figure}
+use Rattle.shared_words.specs.Conditions.{Answer, refused, accepted}
+use Rattle.studio_rules.specs.Walk.{verdict}
+use Rattle.studio_rules.specs.Gives.{recordCount, Mesh, meshes}
+use Rattle.shared_words.specs.Encodings.{Encoding}
+use Rattle.shared_words.specs.Effects.{leaving}
+use Rattle.studio_rules.specs.Calls.{countsOf, checkOf, checkCall, listOf, listCall, pickMesh, ofMesh, Rows, tablesOf, tablesCall, nameOf, nameCall, aroundOf, boxCall}
+use Rattle.shared_words.proofs.Refusals.{numbered}
+use Rattle.studio_write_judge.specs.declared.Written.{Written}
+use Rattle.studio_write_judge.specs.declared.Written.the-variants.{Size, Refused}
+use Rattle.studio_write_judge.specs.Judged.{judged}
+use Rattle.studio_write.specs.Write.{writing, writeCall}
+use Rattle.claim_demands.specs.Demand1.{Answered, AnsweredOn, around, Demand1}
+
+-- ---- a refusal
+
+refuses : {X A : Type 0} (accept : X → A) (refuse : Refusal → A) (r : Refusal) → Answered accept refuse (refuse r)
+refuses accept refuse r = inr (r, refl, numbered r)
+
+leaves : {X A R : Type 0} (accept : X → A) (refuse : Refusal → A) (lent : R) (r : Refusal) →
+    AnsweredOn accept refuse lent (leaving (refuse r) lent)
+leaves accept refuse lent r = inr (r, refl, numbered r)
+
+-- ---- what holds of each line of a fold holds of the fold
+
+by-test : {A : Type 0} (P : A → Type 0) (b : Bool) {x y : A} → P x → P y → P (cond b x y)
+by-test P true p q = p
+by-test P false p q = q
+
+by-mesh : {A : Type 0} (P : A → Type 0) (refuse : Refusal → A) (use-it : Mesh → A) →
+    ((r : Refusal) → P (refuse r)) → ((m : Mesh) → P (use-it m)) → (mesh : ℕ) (a : Answer Run) → P (ofMesh refuse use-it mesh a)
+by-mesh P refuse use-it of-refusal of-mesh mesh (refused r) = of-refusal r
+by-mesh P refuse use-it of-refusal of-mesh mesh (accepted kids) = go (getElem? (meshes kids) mesh)
+  where
+    go : (x : Option Mesh) → P (pickMesh refuse use-it (length (meshes kids)) x)
+    go none = of-refusal (NoSuchMesh (length (meshes kids)))
+    go (some m) = of-mesh m
+
+-- ---- the folds
+
+checked : (a : Answer Run) → Answered Checked.Accepted Checked.Refused (checkOf a)
+checked (refused r) = refuses Checked.Accepted Checked.Refused r
+checked (accepted kids) = inl (countsOf kids, refl)
+
+listed : {A : Type 0} (e : Encoding Record A) (row : List A) (a : Answer Run) → AnsweredOn Checked.Accepted Checked.Refused row (listOf e row a)
+listed e row (refused r) = leaves Checked.Accepted Checked.Refused row r
+listed e row (accepted kids) =
+    by-test (AnsweredOn Checked.Accepted Checked.Refused row) (leb (recordCount (figure kids)) (e .room (length row)))
+    (inl (countsOf kids, refl)) (leaves Checked.Accepted Checked.Refused row (NoRoom (recordCount (figure kids))))
+
+tabled : {A B : Type 0} (e : Encoding ℕ A) (f : Encoding ℕ B) (rows : Rows A B) (m : Mesh) →
+    AnsweredOn Tabled.Filled Tabled.Refused rows (tablesOf e f rows m)
+tabled e f rows m =
+    by-test (AnsweredOn Tabled.Filled Tabled.Refused rows) (leb (length (m .vertices)) (e .room (length (rows .vertices))))
+    (by-test (AnsweredOn Tabled.Filled Tabled.Refused rows) (leb (length (m .corners)) (f .room (length (rows .corners))))
+    (inl (record { vertices = m .vertexCount; faces = m .faceCount }, refl))
+    (leaves Tabled.Filled Tabled.Refused rows (NoRoom (length (m .corners)))))
+    (leaves Tabled.Filled Tabled.Refused rows (NoRoom (length (m .vertices))))
+
+boxed : (m : Mesh) → Answered around Boxed.Refused (aroundOf m)
+boxed m = by-test (Answered around Boxed.Refused) (eqb (m .vertexCount) 0) (refuses around Boxed.Refused Empty) (inl (_, refl))
+
+written : (file out : List ℕ) (w : Written) → AnsweredOn Size Refused out (writing file out w)
+written file out (Refused r) = leaves Size Refused out r
+written file out (Size size) = inl (size, refl)
+
+-- ---- the demand
+
+pub demand1 : Demand1
+unfolding checkCall listCall tablesCall nameCall boxCall writeCall
+demand1 = record {
+  check = λ s. checked (verdict s);
+  list = λ e s row. listed e row (verdict s);
+  tables = λ e f s mesh rows.
+      by-mesh (AnsweredOn Tabled.Filled Tabled.Refused rows) (λ r. leaving (Tabled.Refused r) rows) (tablesOf e f rows)
+      (leaves Tabled.Filled Tabled.Refused rows) (tabled e f rows) mesh (verdict s);
+  name = λ s mesh.
+      by-mesh (Answered Named.At Named.Refused) Named.Refused nameOf (refuses Named.At Named.Refused) (λ m. inl (_, refl)) mesh (verdict s);
+  box = λ s mesh.
+      by-mesh (Answered around Boxed.Refused) Boxed.Refused aroundOf (refuses around Boxed.Refused) boxed mesh (verdict s);
+  write = λ name vertices corners out. written _ out (judged name vertices corners (length out));
+}

@@ -1,0 +1,126 @@
+-- Demand 2, of the calls. The verdict of a file that meets the rules is its layout, so a call there is its fold's line for
+-- that layout; and a fold that accepts has a layout, since its line for a refusal refuses.
+use mathlib.Core.Path.{_≡_, refl}
+use mathlib.Core.Bool.{Bool, true, false, cond}
+use mathlib.Core.List.{List}
+use mathlib.Core.Option.{Option, none, some}
+use Prim.Native.Nat.{ℕ, _≤_}
+use native.Mathlib.Omega.{arith}
+use lib.Dec.{leb}
+use lib.ListN.{length, getElem?}
+use borrow.Author.Tests.{leb-true, le-leb, ne-eqb}
+use Rattle.shared_words.specs.declared.Refusal.{Refusal}
+use Rattle.shared_words.specs.declared.Refusal.the-variants.{NoSuchMesh}
+use Rattle.studio_rules.specs.declared.Counts.{Counts}
+use Rattle.studio_rules.specs.declared.Checked.{Checked}
+use Rattle.studio_rules.specs.declared.Sizes.{Sizes}
+use Rattle.studio_rules.specs.declared.Tabled.{Tabled}
+use Rattle.shared_words.specs.Bytes.{Bytes}
+use Rattle.studio_rules.specs.Layout.{Run, figure}
+use Rattle.studio_rules.specs.Rules.{Meets}
+use Rattle.shared_words.specs.Conditions.{Answer, refused, accepted}
+use Rattle.studio_rules.specs.Walk.{verdict}
+use Rattle.studio_rules.specs.Gives.{recordCount, Mesh, meshes}
+use Rattle.shared_words.specs.Encodings.{Encoding}
+use Rattle.shared_words.specs.Effects.{Effect, leaving}
+use Rattle.studio_rules.specs.Calls.{checkOf, checkCall, listOf, listCall, pickMesh, ofMesh, Rows, tablesOf, tablesCall, nameCall, boxCall}
+use Rattle.studio_rules.proofs.Verdict.{accepted-exactly, verdict-good}
+use Rattle.studio_rules.proofs.Theorems.{counts-add}
+use Rattle.studio_write.proofs.ReadsBack.{written-reads-back}
+use Rattle.claim_demands.specs.Demand2.{RoomFor, Given, Demand2}
+
+-- ---- answers: no refusal is an acceptance, and an acceptance has one value
+
+not-accepted : (counts : Counts) (r : Refusal) → Checked.Refused r ≡ Checked.Accepted counts → ⊥
+not-accepted counts r e = let z : _≡_ {A = ℕ} 0 1 = cc in omega arith
+
+not-filled : (sizes : Sizes) (r : Refusal) → Tabled.Refused r ≡ Tabled.Filled sizes → ⊥
+not-filled sizes r e = let z : _≡_ {A = ℕ} 0 1 = cc in omega arith
+
+counts-are : {x y : Counts} → Checked.Accepted x ≡ Checked.Accepted y → y ≡ x
+counts-are e = cc
+
+sizes-are : {x y : Sizes} → Tabled.Filled x ≡ Tabled.Filled y → y ≡ x
+sizes-are e = cc
+
+-- ---- an answer z that no refusal gives: what was found on the way to it
+
+-- the file's layout
+found-layout : {Z : Type 0} (fold : Answer Run → Z) {z : Z} → ((r : Refusal) → fold (refused r) ≡ z → ⊥) → (s : List ℕ) → Bytes s →
+    fold (verdict s) ≡ z → (kids : Run) × Meets s kids × (fold (accepted kids) ≡ z)
+found-layout fold {z} never s b = go (verdict s) refl
+  where
+    go : (a : Answer Run) → verdict s ≡ a → fold a ≡ z → (kids : Run) × Meets s kids × (fold (accepted kids) ≡ z)
+    go (refused r) v e = absurd (never r e)
+    go (accepted kids) v e = (kids, accepted-exactly s b kids .0 v, e)
+
+module _ {A R : Type 0} {z : A} where
+  -- the mesh
+  found-mesh : (refuse : Refusal → Effect A R) (use-it : Mesh → Effect A R) (n : ℕ) →
+      ((r : Refusal) → refuse r .answer ≡ z → ⊥) → (o : Option Mesh) →
+      pickMesh refuse use-it n o .answer ≡ z → (m : Mesh) × (o ≡ some m) × (use-it m .answer ≡ z)
+  found-mesh refuse use-it n never none e = absurd (never (NoSuchMesh n) e)
+  found-mesh refuse use-it n never (some m) e = (m, refl, e)
+
+  -- room for n
+  found-room : (n room : ℕ) (x y : Effect A R) → (y .answer ≡ z → ⊥) →
+      cond (leb n room) x y .answer ≡ z → (n ≤ room) × (x .answer ≡ z)
+  found-room n room x y never = go (leb n room) refl
+    where
+      go : (t : Bool) → leb n room ≡ t → cond t x y .answer ≡ z → (n ≤ room) × (x .answer ≡ z)
+      go true h e = (leb-true n room h, e)
+      go false h e = absurd (never e)
+
+-- room for both tables
+found-tables : {A B : Type 0} (e : Encoding ℕ A) (f : Encoding ℕ B) (rows : Rows A B) (m : Mesh) (sizes : Sizes) →
+    tablesOf e f rows m .answer ≡ Tabled.Filled sizes →
+    (sizes ≡ record { vertices = m .vertexCount; faces = m .faceCount }) ×
+    RoomFor e (length (m .vertices)) (rows .vertices) × RoomFor f (length (m .corners)) (rows .corners)
+found-tables e f rows m sizes h =
+    let v = found-room _ _ _ _ (not-filled sizes _) h in
+    let c = found-room _ _ _ _ (not-filled sizes _) (v .1) in
+    (sizes-are (c .1), v .0, c .0)
+
+-- ---- what the calls give of a file that meets the rules
+
+given : (s : List ℕ) (kids : Run) → Meets s kids → Given s kids
+unfolding listCall tablesCall nameCall boxCall
+given s kids m =
+    let v = verdict-good s kids m in
+    record {
+      counts-add = counts-add s kids m;
+      list-is = λ e row h. rw (v, le-leb (recordCount (figure kids)) (e .room (length row)) h);
+      tables-are = λ e f mesh x g rows h k. rw (v, g, le-leb _ _ h, le-leb _ _ k);
+      name-is = λ mesh x g. rw (v, g);
+      box-is = λ mesh x g p. rw (v, g, ne-eqb (x .vertexCount) 0 (λ z. omega arith));
+    }
+
+-- ---- the demand
+
+pub demand2 : Demand2
+unfolding checkCall listCall tablesCall
+demand2 = record {
+  accepted = λ s b counts. (
+    λ h. let l = found-layout checkOf (not-accepted counts) s b h in (l .0, l .1, counts-are (l .2)),
+    λ l. rw (verdict-good s (l .0) (l .1), l .2),
+  );
+  listed = λ e s b row counts. (
+    λ h.
+        let l = found-layout (λ a. listOf e row a .answer) (not-accepted counts) s b h in
+        let r = found-room _ _ _ _ (not-accepted counts _) (l .2) in
+        (l .0, l .1, counts-are (r .1), r .0),
+    λ l. rw (given s (l .0) (l .1) .list-is e row (l .3), l .2),
+  );
+  tabled = λ e f s b mesh rows sizes. (
+    λ h.
+        let l = found-layout (λ a. ofMesh (λ r. leaving (Tabled.Refused r) rows) (tablesOf e f rows) mesh a .answer) (not-filled sizes) s b h in
+        let m = found-mesh _ _ _ (not-filled sizes) (getElem? (meshes (l .0)) mesh) (l .2) in
+        let t = found-tables e f rows (m .0) sizes (m .2) in
+        (l .0, l .1, (m .0, m .1, t .0, t .1, t .2)),
+    λ l.
+        let m = l .2 in
+        rw (given s (l .0) (l .1) .tables-are e f mesh (m .0) (m .1) rows (m .3) (m .4), m .2),
+  );
+  given = given;
+  written-reads-back = written-reads-back;
+}

@@ -1,0 +1,105 @@
+-- Demand 3, of the calls. The rules' demand 3 relates the two layouts element by element; the meshes of one number are so
+-- related, or there is none in both, and a call about a mesh answers the two alike.
+use mathlib.Core.Path.{_≡_, refl, ap}
+use mathlib.Core.List.{List, [], _∷_}
+use mathlib.Core.Option.{Option, none, some}
+use Prim.Native.Nat.{ℕ, zero, suc}
+use lib.ListN.{length, getElem?}
+use borrow.Author.Tests.{le-leb, lt-leb}
+use Rattle.shared_words.specs.declared.Refusal.{Refusal}
+use Rattle.shared_words.specs.declared.Refusal.the-variants.{NoSuchMesh}
+use Rattle.studio_rules.specs.declared.Named.{Named}
+use Rattle.studio_rules.specs.declared.Boxed.{Boxed}
+use Rattle.studio_rules.specs.declared.Tabled.{Tabled}
+use Rattle.studio_rules.specs.Layout.{figure, bytes}
+use Rattle.shared_words.specs.Conditions.{accepted}
+use Rattle.studio_rules.specs.Walk.{verdict}
+use Rattle.studio_rules.specs.Gives.{list, Mesh, meshes}
+use Rattle.studio_rules.specs.Gaps.{Marked, figureOf, without, with, SameMesh, Pairwise}
+use Rattle.studio_rules.specs.Theorems.{putIn, allPut}
+use Rattle.shared_words.specs.Effects.{leaving}
+use Rattle.studio_rules.specs.Calls.{countsOf, checkCall, listCall, pickMesh, ofMesh, tablesOf, tablesCall, nameOf, nameCall, aroundOf, boxCall}
+use Rattle.studio_rules.proofs.Verdict.{verdict-good}
+use Rattle.studio_rules.proofs.Gaps.{record-count-same}
+use Rattle.studio_rules.proofs.Theorems.{put-in-or-taken-out}
+use Rattle.claim_demands.specs.Demand3.{NameMoved, SameAnswers, Demand3}
+
+-- ---- lists that are related element by element
+
+module _ {A : Type 0} (R : A → A → Type 0) where
+  -- two elements, or none in both
+  abbrev Both : Option A → Option A → Type 0
+  Both none none = Unit
+  Both none (some y) = ⊥
+  Both (some x) none = ⊥
+  Both (some x) (some y) = R x y
+
+  both-at : (xs ys : List A) → Pairwise R xs ys → (i : ℕ) → Both (getElem? xs i) (getElem? ys i)
+  both-at [] [] p i = tt
+  both-at (x ∷ xs) (y ∷ ys) p zero = p .0
+  both-at (x ∷ xs) (y ∷ ys) p (suc i) = both-at xs ys (p .1) i
+
+  equally-long : (xs ys : List A) → Pairwise R xs ys → length ys ≡ length xs
+  equally-long [] [] p = refl
+  equally-long (x ∷ xs) (y ∷ ys) p = ap suc (equally-long xs ys (p .1))
+
+-- ---- two files, by their layouts
+
+module _ (m : Marked) (s s′ : List ℕ) (v : verdict s ≡ accepted (without m)) (v′ : verdict s′ ≡ accepted (with m)) where
+  -- a call about a mesh: Q holds of its two answers where it holds of the same refusal, and of meshes that are the same
+  of-one-mesh : {A : Type 0} (refuse : Refusal → A) (use-it : Mesh → A) (Q : A → A → Type 0) →
+      ((r : Refusal) → Q (refuse r) (refuse r)) →
+      ((old new : Mesh) → SameMesh (putIn m) old new → Q (use-it old) (use-it new)) →
+      (mesh : ℕ) → Q (ofMesh refuse use-it mesh (verdict s)) (ofMesh refuse use-it mesh (verdict s′))
+  of-one-mesh refuse use-it Q same-refusal same-mesh mesh =
+      let R = SameMesh (putIn m) in
+      let p = put-in-or-taken-out m .meshes-same in
+      rw (v, v′, equally-long R (meshes (without m)) (meshes (with m)) p)
+      (go (getElem? (meshes (without m)) mesh) (getElem? (meshes (with m)) mesh) (both-at R (meshes (without m)) (meshes (with m)) p mesh))
+    where
+      n : ℕ
+      n = length (meshes (without m))
+
+      go : (x y : Option Mesh) → Both (SameMesh (putIn m)) x y → Q (pickMesh refuse use-it n x) (pickMesh refuse use-it n y)
+      go none none h = same-refusal (NoSuchMesh n)
+      go (some x) (some y) h = same-mesh x y h
+
+  same-answers : SameAnswers (putIn m) (allPut m) s s′
+  unfolding checkCall listCall tablesCall nameCall boxCall
+  same-answers =
+      let d = put-in-or-taken-out m in
+      let n = record-count-same (figureOf m) in
+      record {
+        counts = countsOf (without m);
+        counts′ = countsOf (with m);
+        accepted = rw v;
+        accepted′ = rw v′;
+        records-same = n;
+        headers-same = d .headers-same;
+        own-same = d .owned-same;
+        skipped-grows = d .skipped-grows;
+        records = list (without m);
+        records′ = list (with m);
+        moved = d .list-moved;
+        list-given = λ e row h. (rw (v, le-leb _ _ h), rw (v′, n, le-leb _ _ h));
+        list-refused = λ e row h. (rw (v, lt-leb _ _ h), rw (v′, n, lt-leb _ _ h));
+        tables-same = λ e f mesh rows.
+            of-one-mesh (λ r. leaving (Tabled.Refused r) rows) (tablesOf e f rows) (λ old new. new ≡ old) (λ r. refl)
+            (λ old new h. rw (h .vertices-same, h .corners-same, h .vertex-count-same, h .face-count-same)) mesh;
+        box-same =
+            of-one-mesh Boxed.Refused aroundOf (λ old new. new ≡ old) (λ r. refl) (λ old new h. rw (h .vertex-count-same, h .vertices-same));
+        name-moved =
+            of-one-mesh Named.Refused nameOf (NameMoved (putIn m)) (λ r. refl) (λ old new h. (h .name-grows, h .name-length-same));
+      }
+
+-- ---- the demand
+
+pub demand3 : Demand3
+demand3 = record {
+  put-in = λ m s b e gaps l.
+      let v = verdict-good s (without m) e in
+      same-answers m s (bytes (figure (with m))) v (put-in-or-taken-out m .put-in s b v gaps l);
+  taken-out = λ m s′ b e.
+      let v = verdict-good s′ (with m) e in
+      same-answers m (bytes (figure (without m))) s′ (put-in-or-taken-out m .taken-out s′ b v) v;
+}

@@ -1,0 +1,67 @@
+-- DEMAND 2, of the calls. "Given room, a file within the length limit is accepted exactly when it meets the chunk rules of
+-- document 01 … The list, tables and byte counts are those the rules give. A figure we write is accepted and reads back to
+-- the same name, numbers and corners."
+use mathlib.Core.Path.{_≡_}
+use mathlib.Core.Logic.{_↔_}
+use mathlib.Core.List.{List}
+use mathlib.Core.Option.{some}
+use Prim.Native.Nat.{ℕ, _+_, _≤_, _<_}
+use lib.ListN.{length, getElem?}
+use Rattle.studio_rules.specs.declared.Record.{Record}
+use Rattle.studio_rules.specs.declared.Counts.{Counts}
+use Rattle.studio_rules.specs.declared.Checked.{Checked}
+use Rattle.studio_rules.specs.declared.Sizes.{Sizes}
+use Rattle.studio_rules.specs.declared.Tabled.{Tabled}
+use Rattle.studio_rules.specs.declared.Named.{Named}
+use Rattle.studio_rules.specs.declared.Boxed.{Boxed}
+use Rattle.shared_words.specs.Bytes.{Bytes}
+use Rattle.studio_rules.specs.Layout.{Run, figure}
+use Rattle.studio_rules.specs.Rules.{Meets}
+use Rattle.studio_rules.specs.Gives.{recordCount, list, Mesh, meshes}
+use Rattle.studio_rules.specs.Box.{boxOf, centreOf}
+use Rattle.shared_words.specs.Encodings.{Encoding}
+use Rattle.shared_words.specs.Effects.{leaving, filled}
+use Rattle.studio_rules.specs.Calls.{countsOf, checkCall, listCall, Rows, tablesCall, nameCall, boxCall}
+use Rattle.studio_write.specs.ReadsBack.{WrittenReadsBack}
+
+-- ---- room, in whole records or numbers
+
+abbrev pub RoomFor : {X A : Type 0} → Encoding X A → ℕ → List A → Type 0
+RoomFor e n row = n ≤ e .room (length row)
+
+-- ---- what the calls give of a file s that meets the rules with a layout
+
+pub record Given (s : List ℕ) (kids : Run) : Type 1 where
+  pub counts-add : countsOf kids .headers + countsOf kids .own + countsOf kids .skipped ≡ length s
+  pub list-is : {A : Type 0} (e : Encoding Record A) (row : List A) → RoomFor e (recordCount (figure kids)) row →
+      listCall e s row ≡ leaving (Checked.Accepted (countsOf kids)) (filled (e .encode (list kids)) row)
+  -- of each mesh: m has the number `mesh`
+  pub tables-are : {A B : Type 0} (e : Encoding ℕ A) (f : Encoding ℕ B) (mesh : ℕ) (m : Mesh) → getElem? (meshes kids) mesh ≡ some m →
+      (rows : Rows A B) → RoomFor e (length (m .vertices)) (rows .vertices) → RoomFor f (length (m .corners)) (rows .corners) →
+      tablesCall e f s mesh rows ≡
+      leaving (Tabled.Filled record { vertices = m .vertexCount; faces = m .faceCount })
+      record { vertices = filled (e .encode (m .vertices)) (rows .vertices); corners = filled (f .encode (m .corners)) (rows .corners) }
+  pub name-is : (mesh : ℕ) (m : Mesh) → getElem? (meshes kids) mesh ≡ some m →
+      nameCall s mesh ≡ Named.At record { offset = m .nameAt; size = m .nameLength }
+  pub box-is : (mesh : ℕ) (m : Mesh) → getElem? (meshes kids) mesh ≡ some m → 0 < m .vertexCount →
+      boxCall s mesh ≡ Boxed.Around (boxOf (m .vertexCount) (m .vertices)) (centreOf (boxOf (m .vertexCount) (m .vertices)))
+
+-- ---- the demand
+
+pub record Demand2 : Type 1 where
+  -- accepted exactly when the rules are met, and then with the counts of the layout
+  pub accepted : (s : List ℕ) → Bytes s → (counts : Counts) →
+      (checkCall s ≡ Checked.Accepted counts) ↔ ((kids : Run) × Meets s kids × (counts ≡ countsOf kids))
+  -- the list and the tables likewise, given room
+  pub listed : {A : Type 0} (e : Encoding Record A) (s : List ℕ) → Bytes s → (row : List A) (counts : Counts) →
+      (listCall e s row .answer ≡ Checked.Accepted counts) ↔
+      ((kids : Run) × Meets s kids × (counts ≡ countsOf kids) × RoomFor e (recordCount (figure kids)) row)
+  pub tabled : {A B : Type 0} (e : Encoding ℕ A) (f : Encoding ℕ B) (s : List ℕ) → Bytes s → (mesh : ℕ) (rows : Rows A B) (sizes : Sizes) →
+      (tablesCall e f s mesh rows .answer ≡ Tabled.Filled sizes) ↔
+      ((kids : Run) × Meets s kids × ((m : Mesh) × (getElem? (meshes kids) mesh ≡ some m) ×
+      (sizes ≡ record { vertices = m .vertexCount; faces = m .faceCount }) ×
+      RoomFor e (length (m .vertices)) (rows .vertices) × RoomFor f (length (m .corners)) (rows .corners)))
+  -- and what they give is that of the layout
+  pub given : (s : List ℕ) (kids : Run) → Meets s kids → Given s kids
+  -- a figure we write is accepted and reads back
+  pub written-reads-back : WrittenReadsBack

@@ -1,0 +1,5 @@
+pub mod At
+pub mod Slices
+pub mod Put
+pub mod Finite
+pub mod Numbers

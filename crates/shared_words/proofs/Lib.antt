@@ -1,0 +1,6 @@
+pub mod Bools
+pub mod Refusals
+pub mod Conditions
+pub mod Bytes
+pub mod Numbers
+pub mod Samples

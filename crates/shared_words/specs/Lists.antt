@@ -1,0 +1,27 @@
+-- Tests of a list, and properties of each element of it.
+use Prim.Native.Nat.{ℕ}
+use mathlib.Core.Bool.{Bool, true, false, _&&_, _||_}
+use mathlib.Core.List.{List, [], _∷_}
+use lib.Dec.{eqb}
+
+-- a test holds of each element
+unfoldable pub every : {A : Type 0} → (A → Bool) → List A → Bool
+every p [] = true
+every p (x ∷ xs) = p x && every p xs
+
+-- a number is among others
+abbrev pub among : ℕ → List ℕ → Bool
+among x [] = false
+among x (y ∷ ys) = eqb x y || among x ys
+
+-- two lists are the same numbers
+abbrev pub same : List ℕ → List ℕ → Bool
+same [] [] = true
+same [] (y ∷ ys) = false
+same (x ∷ xs) [] = false
+same (x ∷ xs) (y ∷ ys) = eqb x y && same xs ys
+
+-- each element has a property
+abbrev pub All : {A : Type 0} → (A → Type 0) → List A → Type 0
+All P [] = Unit
+All P (x ∷ xs) = P x × All P xs

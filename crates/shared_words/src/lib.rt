@@ -1,0 +1,37 @@
+// The words that every format shares. The definitions in specs/ speak of this type, and every crate that reads or
+// writes anything answers with it.
+
+// The table of refusals of documents 01 and 02, by its names. The number that a case holds is its place; a case that
+// holds none has place 0.
+pub enum Refusal {
+    TooLong,
+    NotAFigure,
+    Trailing(usize),
+    Short(usize),
+    Overrun(usize),
+    Stray(usize),
+    Misplaced(usize),
+    Twice(usize),
+    Name(usize),
+    Length(usize),
+    Number(usize),
+    Index(usize),
+    Count(usize),
+    Missing(usize),
+    NoRoom(usize),
+    NoSuchMesh(usize),
+    Empty,
+    Slip(usize),
+    Differs(usize),
+    Header,
+    Owner(usize),
+    Size(usize),
+    Father(usize),
+    Text(usize),
+    Form,
+    Order(usize),
+    Combination(usize),
+    Material(usize),
+    SameName(usize),
+    NoMaterial(usize),
+}

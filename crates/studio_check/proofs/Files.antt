@@ -1,0 +1,201 @@
+-- The whole file: its own conditions, and the answer once the children of 4D4D are read.
+use mathlib.Core.Path.{_≡_, refl, sym, ap, _∙_, subst}
+use mathlib.Core.Bool.{true}
+use mathlib.Core.List.{List, []}
+use mathlib.Core.Option.{Option, none, some}
+use Prim.Native.Nat.{ℕ, _+_, _*_, _≤_, _<_}
+use native.Mathlib.Omega.{arith}
+use lib.Dec.{eqb, leb}
+use lib.ListN.{length, take, drop, length-drop}
+use lib.Seq.{slice, take-length}
+use borrow.Author.Tests.{le-leb, lt-leb, leb-true, eq-eqb, ne-eqb}
+use Rattle.shared_words.specs.declared.Refusal.{Refusal}
+use Rattle.shared_words.specs.declared.Refusal.the-variants.{TooLong, NotAFigure, Short, Overrun, Trailing}
+use Rattle.studio_rules.specs.declared.Counts.{Counts}
+use Rattle.studio_rules.specs.declared.Checked.{Checked}
+use Rattle.shared_words.specs.Bytes.{Bytes, value}
+use Rattle.studio_rules.specs.Table.{rows, listed, limits, atMostOne}
+use Rattle.studio_rules.specs.Layout.{Run, end, skip, known, figure}
+use Rattle.studio_rules.specs.Rules.{Parent, file, limit}
+use Rattle.studio_rules.specs.Gives.{recordCount, headers, owned, skipped}
+use Rattle.shared_words.specs.Conditions.{broken, accepted, unless}
+use Rattle.studio_rules.specs.Walk.{fileConditions, endConditions, lengthField, ended, walk, versionIn, top, figureAt, verdict}
+use Rattle.studio_rules.specs.Calls.{countsOf, checkOf, checkCall}
+use Rattle.shared_words.proofs.Conditions.{met, unbroken, broken-here, broken-later}
+use Rattle.studio_rules.proofs.Sound.{length-bytes}
+use Rattle.studio_rules.proofs.Theorems.{counted-once}
+use Rattle.shared_numbers.specs.Numbers.{wordAt, longAt}
+use Rattle.studio_row.specs.Packed.{places, rowOf}
+use Rattle.studio_marks.specs.declared.Shut.{Shut}
+use Rattle.studio_marks.specs.Marks.{noMarks, Kept, ShutIs}
+use Rattle.studio_walk.specs.declared.Ran.{Ran}
+use Rattle.studio_head.specs.Contexts.{Context}
+use Rattle.studio_walk.specs.Runs.{RunIs}
+use Rattle.studio_check.specs.Figure.{CountsAre, figureAnswer}
+use Rattle.studio_walk.proofs.Contexts.{context-inside}
+use Rattle.studio_walk.proofs.Chunks.{clash, Ran-well, run-refused, run-accepted}
+
+-- ---- the file's own conditions
+
+module _ (s : List ℕ) where
+  shut-is : (x : Option Refusal) (r : Shut) → broken (fileConditions s (lengthField s)) ≡ x → ShutIs x r → ShutIs (broken (fileConditions s (lengthField s))) r
+  shut-is x r e h = subst (λ (y : Option Refusal). ShutIs y r) (sym e) h
+
+  pub file-too-long : limit < length s → ShutIs (broken (fileConditions s (lengthField s))) (Shut.Fault TooLong)
+  file-too-long h = shut-is (some TooLong) _ (broken-here _ _ _ (lt-leb (length s) limit h)) refl
+
+  module _ (short : length s ≤ limit) where
+    p₁ : leb (length s) limit ≡ true
+    p₁ = le-leb (length s) limit short
+
+    pub file-too-short : length s < 6 → ShutIs (broken (fileConditions s (lengthField s))) (Shut.Fault NotAFigure)
+    file-too-short h = shut-is (some NotAFigure) _ (broken-later _ _ _ p₁ ∙ broken-here _ _ _ (lt-leb 6 (length s) h)) refl
+
+    module _ (six : 6 ≤ length s) (id : ℕ) (i : id ≡ wordAt s 0) where
+      p₂ : leb 6 (length s) ≡ true
+      p₂ = le-leb 6 (length s) six
+
+      pub file-no-figure : (id ≡ 0x4D4D → ⊥) → ShutIs (broken (fileConditions s (lengthField s))) (Shut.Fault NotAFigure)
+      unfolding wordAt
+      file-no-figure h = shut-is (some NotAFigure) _ (broken-later _ _ _ p₁ ∙ broken-later _ _ _ p₂ ∙ broken-here _ _ _ (ne-eqb (value (take 2 s)) 0x4D4D (λ e. h (i ∙ e)))) refl
+
+      module _ (is : id ≡ 0x4D4D) (n : ℕ) (e : n ≡ longAt s 2) where
+        p₃ : eqb (value (take 2 s)) 0x4D4D ≡ true
+        unfolding wordAt
+        p₃ = eq-eqb (value (take 2 s)) 0x4D4D (sym i ∙ is)
+
+        field : lengthField s ≡ n
+        unfolding longAt
+        field = sym e
+
+        past : broken (fileConditions s (lengthField s)) ≡ broken (drop 3 (fileConditions s (lengthField s)))
+        past = broken-later _ _ _ p₁ ∙ broken-later _ _ _ p₂ ∙ broken-later _ _ _ p₃
+
+        pub file-short : n < 6 → ShutIs (broken (fileConditions s (lengthField s))) (Shut.Fault (Short 0))
+        file-short h = shut-is (some (Short 0)) _ (past ∙ broken-here _ _ _ (rw field (lt-leb 6 n h))) refl
+
+        pub file-overrun : 6 ≤ n → length s < n → ShutIs (broken (fileConditions s (lengthField s))) (Shut.Fault (Overrun 0))
+        file-overrun m h = shut-is (some (Overrun 0)) _ (past ∙ broken-later _ _ _ (rw field (le-leb 6 n m)) ∙ broken-here _ _ _ (rw field (lt-leb n (length s) h))) refl
+
+        pub file-trailing : 6 ≤ n → n ≤ length s → n < length s → ShutIs (broken (fileConditions s (lengthField s))) (Shut.Fault (Trailing n))
+        file-trailing m l h =
+            shut-is (some (Trailing n)) _
+            (past ∙ broken-later _ _ _ (rw field (le-leb 6 n m)) ∙ broken-later _ _ _ (rw field (le-leb n (length s) l)) ∙ broken-here _ _ _ (rw field (lt-leb (length s) n h)) ∙ ap (λ (k : ℕ). some (Trailing k)) field) refl
+
+        pub file-fine : 6 ≤ n → n ≤ length s → length s ≤ n → ShutIs (broken (fileConditions s (lengthField s))) Shut.Fine
+        file-fine m l h =
+            shut-is none _
+            (unbroken _ (p₁, (p₂, (p₃, (rw field (le-leb 6 n m), (rw field (le-leb n (length s) l), (rw field (le-leb (length s) n h), tt))))))) refl
+
+  -- ---- what follows of them
+
+  pub file-refused : (y : Refusal) (r : Shut) → r ≡ Shut.Fault y → ShutIs (broken (fileConditions s (lengthField s))) r → Checked.Refused y ≡ checkCall s
+  unfolding checkCall verdict
+  file-refused y r e h = go (broken (fileConditions s (lengthField s))) h
+    where
+      go : (x : Option Refusal) → ShutIs x r → Checked.Refused y ≡ checkOf (unless x (figureAt (top (versionIn (drop 6 s))) (drop 6 s)))
+      go (some x) h = cc
+      go none h = absurd (clash (cc))
+
+  pub file-is-fine : (r : Shut) → r ≡ Shut.Fine → ShutIs (broken (fileConditions s (lengthField s))) r → broken (fileConditions s (lengthField s)) ≡ none
+  file-is-fine r e h = go (broken (fileConditions s (lengthField s))) h
+    where
+      go : (x : Option Refusal) → ShutIs x r → x ≡ none
+      go (some x) h = absurd (clash (cc))
+      go none h = refl
+
+  pub file-read : broken (fileConditions s (lengthField s)) ≡ none → checkOf (figureAnswer s) ≡ checkCall s
+  unfolding checkCall verdict figureAnswer
+  file-read e = rw e
+
+  pub file-bounds : broken (fileConditions s (lengthField s)) ≡ none → (6 ≤ length s) × (length s ≤ limit)
+  file-bounds e = let m = met _ e in (leb-true 6 (length s) (m .1 .0), leb-true (length s) limit (m .0))
+
+-- ---- the children of 4D4D
+
+top-listed : listed 0x4D4D ≡ true
+unfolding listed rows
+top-listed = refl
+
+pub figure-row : 0x00_1_0_5_0004_1 ≡ rowOf 0x4D4D
+unfolding rows limits atMostOne places rowOf
+figure-row = refl
+
+pub top-context : (v row : ℕ) → row ≡ rowOf 0x4D4D → Context (top v) [] row 0 noMarks
+top-context v row e = context-inside (file v) [] 0x4D4D [] row 0 top-listed e record { is = refl; small = omega arith }
+
+-- 4D4D, in a file of the version that its bytes tell
+abbrev pub told : List ℕ → Parent
+told s = top (versionIn (drop 6 s))
+
+-- what the code found of the children of 4D4D, said of the walk
+pub top-run : (s : List ℕ) (row : ℕ) → row ≡ rowOf 0x4D4D → (r : Ran) (ms : List ℕ) →
+    ((p : Parent) (seen : List ℕ) → Context p seen row 0 noMarks → RunIs (length s) 0 0 6 noMarks (walk p seen 6 (slice 6 (length s) s)) r ms) →
+    {r′ : Ran} → r ≡ r′ → RunIs (length s) 0 0 6 noMarks (walk (told s) [] 6 (slice 6 (length s) s)) r′ ms
+top-run s row e r ms h is = subst (λ z. RunIs (length s) 0 0 6 noMarks (walk (told s) [] 6 (slice 6 (length s) s)) z ms) is (h (told s) [] (top-context (versionIn (drop 6 s)) row e))
+
+abbrev four : ℕ → ℕ → ℕ → ℕ → Counts
+four records headers own skips = record { records = records; headers = headers; own = own; skipped = skips }
+
+same-counts : (r q : Counts) → r .records ≡ q .records → r .headers ≡ q .headers → r .own ≡ q .own → r .skipped ≡ q .skipped → r ≡ q
+same-counts r q a b c d =
+    ap (λ (x : ℕ). four x (r .headers) (r .own) (r .skipped)) a ∙ ap (λ (x : ℕ). four (q .records) x (r .own) (r .skipped)) b ∙
+    ap (λ (x : ℕ). four (q .records) (q .headers) x (r .skipped)) c ∙ ap (four (q .records) (q .headers) (q .own)) d
+
+-- six bytes for each record
+six-each : (t : Run) → headers t ≡ 6 * recordCount t
+six-each end = refl
+six-each (skip id body rest) = six-each rest
+six-each (known id own kids rest) = omega (arith, six-each kids, six-each rest)
+
+module _ (s : List ℕ) (b : Bytes s) (six : 6 ≤ length s) (short : length s ≤ limit) (inner : List ℕ) where
+  whole : slice 6 (length s) s ≡ drop 6 s
+  whole = ap (drop 6) (take-length s)
+
+  answer-is : figureAnswer s ≡ ended (told s) 0 (walk (told s) [] 6 (slice 6 (length s) s))
+  unfolding figureAnswer
+  answer-is = rw whole
+
+  pub figure-refused : (y : Refusal) → RunIs (length s) 0 0 6 noMarks (walk (told s) [] 6 (slice 6 (length s) s)) (Ran.Refused y) inner → Checked.Refused y ≡ checkOf (figureAnswer s)
+  figure-refused y h =
+      let a = run-refused (file (versionIn (drop 6 s))) [] s 0 0x4D4D 6 (length s) [] b six (omega arith) (omega arith) (omega arith) (walk (told s) [] 6 (slice 6 (length s) s)) y inner h in
+      sym (ap checkOf (answer-is ∙ ap (ended (told s) 0) a))
+
+  module _ (next n k : ℕ) (h : RunIs (length s) 0 0 6 noMarks (walk (told s) [] 6 (slice 6 (length s) s)) (Ran.Done next n k) inner) where
+    well : Ran-well (file (versionIn (drop 6 s))) [] s 0 0x4D4D 6 (length s) [] b six (omega arith) (omega arith) (omega arith) (walk (told s) [] 6 (slice 6 (length s) s)) n k inner
+    well = run-accepted (file (versionIn (drop 6 s))) [] s 0 0x4D4D 6 (length s) [] b six (omega arith) (omega arith) (omega arith) next n k inner h
+
+    module _ (shut : Shut) (ends : (p : Parent) (t : Run) (stop : ℕ) → p .id ≡ 0x4D4D → Kept p t s (0 + (6 + length (p .own))) stop inner → ShutIs (broken (endConditions p 0 t)) shut) where
+      at-end : ShutIs (broken (endConditions (told s) 0 (well .t))) shut
+      at-end = ends (told s) (well .t) (length s) refl (well .kept)
+
+      pub figure-shut : (y : Refusal) → shut ≡ Shut.Fault y → Checked.Refused y ≡ checkOf (figureAnswer s)
+      figure-shut y e =
+          go (broken (endConditions (told s) 0 (well .t))) (subst (ShutIs (broken (endConditions (told s) 0 (well .t)))) e at-end) ∙
+          sym (ap checkOf (answer-is ∙ ap (ended (told s) 0) (well .is)))
+        where
+          go : (x : Option Refusal) → ShutIs x (Shut.Fault y) → Checked.Refused y ≡ checkOf (unless x (accepted (well .t)))
+          go (some x) h = cc
+          go none h = absurd (clash (cc))
+
+      -- the counts: every byte once
+      counts-are : (r : Counts) → CountsAre (n + 1) k (length s) r → r ≡ countsOf (well .t)
+      counts-are r c =
+          let z = counted-once (figure (well .t)) in
+          let y = six-each (well .t) in
+          let g = ap length (well .kept .stands .is) ∙ ap length whole ∙ length-drop 6 s in
+          let m = length-bytes (well .t) in
+          let a : r .records ≡ recordCount (figure (well .t)) = omega (arith, c .records-are, well .records-are) in
+          let d : r .headers ≡ headers (figure (well .t)) = omega (arith, c .headers-are, well .records-are) in
+          let f : r .skipped ≡ skipped (figure (well .t)) = omega (arith, c .skipped-are, well .skipped-are) in
+          let e : r .own ≡ owned (figure (well .t)) = omega (arith, c .own-is, well .records-are, well .skipped-are) in
+          same-counts r (countsOf (well .t)) a d e f
+
+      pub figure-accepted : shut ≡ Shut.Fine → (r : Counts) → CountsAre (n + 1) k (length s) r → Checked.Accepted r ≡ checkOf (figureAnswer s)
+      figure-accepted e r c =
+          go (broken (endConditions (told s) 0 (well .t))) (subst (ShutIs (broken (endConditions (told s) 0 (well .t)))) e at-end) ∙
+          sym (ap checkOf (answer-is ∙ ap (ended (told s) 0) (well .is)))
+        where
+          go : (x : Option Refusal) → ShutIs x Shut.Fine → Checked.Accepted r ≡ checkOf (unless x (accepted (well .t)))
+          go (some x) h = absurd (clash (cc))
+          go none h = ap Checked.Accepted (counts-are r c)

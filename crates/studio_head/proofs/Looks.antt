@@ -1,0 +1,101 @@
+-- A look at a chunk, by how it ends: what it answers and what it leaves in the marks, in each context of the run.
+use mathlib.Core.Path.{_≡_, refl, sym, _∙_, subst}
+use mathlib.Core.Bool.{true, false}
+use mathlib.Core.List.{List}
+use Prim.Native.Nat.{ℕ, _+_, _≤_, _<_}
+use native.Mathlib.Omega.{arith}
+use lib.ListN.{length, set}
+use lib.Seq.{slice}
+use Rattle.shared_words.specs.declared.Refusal.{Refusal}
+use Rattle.shared_words.specs.declared.Refusal.the-variants.{Misplaced, Twice}
+use Rattle.studio_rules.specs.Table.{listed, under}
+use Rattle.studio_rules.specs.Rules.{Parent}
+use Rattle.shared_words.specs.Conditions.{broken}
+use Rattle.studio_rules.specs.Walk.{Step, stop, pass, headerConditions, lengthField, step}
+use Rattle.studio_row.specs.Packed.{rowOf, slotIn, slotOf, mayHoldIn}
+use Rattle.studio_own_size.specs.Own.{CountIs}
+use Rattle.studio_marks.specs.Marks.{free}
+use Rattle.studio_head.specs.declared.Header.{Header}
+use Rattle.studio_head.specs.declared.Head.{Head}
+use Rattle.studio_head.specs.Heads.{HeaderIs, HeaderWithin, HeadIs, MarksAre, openedBy}
+use Rattle.studio_head.specs.Contexts.{Context}
+use Rattle.studio_head.proofs.Opens.{step-fault, step-skip, step-misplaced, step-twice, step-opened, head-skip, row-listed, row-unlisted, marks-opened}
+use Rattle.studio_head.proofs.Places.{under-is, few-is}
+
+module _ (s : List ℕ) (at end parent word : ℕ) (ms : List ℕ) where
+  pub record Tells (ms′ : List ℕ) (h : Head) : Type 0 where
+    pub is : (p : Parent) (seen : List ℕ) → Context p seen parent word ms → HeadIs at (step p seen at (slice at end s)) h
+    pub marks : (p : Parent) (seen : List ℕ) → Context p seen parent word ms → MarksAre at (step p seen at (slice at end s)) ms ms′
+
+  -- the step that is met, and what it comes to
+  record Meets (ms′ : List ℕ) (h : Head) (p : Parent) (seen : List ℕ) : Type 0 where
+    met : Step
+    here : step p seen at (slice at end s) ≡ met
+    is : HeadIs at met h
+    marks : MarksAre at met ms ms′
+
+  tells : {ms′ : List ℕ} {h : Head} → ((p : Parent) (seen : List ℕ) → Context p seen parent word ms → Meets ms′ h p seen) → Tells ms′ h
+  tells {ms′} {h} f =
+      record {
+        is = λ p seen k. let q = f p seen k in subst (λ (y : Step). HeadIs at y h) (sym (q .here)) (q .is);
+        marks = λ p seen k. let q = f p seen k in subst (λ (y : Step). MarksAre at y ms ms′) (sym (q .here)) (q .marks);
+      }
+
+  module _ (o : at < end) (l : end ≤ length s) (r : Header) (i : HeaderIs s at (broken (headerConditions at (slice at end s) (lengthField (slice at end s)))) r) where
+    pub look-fault : {y : Refusal} → r ≡ Header.Fault y → Tells ms (Head.Fault y)
+    look-fault {y} e = tells λ p seen k. record { met = stop y; here = step-fault p seen s at end o l r i y e; is = refl; marks = tt }
+
+    -- the header is fine, and `row` is the row of its identifier
+    module _ {id past : ℕ} (e : r ≡ Header.Is id past) (row : ℕ) (is-row : row ≡ rowOf id) where
+      pub look-skip : HeaderWithin at end (Header.Is id past) → row ≡ 0 → Tells ms (Head.Skip past)
+      look-skip v z =
+          tells λ p seen k.
+          record {
+            met = pass id (slice (at + 6) past s) (slice past end s);
+            here = step-skip p seen s at end o l r i id past e (row-unlisted id row is-row z);
+            is = head-skip s at past id (slice past end s) (v .0) (omega (arith, v .1, l));
+            marks = refl;
+          }
+
+      module _ (five : length ms ≡ 5) (n : row ≡ 0 → ⊥) where
+        known : listed id ≡ true
+        known = row-listed id row is-row n
+
+        pub look-misplaced : mayHoldIn parent row ≡ false → Tells ms (Head.Fault (Misplaced at))
+        look-misplaced u =
+            tells λ p seen k.
+            record {
+              met = stop (Misplaced at);
+              here = step-misplaced p seen s at end o l r i id past e known (sym (under-is p seen parent word ms k five id row is-row known) ∙ u);
+              is = refl;
+              marks = tt;
+            }
+
+        module _ (u : mayHoldIn parent row ≡ true) where
+          placed : (p : Parent) (seen : List ℕ) → Context p seen parent word ms → under (p .id) id ≡ true
+          placed p seen k = sym (under-is p seen parent word ms k five id row is-row known) ∙ u
+
+          pub look-twice : (ms′ : List ℕ) → free (slotIn row) ms ≡ false → Tells ms′ (Head.Fault (Twice at))
+          look-twice ms′ f =
+              tells λ p seen k.
+              let q = placed p seen k in
+              record {
+                met = stop (Twice at);
+                here = step-twice p seen s at end o l r i id past e known q (sym (few-is p seen parent word ms k five id row is-row known q) ∙ f);
+                is = refl;
+                marks = tt;
+              }
+
+          pub look-opened : (ms′ : List ℕ) → free (slotIn row) ms ≡ true → ms′ ≡ set ms (slotOf id) at → (h : Head) →
+              ((p : Parent) (rest : List ℕ) → CountIs (p .own) word → HeadIs at (openedBy p at id (slice (at + 6) past s) rest) h) → Tells ms′ h
+          look-opened ms′ f m h opens =
+              tells λ p seen k.
+              let q = placed p seen k in
+              let body = slice (at + 6) past s in
+              let rest = slice past end s in
+              record {
+                met = openedBy p at id body rest;
+                here = step-opened p seen s at end o l r i id past e known q (sym (few-is p seen parent word ms k five id row is-row known q) ∙ f);
+                is = opens p rest (k .count-is);
+                marks = subst (MarksAre at (openedBy p at id body rest) ms) (sym m) (marks-opened p at id body rest ms);
+              }

@@ -1,0 +1,23 @@
+-- What the functions of this crate say of records in a flat row. Nothing here is a meaning of its own: the list is that of
+-- crate studio_rules.
+use Prim.Native.Nat.{ℕ, _+_, _*_}
+use mathlib.Core.List.{List}
+use lib.ListN.{getD}
+use Rattle.studio_rules.specs.declared.Record.{Record}
+use Rattle.studio_rules.specs.declared.Checked.{Checked}
+
+-- record number k of a flat row
+abbrev pub recordNo : List ℕ → ℕ → Record
+recordNo row k = record {
+  identifier = getD row (6 * k) 0;
+  offset = getD row (6 * k + 1) 0;
+  len = getD row (6 * k + 2) 0;
+  depth = getD row (6 * k + 3) 0;
+  parent = getD row (6 * k + 4) 0;
+  own = getD row (6 * k + 5) 0;
+}
+
+-- how many records an answer says are in the row
+abbrev pub taken : Checked → ℕ
+taken (Checked.Accepted counts) = counts .records
+taken (Checked.Refused r) = 0

@@ -1,0 +1,79 @@
+-- Marks, by the layout of the run that left them.
+use mathlib.Core.Path.{_≡_}
+use mathlib.Core.Bool.{Bool, true, _||_, cond}
+use mathlib.Core.List.{List, [], _∷_}
+use mathlib.Core.Logic.{_⊎_}
+use mathlib.Core.Option.{Option, none, some}
+use Prim.Native.Nat.{ℕ, _+_, _*_, _≤_}
+use lib.Dec.{eqb, leb}
+use lib.ListN.{length, set, getD, drop, replicate}
+use Rattle.shared_words.specs.declared.Refusal.{Refusal}
+use Rattle.shared_words.specs.declared.Refusal.the-variants.{Index, Count}
+use Rattle.studio_rules.specs.Table.{under}
+use Rattle.studio_rules.specs.OwnData.{corners}
+use Rattle.studio_rules.specs.Layout.{Run, end, skip, known, size}
+use Rattle.studio_rules.specs.Rules.{Parent, allBelow, Obeys}
+use Rattle.studio_stands.specs.Stands.{Stands}
+use Rattle.shared_words.specs.Conditions.{must, broken}
+use Rattle.shared_numbers.specs.Numbers.{wordAt}
+use Rattle.studio_row.specs.Packed.{slotOf}
+use Rattle.studio_marks.specs.declared.Shut.{Shut}
+
+-- how many chunks of a slot
+abbrev pub tallySlot : ℕ → List ℕ → ℕ
+tallySlot k [] = 0
+tallySlot k (x ∷ xs) = cond (eqb (slotOf x) k) 1 0 + tallySlot k xs
+
+-- each may stand under p
+abbrev pub Under : ℕ → List ℕ → Type 0
+Under p [] = Unit
+Under p (x ∷ xs) = (under p x ≡ true) × Under p xs
+
+-- a slot is free: it is none's, or nothing was seen there
+unfoldable pub free : ℕ → List ℕ → Bool
+free k marks = leb 5 k || eqb (getD marks k 0) 0
+
+-- the marks after a run that begins at o
+abbrev pub marksAfter : ℕ → Run → List ℕ → List ℕ
+marksAfter o end marks = marks
+marksAfter o (skip id body rest) marks = marksAfter (o + (6 + length body)) rest marks
+marksAfter o (known id own kids rest) marks = marksAfter (o + (6 + length own + size kids)) rest (set marks (slotOf id) o)
+
+abbrev pub noMarks : List ℕ
+noMarks = replicate 5 0
+
+-- t are the children of a chunk q, which stand in the file s from `from` to `stop`, obey the rules and left these marks
+pub record Kept (q : Parent) (t : Run) (s : List ℕ) (from stop : ℕ) (marks : List ℕ) : Type 0 where
+  pub begins : 1 ≤ from
+  pub stands : Stands t s from stop
+  pub obeys : Obeys q [] t
+  pub marked : marks ≡ marksAfter from t noMarks
+
+-- ---- a mesh at its end, by its marks: the offsets of its 4110, 4120 and 4140
+
+-- a mark names no chunk, or one whose first bytes of own data stand in the file
+abbrev pub Placed : List ℕ → ℕ → ℕ → Type 0
+Placed s mark n = (mark ≡ 0) ⊎ (mark + 6 + n ≤ length s)
+
+unfoldable pub countAt : List ℕ → ℕ → ℕ
+countAt s mark = cond (eqb mark 0) 0 (wordAt s (mark + 6))
+
+unfoldable pub cornersAt : List ℕ → ℕ → ℕ → Bool
+cornersAt s mark n = cond (eqb mark 0) true (allBelow n (corners (wordAt s (mark + 6)) (drop (mark + 8) s)))
+
+unfoldable pub pairsAt : List ℕ → ℕ → ℕ → Bool
+pairsAt s mark n = cond (eqb mark 0) true (eqb (wordAt s (mark + 6)) n)
+
+pub record MeshPlaced (s marks : List ℕ) : Type 0 where
+  pub vertices : Placed s (getD marks 0 0) 2
+  pub faces : Placed s (getD marks 1 0) (2 + 8 * countAt s (getD marks 1 0))
+  pub pairs : Placed s (getD marks 2 0) 2
+
+abbrev pub meshBroken : List ℕ → List ℕ → Option Refusal
+meshBroken s marks =
+    broken (must (cornersAt s (getD marks 1 0) (countAt s (getD marks 0 0))) (Index (getD marks 1 0)) ∷ must (pairsAt s (getD marks 2 0) (countAt s (getD marks 0 0))) (Count (getD marks 2 0)) ∷ [])
+
+-- what the conditions at a chunk's end come to
+abbrev pub ShutIs : Option Refusal → Shut → Type 0
+ShutIs none r = r ≡ Shut.Fine
+ShutIs (some x) r = r ≡ Shut.Fault x

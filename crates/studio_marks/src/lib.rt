@@ -1,0 +1,117 @@
+// What a run of children leaves behind: for each slot of "at most one" the offset of the chunk that was seen there, or 0.
+// The rules at a chunk's end are read off these marks.
+use shared_numbers::word_at;
+use shared_words::Refusal;
+ghost use mathlib.Core.Path.{_≡_};
+ghost use mathlib.Core.Bool.{cond, not};
+ghost use mathlib.Core.List.{List};
+ghost use Prim.Native.Nat.{ℕ, _+_, _*_, _<_};
+ghost use lib.ListN.{length, set};
+ghost use Rattle.studio_rules.specs.Layout.{Run};
+ghost use Rattle.studio_rules.specs.Rules.{Parent, noneMissing};
+ghost use Rattle.studio_row.specs.Packed.{slotIn};
+ghost use Rattle.shared_words.specs.Conditions.{broken};
+ghost use Rattle.studio_rules.specs.Walk.{endConditions};
+ghost use Rattle.studio_marks.specs.Marks.{free, Kept, ShutIs, Placed, countAt, cornersAt, pairsAt, MeshPlaced, meshBroken};
+
+// Notes the chunk of a row at an offset in its slot; false where the slot was taken.
+pub fn note(marks: &mut [u32], row: u64, at: usize) -> bool
+    requires { ⌜ (length (now marks) ≡ 5) × (at < 4294967296) ⌝ }
+    ensures is { λ r. ⌜ r ≡ free (slotIn row) (now (marks .entry)) ⌝ }
+    ensures marks { λ r. ⌜ now (marks .exit) ≡ cond r (set (now (marks .entry)) (slotIn row) at) (now (marks .entry)) ⌝ }
+{
+    let slot = studio_row::slot(row);
+    if 5 <= slot {
+        return true;
+    }
+    if marks[slot] != 0 {
+        return false;
+    }
+    marks[slot] = at as u32;
+    true
+}
+
+// What is found at a chunk's end.
+pub enum Shut {
+    Fault(Refusal),
+    Fine,
+}
+
+// Whether a child is missing that a chunk must have: 3D3D in 4D4D, A000 in AFFF.
+fn is_missing(id: usize, marks: &[u32]) -> bool
+    requires { ⌜ length (now marks) ≡ 5 ⌝ }
+    ensures { λ r. ⌜ ((q : Parent) (t : Run) (s : List ℕ) (from stop : ℕ) → q .id ≡ id → Kept q t s from stop (now (marks .entry)) → r ≡ not (noneMissing q t)) ⌝ }
+{
+    if id == 0x4D4D {
+        return marks[1] == 0;
+    }
+    if id == 0xAFFF {
+        return marks[0] == 0;
+    }
+    false
+}
+
+// The count word of the child that a mark names: 0 where there is none.
+fn count_at(file: &[u8], mark: usize) -> u32
+    requires { ⌜ Placed (now file) mark 2 ⌝ }
+    ensures { λ r. ⌜ (r ≡ countAt (now (file .entry)) mark) × (r < 65536) ⌝ }
+{
+    if mark == 0 {
+        return 0;
+    }
+    word_at(file, mark + 6)
+}
+
+// Whether the corners of the 4120 that a mark names are below n.
+fn corners_fine(file: &[u8], mark: usize, n: u32) -> bool
+    requires { ⌜ Placed (now file) mark (2 + 8 * countAt (now file) mark) ⌝ }
+    ensures { λ r. ⌜ r ≡ cornersAt (now (file .entry)) mark n ⌝ }
+{
+    if mark == 0 {
+        return true;
+    }
+    let f = word_at(file, mark + 6) as usize;
+    studio_scan::corners_below(file, mark + 8, f, n)
+}
+
+// Whether the count word of the 4140 that a mark names is n.
+fn pairs_fine(file: &[u8], mark: usize, n: u32) -> bool
+    requires { ⌜ Placed (now file) mark 2 ⌝ }
+    ensures { λ r. ⌜ r ≡ pairsAt (now (file .entry)) mark n ⌝ }
+{
+    if mark == 0 {
+        return true;
+    }
+    word_at(file, mark + 6) == n
+}
+
+// A mesh at its end.
+fn at_mesh_end(file: &[u8], marks: &[u32]) -> Shut
+    requires { ⌜ (length (now marks) ≡ 5) × MeshPlaced (now file) (now marks) ⌝ }
+    ensures { λ r. ⌜ ShutIs (meshBroken (now (file .entry)) (now (marks .entry))) r ⌝ }
+{
+    let n = count_at(file, marks[0] as usize);
+    let faces = marks[1] as usize;
+    if !corners_fine(file, faces, n) {
+        return Shut::Fault(Refusal::Index(faces));
+    }
+    let pairs = marks[2] as usize;
+    if !pairs_fine(file, pairs, n) {
+        return Shut::Fault(Refusal::Count(pairs));
+    }
+    Shut::Fine
+}
+
+// A chunk at its end, by the marks that its children left: it stands at an offset.
+pub fn at_end(file: &[u8], id: usize, at: usize, marks: &[u32]) -> Shut
+    requires { ⌜ (length (now marks) ≡ 5) × (id ≡ 0x4100 → MeshPlaced (now file) (now marks)) ⌝ }
+    ensures { λ r. ⌜ ((q : Parent) (t : Run) (stop : ℕ) → q .id ≡ id → Kept q t (now (file .entry)) (at + (6 + length (q .own))) stop (now (marks .entry)) → ShutIs (broken (endConditions q at t)) r) ⌝ }
+{
+    if is_missing(id, marks) {
+        return Shut::Fault(Refusal::Missing(at));
+    }
+    if id == 0x4100 {
+        return at_mesh_end(file, marks);
+    }
+    Shut::Fine
+}

@@ -1,0 +1,35 @@
+-- Axis by axis.
+use Rattle.studio_mesh_box.specs.Vertices.{vertexAt}
+use borrow.Author.Needs.{needs}
+use Rattle.studio_mesh_box.proofs.vertex_at.Statement.{statement}
+use Rattle.studio_mesh_box.proofs.vertex_at.Tie as tie
+
+float-at-requires : tie.Need-float-at-requires
+float-at-requires c κs = search needs
+
+add-float-at : tie.Need-add-float-at
+add-float-at c = search needs
+
+float-at-requires-2 : tie.Need-float-at-requires-2
+float-at-requires-2 c κs = search needs
+
+add-float-at-2 : tie.Need-add-float-at-2
+add-float-at-2 c = search needs
+
+float-at-requires-3 : tie.Need-float-at-requires-3
+float-at-requires-3 c κs = search needs
+
+returns : tie.Need-returns
+unfolding vertexAt
+returns c = cc
+
+pub vertex-at-spec : {M : Type 1} → statement M
+vertex-at-spec =
+    tie.close
+    (tie.spec
+    float-at-requires
+    add-float-at
+    float-at-requires-2
+    add-float-at-2
+    float-at-requires-3
+    returns)

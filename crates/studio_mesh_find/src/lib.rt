@@ -1,0 +1,133 @@
+// Where a mesh stands in an accepted file. A 4100 stands only in a 4000, which stands only in the one 3D3D of 4D4D: so
+// nothing else is looked into, and siblings are passed over by their lengths.
+use shared_numbers::long_at;
+use shared_numbers::word_at;
+ghost use mathlib.Core.Path.{_≡_};
+ghost use mathlib.Core.Bool.{true};
+ghost use mathlib.Core.List.{List};
+ghost use Prim.Native.Nat.{ℕ, _+_, _-_, _<_};
+ghost use Rattle.studio_rules.specs.Table.{listed, shape, counted};
+ghost use Rattle.studio_rules.specs.Layout.{Run, known, child, offsetOf};
+ghost use Rattle.studio_rules.specs.Rules.{Parent, Meets};
+ghost use Rattle.studio_rules.specs.Gives.{meshOf, meshesOf, meshes};
+ghost use Rattle.studio_mesh_find.specs.Runs.{Spans, SomeRun, Begins, SomeObjects, Accepted, IsCounted};
+ghost use Rattle.studio_mesh_find.specs.Places.{ElementsAre, ObjectIs, PlaceIs, FoundIs};
+
+// The elements of counted own data: where they begin, and how many there are.
+pub struct Elements {
+    pub at: usize,
+    pub count: usize,
+}
+
+// An object: the length of its name without the zero, where its mesh stands, and where it ends. A mesh at the end is
+// none.
+pub struct Object {
+    pub size: usize,
+    pub mesh: usize,
+    pub stop: usize,
+}
+
+// A mesh: where the name of its object stands, its length without the zero, its vertices and its faces.
+pub struct Place {
+    pub name: usize,
+    pub size: usize,
+    pub vertices: Elements,
+    pub faces: Elements,
+}
+
+// The mesh asked for, or how many there are.
+pub enum Found {
+    Mesh(Place),
+    Meshes(usize),
+}
+
+// Where the first chunk of an identifier stands among those from at to stop; stop, where there is none.
+fn next_child(file: &[u8], id: u32, at: usize, stop: usize) -> usize
+    requires { ⌜ (listed id ≡ true) × SomeRun (now file) at stop ⌝ }
+    ensures { λ r. ⌜ ((p : Parent) (t : Run) → Spans p t (now (file .entry)) at stop → r ≡ offsetOf id at t) ⌝ }
+{
+    let mut o = at;
+    while o < stop {
+        if word_at(file, o) == id {
+            return o;
+        }
+        o += long_at(file, o + 2) as usize;
+    }
+    o
+}
+
+// The elements of the first chunk of an identifier among those from at to stop; none, where there is no such chunk.
+fn elements_of(file: &[u8], id: u32, at: usize, stop: usize) -> Elements
+    requires { ⌜ (listed id ≡ true) × IsCounted id × SomeRun (now file) at stop ⌝ }
+    ensures { λ r. ⌜ ((p : Parent) (t : Run) (k : ℕ) → shape id ≡ counted k → Spans p t (now (file .entry)) at stop → ElementsAre k (child id t) (now (file .entry)) r) ⌝ }
+{
+    let o = next_child(file, id, at, stop);
+    if o < stop {
+        return Elements {
+            at: o + 8,
+            count: word_at(file, o + 6) as usize,
+        };
+    }
+    Elements { at: 0, count: 0 }
+}
+
+// The mesh whose 4100 stands at a position, in an object whose name has so many bytes at another.
+fn place_of(file: &[u8], at: usize, name: usize, size: usize) -> Place
+    requires { ⌜ Begins 0x4100 (now file) at ⌝ }
+    ensures { λ r. ⌜ ((p : Parent) (own : List ℕ) (kids rest : Run) (stop : ℕ) → Spans p (known 0x4100 own kids rest) (now (file .entry)) at stop → PlaceIs (now (file .entry)) (meshOf name size kids) r) ⌝ }
+{
+    let stop = at + long_at(file, at + 2) as usize;
+    let vertices = elements_of(file, 0x4110, at + 6, stop);
+    let faces = elements_of(file, 0x4120, at + 6, stop);
+    Place {
+        name,
+        size,
+        vertices,
+        faces,
+    }
+}
+
+// The object whose 4000 stands at a position.
+fn object_at(file: &[u8], at: usize) -> Object
+    requires { ⌜ Begins 0x4000 (now file) at ⌝ }
+    ensures { λ r. ⌜ ((p : Parent) (own : List ℕ) (kids rest : Run) (stop : ℕ) → Spans p (known 0x4000 own kids rest) (now (file .entry)) at stop → ObjectIs at own kids r) ⌝ }
+{
+    let stop = at + long_at(file, at + 2) as usize;
+    let name = studio_names::name_size(file, at + 6, stop);
+    let mesh = next_child(file, 0x4100, at + 6 + name, stop);
+    Object {
+        size: name - 1,
+        mesh,
+        stop,
+    }
+}
+
+// The mesh of a number among the objects from at to stop, which are children of 3D3D.
+fn find_among(file: &[u8], from: usize, stop: usize, mesh: usize) -> Found
+    requires { ⌜ SomeObjects (now file) from stop ⌝ }
+    ensures { λ r. ⌜ ((p : Parent) (t : Run) (a n : ℕ) → p .id ≡ 0x3D3D → Spans p t (now (file .entry)) from stop → FoundIs (now (file .entry)) (meshesOf from a n t) mesh r) ⌝ }
+{
+    let mut before = 0usize;
+    let mut at = next_child(file, 0x4000, from, stop);
+    while at < stop {
+        let object = object_at(file, at);
+        if object.mesh < object.stop {
+            if before == mesh {
+                return Found::Mesh(place_of(file, object.mesh, at + 6, object.size));
+            }
+            before += 1;
+        }
+        at = next_child(file, 0x4000, object.stop, stop);
+    }
+    Found::Meshes(before)
+}
+
+// The mesh of a number in an accepted file.
+pub fn find_mesh(file: &[u8], mesh: usize) -> Found
+    requires { ⌜ Accepted (now file) ⌝ }
+    ensures { λ r. ⌜ ((kids : Run) → Meets (now (file .entry)) kids → FoundIs (now (file .entry)) (meshes kids) mesh r) ⌝ }
+{
+    let at = next_child(file, 0x3D3D, 6, file.len());
+    let stop = at + long_at(file, at + 2) as usize;
+    find_among(file, at + 6, stop, mesh)
+}

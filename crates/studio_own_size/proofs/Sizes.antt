@@ -1,0 +1,118 @@
+-- Own data of each shape in a part of a file: what its size is, from the numbers that the code reads there.
+use mathlib.Core.Path.{_≡_, refl, sym, ap, _∙_}
+use mathlib.Core.Bool.{true, false}
+use mathlib.Core.List.{List, []}
+use Prim.Native.Nat.{ℕ, zero, suc, _+_, _-_, _*_, _≤_, _<_}
+use native.Mathlib.Nat.{mul-le-mul}
+use native.Mathlib.Omega.{arith}
+use lib.ListN.{length, drop, getD}
+use lib.Seq.{slice, slice-cons, slice-empty, length-slice}
+use borrow.Author.Tests.{le-leb, lt-leb}
+use Rattle.studio_rules.specs.Table.{Shape, fixed, name, counted, each, named-words}
+use Rattle.studio_rules.specs.OwnData.{nameSize, count, ownSize, hasName}
+use Rattle.shared_numbers.specs.Numbers.{wordAt}
+use Rattle.shared_numbers.proofs.Slices.{word-slice, drop-slice}
+use Rattle.studio_row.specs.Packed.{kindIn, sizeIn, shapeFrom, shapeIn}
+use Rattle.studio_own_size.specs.declared.Own.{Own}
+use Rattle.studio_own_size.specs.declared.Own.the-variants.{NoName, TooLong, Size}
+use Rattle.studio_own_size.specs.Own.{Fitted, Fits, Exceeds, OwnIs, CountIs}
+
+-- a product of a byte and a word, which the code computes
+pub product-small : (a b : ℕ) → a < 256 → b < 65536 → a * b ≤ 16711425
+product-small a b h k = mul-le-mul {n₁ = a} {m₁ = b} {n₂ = 255} {m₂ = 65535} (omega arith) (omega arith)
+
+-- ---- so many bytes, in the room of a body
+
+module _ (sh : Shape) (around body : List ℕ) (k room : ℕ) (named : hasName sh body ≡ true) (is : ownSize sh around body ≡ k) (all : length body ≡ room) where
+  pub fitted-is : (r : Own) → Fitted k room r → OwnIs sh around body r
+  fitted-is NoName h = absurd h
+  fitted-is TooLong h = record { named = named; beyond = omega arith }
+  fitted-is (Size n) h = record { named = named; is = h .0 ∙ sym is; within = omega arith }
+
+module _ (s : List ℕ) (at stop : ℕ) (order : at ≤ stop) (end : stop ≤ length s) where
+  body-length : length (slice at stop s) ≡ stop - at
+  body-length = length-slice at stop s end
+
+  pub fixed-is : (k : ℕ) (around : List ℕ) (r : Own) → Fitted k (stop - at) r → OwnIs (fixed k) around (slice at stop s) r
+  fixed-is k around = fitted-is (fixed k) around (slice at stop s) k (stop - at) refl refl body-length
+
+  pub each-is : (k n : ℕ) (around : List ℕ) → CountIs around n → (r : Own) → Fitted (k * n) (stop - at) r → OwnIs (each k) around (slice at stop s) r
+  each-is k n around h = fitted-is (each k) around (slice at stop s) (k * n) (stop - at) refl (ap (λ (m : ℕ). k * m) (sym (h .is))) body-length
+
+  pub counted-is : (k w : ℕ) → 2 ≤ stop - at → w ≡ wordAt s at → (r : Own) → Fitted (2 + k * w) (stop - at) r → OwnIs (counted k) [] (slice at stop s) r
+  counted-is k w l e =
+      fitted-is (counted k) [] (slice at stop s) (2 + k * w) (stop - at) refl (rw (word-slice at stop s (omega arith), e)) body-length
+
+  pub counted-short : (k : ℕ) → stop - at < 2 → Exceeds (counted k) [] (slice at stop s)
+  counted-short k l = record { named = refl; beyond = omega (arith, body-length) }
+
+  pub name-is : (z : ℕ) → z ≡ nameSize (slice at stop s) → z ≤ stop - at → Fits name [] (slice at stop s) z
+  name-is z e l = record { named = le-leb (nameSize (slice at stop s)) (length (slice at stop s)) (omega (arith, body-length)); is = e; within = omega (arith, body-length) }
+
+  pub no-name : (sh : Shape) → hasName sh (slice at stop s) ≡ hasName name (slice at stop s) → (z : ℕ) → z ≡ nameSize (slice at stop s) → stop - at < z → hasName sh (slice at stop s) ≡ false
+  no-name sh same z e l = same ∙ lt-leb (nameSize (slice at stop s)) (length (slice at stop s)) (omega (arith, body-length))
+
+  module _ (z : ℕ) (e : z ≡ nameSize (slice at stop s)) (fits : z ≤ stop - at) where
+    has : hasName named-words (slice at stop s) ≡ true
+    has = le-leb (nameSize (slice at stop s)) (length (slice at stop s)) (omega (arith, body-length))
+
+    pub words-short : stop - at < z + 2 → Exceeds named-words [] (slice at stop s)
+    words-short l = record { named = has; beyond = omega (arith, body-length) }
+
+    -- the count word behind the name
+    pub words-count : z + 2 ≤ stop - at → count (drop (nameSize (slice at stop s)) (slice at stop s)) ≡ wordAt s (at + z)
+    words-count l = rw (← e, drop-slice z at stop s) (word-slice (at + z) stop s (omega arith))
+
+    pub words-is : (w : ℕ) → z + 2 ≤ stop - at → w ≡ wordAt s (at + z) → (r : Own) → Fitted (z + 2 + 2 * w) (stop - at) r → OwnIs named-words [] (slice at stop s) r
+    words-is w l f =
+        fitted-is named-words [] (slice at stop s) (z + 2 + 2 * w) (stop - at) has (omega (arith, words-count l)) body-length
+
+  -- ---- the count word of own data
+
+  pub count-none : stop - at ≡ 0 → CountIs (slice at stop s) 0
+  count-none l = let e : at ≡ stop = omega arith in record { is = rw (e, slice-empty stop s); small = omega arith }
+
+  pub count-one : stop - at ≡ 1 → (b : ℕ) → b < 256 → b ≡ getD s at 0 → CountIs (slice at stop s) b
+  count-one l b h f =
+      let e : suc at ≡ stop = omega arith in
+      let t : slice (suc at) stop s ≡ [] = ap (λ (k : ℕ). slice k stop s) e ∙ slice-empty stop s in
+      record { is = rw (slice-cons at stop s 0 (omega arith) end, t, ← f) (omega arith); small = omega arith }
+
+  pub count-word : 2 ≤ stop - at → (w : ℕ) → w < 65536 → w ≡ wordAt s at → CountIs (slice at stop s) w
+  count-word l w h f = record { is = f ∙ sym (word-slice at stop s (omega arith)); small = h }
+
+-- ---- a row's kind is its shape
+
+module _ (row : ℕ) where
+  pub kind-fixed : kindIn row ≡ 0 → shapeIn row ≡ fixed (sizeIn row)
+  unfolding shapeIn
+  kind-fixed e = rw e
+
+  pub kind-name : kindIn row ≡ 1 → shapeIn row ≡ name
+  unfolding shapeIn
+  kind-name e = rw e
+
+  pub kind-counted : kindIn row ≡ 2 → shapeIn row ≡ counted (sizeIn row)
+  unfolding shapeIn
+  kind-counted e = rw e
+
+  pub kind-each : kindIn row ≡ 3 → shapeIn row ≡ each (sizeIn row)
+  unfolding shapeIn
+  kind-each e = rw e
+
+rest-words : (k n : ℕ) → (k ≡ 0 → ⊥) → (k ≡ 1 → ⊥) → (k ≡ 2 → ⊥) → (k ≡ 3 → ⊥) → shapeFrom k n ≡ named-words
+rest-words zero n a b c d = absurd (a refl)
+rest-words (suc zero) n a b c d = absurd (b refl)
+rest-words (suc (suc zero)) n a b c d = absurd (c refl)
+rest-words (suc (suc (suc zero))) n a b c d = absurd (d refl)
+rest-words (suc (suc (suc (suc k)))) n a b c d = refl
+
+pub kind-words : (row : ℕ) → (kindIn row ≡ 0 → ⊥) → (kindIn row ≡ 1 → ⊥) → (kindIn row ≡ 2 → ⊥) → (kindIn row ≡ 3 → ⊥) → shapeIn row ≡ named-words
+unfolding shapeIn
+kind-words row = rest-words (kindIn row) (sizeIn row)
+
+-- own data that does not look at the chunk around
+pub around-any : (sh : Shape) → ((a b body : List ℕ) → ownSize sh a body ≡ ownSize sh b body) → (around body : List ℕ) (r : Own) → OwnIs sh [] body r → OwnIs sh around body r
+around-any sh f around body NoName h = h
+around-any sh f around body TooLong h = record { named = h .named; beyond = omega (arith, f [] around body, h .beyond) }
+around-any sh f around body (Size k) h = record { named = h .named; is = h .is ∙ f [] around body; within = h .within }

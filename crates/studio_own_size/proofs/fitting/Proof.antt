@@ -1,0 +1,13 @@
+-- So many bytes fit, or they do not.
+use borrow.Author.Needs.{needs}
+use Rattle.studio_own_size.proofs.fitting.Statement.{statement}
+use Rattle.studio_own_size.proofs.fitting.Tie as tie
+
+returns : tie.Need-returns
+returns c = search needs
+
+returns-2 : tie.Need-returns-2
+returns-2 c = search needs
+
+pub fitting-spec : {M : Type 1} → statement M
+fitting-spec = tie.close (tie.spec returns returns-2)

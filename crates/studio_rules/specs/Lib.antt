@@ -1,0 +1,16 @@
+pub mod Table
+pub mod Apart
+pub mod OwnData
+pub mod Layout
+pub mod Rules
+pub mod Parses
+pub mod Walk
+pub mod Gives
+pub mod Box
+pub mod Encodings
+pub mod Calls
+pub mod Within
+pub mod Gaps
+pub mod Theorems
+pub mod Samples
+pub mod Readings

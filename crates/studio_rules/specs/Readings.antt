@@ -1,0 +1,90 @@
+-- Worked cases for the places where document 01 leaves room or where others have gone wrong: what is answered, and of
+-- several faults which. One list under one statement, like P1 to P12.
+use mathlib.Core.Path.{_≡_}
+use Prim.Native.Nat.{ℕ}
+use mathlib.Core.List.{List, [], _∷_, _++_, map}
+use Rattle.shared_words.specs.Bytes.{le}
+use Rattle.studio_rules.specs.Layout.{Run, end, skip, known, figure, bytes}
+use Rattle.studio_rules.specs.Calls.{checkCall}
+use Rattle.studio_rules.specs.Samples.{Shown, no, yes, shown}
+
+-- ---- figures, as layouts that need not obey the rules
+
+-- a chunk without children, and one after another
+abbrev pub plain : ℕ → List ℕ → Run
+plain id own = known id own end end
+
+infixr 5 _then_
+abbrev pub _then_ : Run → Run → Run
+end then t = t
+(skip id body rest) then t = skip id body (rest then t)
+(known id own kids rest) then t = known id own kids (rest then t)
+
+-- 3D3D stands at 6, its children begin at 12
+abbrev pub scene : Run → Run
+scene kids = known 0x3D3D [] kids end
+
+-- an object named "A": its children begin 8 bytes behind it, those of a mesh in it 14
+abbrev pub object : Run → Run
+object kids = known 0x4000 (0x41 ∷ 0 ∷ []) kids end
+
+abbrev pub mesh : Run → Run
+mesh kids = object (known 0x4100 [] kids end)
+
+-- 4110 with one vertex (20 bytes), of which the first number is given; 4120 with one face (16 bytes) and its children;
+-- 4140 with no pair (8 bytes)
+abbrev pub vertex : ℕ → Run
+vertex x = plain 0x4110 (1 ∷ 0 ∷ le 4 x ++ (0 ∷ 0 ∷ 0 ∷ 0 ∷ 0 ∷ 0 ∷ 0 ∷ 0 ∷ []))
+
+abbrev pub face : ℕ → Run → Run
+face corner kids = known 0x4120 (1 ∷ 0 ∷ corner ∷ 0 ∷ 0 ∷ 0 ∷ 0 ∷ 0 ∷ 0 ∷ 0 ∷ []) kids end
+
+abbrev pub noPairs : Run
+noPairs = plain 0x4140 (0 ∷ 0 ∷ [])
+
+-- ---- the cases, and what is answered
+
+pub record Case : Type 0 where
+  pub kids : Run
+  pub answer : Shown
+
+abbrev pub gives : Run → Shown → Case
+gives kids answer = record { kids = kids; answer = answer }
+
+abbrev pub cases : List Case
+cases =
+    -- 7: a second 4D4D, under a chunk
+    gives (scene end then plain 0x4D4D []) (no 7 12) ∷
+    -- 8 comes before 10: a second 0002, of wrong length; a first one is 10
+    gives (plain 0x0002 (0 ∷ 0 ∷ 0 ∷ 0 ∷ []) then plain 0x0002 [] then scene end) (no 8 16) ∷
+    gives (plain 0x0002 [] then scene end) (no 10 6) ∷
+    -- 8: a mesh and a light in one object, taken together; two 4150 in one 4120
+    gives (scene (object (plain 0x4100 [] then plain 0x4600 (0 ∷ 0 ∷ 0 ∷ 0 ∷ 0 ∷ 0 ∷ 0 ∷ 0 ∷ 0 ∷ 0 ∷ 0 ∷ 0 ∷ [])))) (no 8 26) ∷
+    gives (scene (mesh (known 0x4120 (0 ∷ 0 ∷ []) (plain 0x4150 [] then plain 0x4150 []) end))) (no 8 40) ∷
+    -- 9: an object's name without its zero; a 4130 with an empty body
+    gives (scene (plain 0x4000 (0x41 ∷ []))) (no 9 12) ∷
+    gives (scene (mesh (vertex 0 then face 0 (plain 0x4130 [])))) (no 9 62) ∷
+    -- 10: a byte left over where no children may follow
+    gives (scene (plain 0x1470 (0 ∷ []))) (no 10 12) ∷
+    -- 11: infinite; the largest finite number is accepted
+    gives (scene (mesh (vertex 0x7F80_0000))) (no 11 26) ∷
+    gives (scene (mesh (vertex 0x7F7F_FFFF))) (yes 30 16 0) ∷
+    -- 12: an entry of a 4130 that is f; it is met before the bad corner of the same 4120
+    gives (scene (mesh (vertex 0 then face 1 (plain 0x4130 (0x6D ∷ 0 ∷ 1 ∷ 0 ∷ 1 ∷ 0 ∷ []))))) (no 12 62) ∷
+    -- 12: a corner in a second mesh; corners are judged at the mesh's end, so that 4110 may come after 4120
+    gives (scene (mesh (vertex 0 then face 0 end) then mesh (face 1 end then vertex 0))) (no 12 76) ∷
+    gives (scene (mesh (face 0 end then vertex 0))) (yes 36 26 0) ∷
+    -- 12 before 13, wherever the 4140 stands; 13
+    gives (scene (mesh (noPairs then vertex 0 then face 1 end))) (no 12 54) ∷
+    gives (scene (mesh (noPairs then vertex 0 then face 0 end))) (no 13 26) ∷
+    -- 14: a material without its name, met at its end, after a fault in its children
+    gives (scene (known 0xAFFF [] (plain 0xA010 []) end)) (no 14 12) ∷
+    gives (scene (known 0xAFFF [] (known 0xA010 [] (plain 0x0011 []) end) end)) (no 10 24) ∷
+    -- an unlisted chunk is skipped, whatever stands inside it
+    gives (skip 0x3E3D (0x4D ∷ 0x4D ∷ 0 ∷ []) end then scene end) (yes 12 0 9) ∷ []
+
+abbrev pub answered : Case → Shown
+answered c = shown (checkCall (bytes (figure (c .kids))))
+
+abbrev pub Readings : Type 0
+Readings = map answered cases ≡ map (λ c. c .answer) cases

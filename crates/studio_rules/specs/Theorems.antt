@@ -1,0 +1,60 @@
+-- What is proved of the walk's verdict and of what the rules give. (The demands themselves, said of the calls, rest on this
+-- and stand in crate claim_demands.)
+use mathlib.Core.Path.{_≡_}
+use mathlib.Core.Logic.{_↔_}
+use Prim.Native.Nat.{ℕ, _+_, _≤_}
+use mathlib.Core.Bool.{true}
+use mathlib.Core.List.{List, []}
+use lib.ListN.{length, drop}
+use Rattle.shared_words.specs.Bytes.{Bytes}
+use Rattle.studio_rules.specs.Layout.{Run, figure, bytes, identifiers}
+use Rattle.studio_rules.specs.Rules.{Parent, few, Obeys, limit, version, Meets}
+use Rattle.shared_words.specs.Conditions.{accepted}
+use Rattle.studio_rules.specs.Walk.{versionIn, verdict}
+use Rattle.studio_rules.specs.Gives.{list, headers, owned, skipped, meshes}
+use Rattle.studio_rules.specs.Gaps.{Marked, figureOf, without, with, InGaps, Piece, pieces, bytesPut, Moved, SameMesh, Pairwise}
+
+-- A file is accepted, with a layout, exactly when it meets the rules with that layout.
+abbrev pub AcceptedExactly : Type 0
+AcceptedExactly = (s : List ℕ) → Bytes s → (kids : Run) → (verdict s ≡ accepted kids) ↔ Meets s kids
+
+-- A file has one layout.
+abbrev pub OneLayout : Type 0
+OneLayout = (s : List ℕ) (kids kids′ : Run) → Meets s kids → Meets s kids′ → kids ≡ kids′
+
+-- The version that the bytes of a file tell is that of its layout.
+abbrev pub VersionAgrees : Type 0
+VersionAgrees = (s : List ℕ) (kids : Run) → Meets s kids → versionIn (drop 6 s) ≡ version kids
+
+-- "At most one" is a rule of each child with those before it; so of all children of a chunk q at most one is of a group.
+abbrev pub AtMostOne : Type 0
+AtMostOne = (q : Parent) (kids : Run) → Obeys q [] kids → few (q .id) (identifiers kids) ≡ true
+
+-- The byte counts add to the file's length.
+abbrev pub CountsAdd : Type 0
+CountsAdd = (s : List ℕ) (kids : Run) → Meets s kids → headers (figure kids) + owned (figure kids) + skipped (figure kids) ≡ length s
+
+-- the chunks that m marks, as they stand in the file that has them
+abbrev pub putIn : Marked → List Piece
+putIn m = pieces 0 (figureOf m)
+
+-- all their bytes: every one begins within the file
+abbrev pub allPut : Marked → ℕ
+allPut m = bytesPut 0 (length (bytes (figure (with m)))) (putIn m)
+
+-- Of the children m of a file's 4D4D, some of them marked: in one piece, for all marked chunks together and
+-- both ways.
+pub record PutInOrTakenOut (m : Marked) : Type 0 where
+  -- an accepted file, with chunks put in, is accepted within the length limit
+  pub put-in : (s : List ℕ) → Bytes s → verdict s ≡ accepted (without m) → InGaps 0x4D4D m → length (bytes (figure (with m))) ≤ limit →
+      verdict (bytes (figure (with m))) ≡ accepted (with m)
+  -- an accepted file, with chunks taken out, is accepted
+  pub taken-out : (s : List ℕ) → Bytes s → verdict s ≡ accepted (with m) → verdict (bytes (figure (without m))) ≡ accepted (without m)
+  -- the list has the same known chunks in the same order, each moved
+  pub list-moved : Pairwise (Moved (putIn m)) (list (without m)) (list (with m))
+  -- of the byte counts only the skipped one changes
+  pub headers-same : headers (figure (with m)) ≡ headers (figure (without m))
+  pub owned-same : owned (figure (with m)) ≡ owned (figure (without m))
+  pub skipped-grows : skipped (figure (with m)) ≡ skipped (figure (without m)) + allPut m
+  -- every mesh has the same tables
+  pub meshes-same : Pairwise (SameMesh (putIn m)) (meshes (without m)) (meshes (with m))

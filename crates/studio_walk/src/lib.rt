@@ -1,0 +1,102 @@
+// The strict reading of chunks. A chunk holds a run of children and a run is made of chunks: `chunk` and `run` call each
+// other, and the first fault met in file order is answered. The tests at a chunk's start are in crate studio_head, those at its end
+// in crate studio_marks.
+use shared_words::Refusal;
+use studio_head::Head;
+use studio_marks::Shut;
+ghost use mathlib.Core.Path.{_≡_};
+ghost use mathlib.Core.List.{List};
+ghost use Prim.Native.Nat.{ℕ, _≤_, _<_};
+ghost use lib.ListN.{length};
+ghost use lib.Seq.{slice};
+ghost use Rattle.studio_rules.specs.Rules.{Parent};
+ghost use Rattle.studio_rules.specs.Walk.{step, walk};
+ghost use Rattle.studio_head.specs.Contexts.{Room, Context};
+ghost use Rattle.studio_walk.specs.Runs.{SomeContext, ChunkIs, ChunkWithin, RunIs, RunWithin};
+
+// What a chunk or a run of chunks comes to: where it ends, how many records it has and how many bytes were skipped.
+pub enum Ran {
+    Refused(Refusal),
+    Done {
+        next: usize,
+        records: usize,
+        skipped: usize,
+    },
+}
+
+// The chunk at at. Its children leave marks of their own, by which it is judged at its end.
+fn chunk(file: &[u8], parent: u64, count: u32, at: usize, end: usize, marks: &mut [u32]) -> Ran
+    requires { ⌜ (at < end) × (1 ≤ at) × Room end count (now file) (now marks) × SomeContext parent count (now marks) ⌝ }
+    ensures is { λ r. ⌜ ((p : Parent) (seen : List ℕ) → Context p seen parent count (now (marks .entry)) → ChunkIs p seen at (step p seen at (slice at end (now (file .entry)))) r (now (marks .entry)) (now (marks .exit))) ⌝ }
+    ensures five { λ r. ⌜ length (now (marks .exit)) ≡ 5 ⌝ }
+    ensures within { λ r. ⌜ ChunkWithin at end r ⌝ }
+{
+    match studio_head::look(file, parent, count, at, end, marks) {
+        Head::Fault(r) => Ran::Refused(r),
+        Head::Skip { stop } => Ran::Done {
+            next: stop,
+            records: 0,
+            skipped: stop - at,
+        },
+        Head::Leaf { stop } => Ran::Done {
+            next: stop,
+            records: 1,
+            skipped: 0,
+        },
+        Head::Enter {
+            id,
+            row,
+            count: word,
+            from,
+            stop,
+        } => {
+            let mut inner = [0u32; 5];
+            match run(file, row, word, from, stop, &mut inner) {
+                Ran::Refused(r) => Ran::Refused(r),
+                Ran::Done {
+                    next: _,
+                    records,
+                    skipped,
+                } => match studio_marks::at_end(file, id, at, &inner) {
+                    Shut::Fault(r) => Ran::Refused(r),
+                    Shut::Fine => Ran::Done {
+                        next: stop,
+                        records: records + 1,
+                        skipped,
+                    },
+                },
+            }
+        }
+    }
+}
+
+// The run of chunks from at to end.
+pub fn run(file: &[u8], parent: u64, count: u32, at: usize, end: usize, marks: &mut [u32]) -> Ran
+    requires { ⌜ (at ≤ end) × (1 ≤ at) × Room end count (now file) (now marks) × SomeContext parent count (now marks) ⌝ }
+    ensures is { λ r. ⌜ ((p : Parent) (seen : List ℕ) → Context p seen parent count (now (marks .entry)) → RunIs end 0 0 at (now (marks .entry)) (walk p seen at (slice at end (now (file .entry)))) r (now (marks .exit))) ⌝ }
+    ensures five { λ r. ⌜ length (now (marks .exit)) ≡ 5 ⌝ }
+    ensures within { λ r. ⌜ RunWithin at end r ⌝ }
+{
+    let mut p = at;
+    let mut records = 0usize;
+    let mut skipped = 0usize;
+    while p < end {
+        match chunk(file, parent, count, p, end, marks) {
+            Ran::Refused(r) => return Ran::Refused(r),
+            Ran::Done {
+                next,
+                records: n,
+                skipped: k,
+            } => {
+                p = next;
+                records += n;
+                skipped += k;
+            }
+        }
+    }
+    Ran::Done {
+        next: end,
+        records,
+        skipped,
+    }
+}

@@ -1,6 +1,0 @@
--- The two rows of the tables, as the calls of crate rules take them.
-use mathlib.Core.List.{List}
-use Rattle.rules.specs.Calls.{Rows}
-
-abbrev pub rows : {A B : Type 0} → List A → List B → Rows A B
-rows vertices corners = record { vertices = vertices; corners = corners }
