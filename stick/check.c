@@ -1,14 +1,12 @@
-/* The check of one stick: each file is read once, from the stick, and is judged and compared. */
+/* The check of one stick: what is met on the walk, and what is said about it. */
 #include "check.h"
 
 #include <errno.h>
 #include <stdlib.h>
 
-#include "compare.h"
-#include "figure.h"
-#include "kinds.h"
 #include "refusals.h"
 #include "stop.h"
+#include "subject.h"
 #include "walk.h"
 
 enum { MOST_IN_A_ROW = 3 }; /* so often the stick may fail to answer before it is given up */
@@ -25,16 +23,6 @@ struct check {
     bool given_up;
     unsigned in_a_row;
     unsigned long figures; /* met so far, checked or not */
-};
-
-/* A file that is to be read, and what came of it. */
-struct subject {
-    const char *path;
-    enum kind kind;
-    size_t expected; /* its number in the manifest, or NOT_EXPECTED */
-    uint64_t answer;
-    struct totals totals;
-    struct comparison comparison;
 };
 
 /* Something could not be looked at; where the stick itself is gone, nothing more is tried. */
@@ -60,65 +48,6 @@ static void found(struct check *check, enum outcome outcome, const char *path, c
                   const char *remedy) {
     struct finding finding = {.outcome = outcome, .path = path, .words = words, .remedy = remedy};
     report_add(check->report, &finding);
-}
-
-/* Opens the master's file of the same name, where there is one. */
-static bool start_comparison(struct check *check, struct subject *subject,
-                             struct trouble *trouble) {
-    struct text path = {0};
-    bool good = true;
-    if (subject->expected != NOT_EXPECTED) {
-        text_add(&path, check->against->folder);
-        text_add(&path, "/");
-        text_add(&path, check->against->manifest->names[subject->expected]);
-        good = comparison_start(&subject->comparison, path.bytes, trouble);
-        text_free(&path);
-    }
-    return good;
-}
-
-/* Reads an open file to its end, or as far as anyone wants to know of it. */
-static bool read_through(struct check *check, struct subject *subject, struct reading *reading,
-                         struct trouble *trouble) {
-    uint8_t *block = check->checker.block;
-    bool first = true;
-    size_t length;
-    do {
-        if (!reading_block(reading, block, MOST_READ, &length, trouble)) {
-            return false;
-        }
-        if (first && subject->kind == KIND_FIGURE) {
-            subject->answer = judge_figure(&check->checker, length,
-                                           check->report->style->list ? &subject->totals : NULL);
-        }
-        if (!comparison_add(&subject->comparison, block, length, trouble)) {
-            return false;
-        }
-        first = false;
-    } while (subject->comparison.wanted && !subject->comparison.different && !reading->ended &&
-             !stopped());
-    return true;
-}
-
-static bool read_file(struct check *check, struct subject *subject, struct trouble *trouble) {
-    struct trouble later;
-    struct reading reading;
-    bool good;
-    if (!reading_open(&reading, subject->path, FROM_STICK, trouble)) {
-        return false;
-    }
-    good = start_comparison(check, subject, trouble) &&
-           read_through(check, subject, &reading, trouble);
-    if (!comparison_end(&subject->comparison, &later) && good) {
-        *trouble = later;
-        good = false;
-    }
-    if (!reading_close(&reading, &later) && good) {
-        *trouble = later;
-        good = false;
-    }
-    check->report->from_memory = check->report->from_memory || !reading.settled;
-    return good;
 }
 
 static void say_refused(struct check *check, const struct subject *subject) {
@@ -148,18 +77,7 @@ static void say_good(struct check *check, const struct subject *subject) {
     report_add(check->report, &finding);
 }
 
-static void check_file(struct check *check, struct subject *subject) {
-    struct row row = {check->root, CHECKING, check->figures, check->report->count[FOUND_REFUSED]};
-    struct trouble trouble;
-    screen_row(check->report->screen, check->report->job, &row);
-    if (!read_file(check, subject, &trouble)) {
-        could_not(check, subject->path, &trouble);
-        return;
-    }
-    if (stopped()) {
-        return; /* it may not have been read to its end */
-    }
-    check->in_a_row = 0;
+static void say_read(struct check *check, const struct subject *subject) {
     check->report->figures += subject->kind == KIND_FIGURE;
     if (TDS_REFUSED(subject->answer)) {
         say_refused(check, subject);
@@ -167,6 +85,21 @@ static void check_file(struct check *check, struct subject *subject) {
         say_different(check, subject);
     } else {
         say_good(check, subject);
+    }
+}
+
+static void check_file(struct check *check, struct subject *subject) {
+    struct row row = {check->root, CHECKING, check->figures, check->report->count[FOUND_REFUSED]};
+    struct trouble trouble;
+    screen_row(check->report->screen, check->report->job, &row);
+    if (!subject_read(subject, &check->checker, &trouble)) {
+        could_not(check, subject->path, &trouble);
+        return;
+    }
+    check->in_a_row = 0;
+    check->report->from_memory = check->report->from_memory || !subject->settled;
+    if (!stopped()) { /* else it may not have been read to its end */
+        say_read(check, subject);
     }
 }
 
@@ -185,34 +118,48 @@ static void pass_by(struct check *check, const struct subject *subject) {
     }
 }
 
-static size_t expected_number(struct check *check, const struct entry *entry) {
-    const char *name = check->in_folder ? entry->below : last_name(entry->path);
-    size_t number = check->against->folder == NULL ? NOT_EXPECTED
-                                                   : manifest_find(check->against->manifest, name);
-    if (number != NOT_EXPECTED) {
-        check->seen[number] = true;
+/* The path of the master's file of the same name, which counts as seen; NULL if there is none. */
+static char *in_master(struct check *check, const struct entry *entry) {
+    const struct against *against = check->against;
+    struct text path = {0};
+    size_t number = against->folder == NULL
+                        ? NOT_EXPECTED
+                        : manifest_find(against->manifest,
+                                        check->in_folder ? entry->below : last_name(entry->path));
+    if (number == NOT_EXPECTED) {
+        return NULL;
     }
-    return number;
+    check->seen[number] = true;
+    text_format(&path, "%s/%s", against->folder, against->manifest->names[number]);
+    return path.bytes;
+}
+
+/* A file is read if it can be judged by itself or compared with another. */
+static void judge_or_pass_by(struct check *check, struct subject *subject) {
+    check->figures += subject->kind == KIND_FIGURE || subject->kind == KIND_NO_READER;
+    if (subject->master != NULL ||
+        (subject->kind == KIND_FIGURE && check->against->folder == NULL)) {
+        check_file(check, subject);
+    } else {
+        pass_by(check, subject);
+    }
 }
 
 static void look_at_file(struct check *check, const struct entry *entry) {
+    char *master = in_master(check, entry);
     struct subject subject = {.path = entry->path,
                               .kind = kind_of(entry->path),
-                              .expected = expected_number(check, entry)};
+                              .list = check->report->style->list,
+                              .master = master};
     if (subject.kind == KIND_LEFT_BEHIND) {
         found(check, FOUND_LEFT_BEHIND, entry->path, NULL, "delete it");
-        return;
-    }
-    if (!check->in_folder && subject.kind != KIND_NO_READER) {
-        subject.kind = KIND_FIGURE; /* it was asked for, whatever its name */
-    }
-    check->figures += subject.kind == KIND_FIGURE || subject.kind == KIND_NO_READER;
-    if (subject.expected != NOT_EXPECTED ||
-        (subject.kind == KIND_FIGURE && check->against->folder == NULL)) {
-        check_file(check, &subject);
     } else {
-        pass_by(check, &subject);
+        if (!check->in_folder && subject.kind != KIND_NO_READER) {
+            subject.kind = KIND_FIGURE; /* it was asked for, whatever its name */
+        }
+        judge_or_pass_by(check, &subject);
     }
+    free(master);
 }
 
 static void look_at_folder(struct check *check, const struct entry *entry) {
