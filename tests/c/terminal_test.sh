@@ -155,8 +155,9 @@ if [ -n "$RUN" ]; then skip "$RUN waits itself"; else
     "$S" samples/damaged >&5 2>"$T/err" &
     tool=$!
     tries=0
-    # until it listens to this signal: the 15th of those that it catches
-    until grep -q '^SigCgt:.*[4-7c-f]...$' "/proc/$tool/status" || [ "$tries" -ge 600 ]; do
+    # until it is the tool (and not the shell any more), and listens to this signal, the 15th of those that it catches
+    until tr '\n' ' ' <"/proc/$tool/status" | grep -q 'Name:.stick .*SigCgt:.[0-9a-f]*[4-7c-f][0-9a-f][0-9a-f][0-9a-f] ' ||
+        [ "$tries" -ge 600 ]; do
         tries=$((tries + 1))
         sleep 0.1
     done
