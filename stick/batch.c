@@ -8,9 +8,11 @@
 #include <time.h>
 
 #include "folder.h"
+#include "json.h"
 #include "longpath.h"
 #include "names.h"
 #include "stop.h"
+#include "verdict.h"
 
 struct batch {
     struct session *session;
@@ -119,19 +121,36 @@ static void next_stick(struct batch *batch) {
     }
 }
 
-static int end_of(struct batch *batch) {
-    struct text line = {0};
-    bool finished = batch->passed + batch->failed.count == batch->of;
-    text_format(&line, "%s: %s%lu of %lu sticks passed",
-                finished && batch->status == 0 ? "PASS" : "DO NOT SEAL",
+static void add_plain_end(const struct batch *batch, bool finished, struct text *line) {
+    add_verdict_word(line, finished && batch->status == 0);
+    text_format(line, ": %s%lu of %lu sticks passed",
                 finished ? "" : "not finished: ", batch->passed, batch->of);
     if (batch->failed.count > 0) {
-        text_add(&line, "; not these: ");
-        names_say(&batch->failed, &line);
+        text_add(line, "; not these: ");
+        names_say(&batch->failed, line);
     }
-    if (!batch->session->options->style.json) {
-        printf("%s\n", line.bytes);
+    text_add(line, "\n");
+}
+
+static void add_json_end(const struct batch *batch, bool finished, struct text *line) {
+    json_begin(line);
+    json_string(line, "verdict", verdict_word(finished && batch->status == 0));
+    json_number(line, "sticks", batch->of);
+    json_number(line, "passed", batch->passed);
+    json_string(line, "not_these", batch->failed.list.bytes);
+    json_number(line, "not_finished", !finished);
+    json_end(line);
+}
+
+static int end_of(struct batch *batch) {
+    bool finished = batch->passed + batch->failed.count == batch->of;
+    struct text line = {0};
+    if (batch->session->options->style.json) {
+        add_json_end(batch, finished, &line);
+    } else {
+        add_plain_end(batch, finished, &line);
     }
+    fputs(line.bytes, stdout);
     write_log(batch, line.bytes);
     text_free(&line);
     names_free(&batch->failed);

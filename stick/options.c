@@ -29,31 +29,29 @@ static const struct option names[] = {
 };
 
 void print_help(void) {
-    printf(
-        "Usage: stick [OPTION]... FOLDER...\n"
-        "       stick --copy EDITION FOLDER...\n"
-        "Checks every figure (.3ds) in each FOLDER and in the folders below it, and says in\n"
-        "plain words which are damaged, where, and what to do. The last line begins with\n"
-        "PASS or DO NOT SEAL. Several FOLDERs are worked on at once. A FOLDER may also be one\n"
-        "file.\n"
-        "\n"
-        "      --against MASTER  compare every file with the one in the folder MASTER too\n"
-        "      --copy EDITION    first copy what is in EDITION and not yet in each FOLDER, then\n"
-        "                        check and compare; nothing in a FOLDER is deleted or changed\n"
-        "      --batch N         N sticks one after another at the same FOLDER\n"
-        "      --log FILE        where the batch is logged (stick-batch-DATE.log)\n"
-        "  -v, --verbose         a line for each good file too\n"
-        "  -l, --list            what is in each good figure: its meshes, vertices and faces\n"
-        "  -q, --quiet           only the problems: no progress, no last line\n"
-        "      --json            one JSON object a line, for programs\n"
-        "  -e, --explain N       explain refusal N (1 to %d, or its name) at length\n"
-        "  -h, --help            this help\n"
-        "  -V, --version         the version of this program\n"
-        "\n"
-        "Exit status: 0 all is well; 1 something is refused, differs, is missing or does not\n"
-        "belong there; 2 something could not be checked (the rest was), there was no figure, the\n"
-        "work was stopped, or the command was wrong.\n",
-        refusal_last());
+    printf("Usage: stick [OPTION]... FOLDER...\n"
+           "       stick --copy EDITION [OPTION]... FOLDER...\n"
+           "Checks every figure (.3ds) in each FOLDER and below it, and says in plain words\n"
+           "which are damaged, where, and what to do. The last line begins with PASS or\n"
+           "DO NOT SEAL. Several FOLDERs are worked on at once; one may also be a file.\n"
+           "\n"
+           "      --against MASTER  compare every file with the one in the folder MASTER too\n"
+           "      --copy EDITION    first copy what is in EDITION and not in a FOLDER yet,\n"
+           "                        then check and compare; nothing there is changed\n"
+           "      --batch N         N sticks one after another at the same FOLDER\n"
+           "      --log FILE        where the batch is logged (stick-batch-DATE.log)\n"
+           "  -v, --verbose         a line for each good file too\n"
+           "  -l, --list            the meshes, vertices and faces of each good figure\n"
+           "  -q, --quiet           only the problems: no progress, no last line\n"
+           "      --json            one JSON object a line, for programs\n"
+           "  -e, --explain N       explain refusal N (1 to %d, or its name) at length\n"
+           "  -h, --help            this help\n"
+           "  -V, --version         the version of this program\n"
+           "\n"
+           "Exit status: 0 all is well; 1 something is refused, differs, is missing or does\n"
+           "not belong there; 2 something could not be checked (the rest was), there was no\n"
+           "figure, the work was stopped, or the command was wrong.\n",
+           refusal_last());
 }
 
 /* A mistake in the command line that has to do with one word of it. */

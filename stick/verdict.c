@@ -24,17 +24,21 @@ static bool in_colour(void) {
            strcmp(terminal, "dumb") != 0;
 }
 
-static const char *word_of(const struct report *report) {
-    return report_status(report) == 0 ? "PASS" : "DO NOT SEAL";
+const char *verdict_word(bool pass) {
+    return pass ? "PASS" : "DO NOT SEAL";
+}
+
+void add_verdict_word(struct text *line, bool pass) {
+    if (in_colour()) {
+        text_format(line, "%s  %s  %s", pass ? GREEN_GROUND : RED_GROUND, verdict_word(pass),
+                    PLAIN);
+    } else {
+        text_add(line, verdict_word(pass));
+    }
 }
 
 static void add_word(struct text *line, const struct report *report) {
-    if (in_colour()) {
-        text_format(line, "%s  %s  %s", report_status(report) == 0 ? GREEN_GROUND : RED_GROUND,
-                    word_of(report), PLAIN);
-    } else {
-        text_add(line, word_of(report));
-    }
+    add_verdict_word(line, report_status(report) == 0);
     text_add(line, report->unfinished ? ": not finished: " : ": ");
 }
 
@@ -128,7 +132,7 @@ static void add_json(struct text *lines, const struct report *sum, double second
         return;
     }
     json_begin(lines);
-    json_string(lines, "verdict", word_of(sum));
+    json_string(lines, "verdict", verdict_word(report_status(sum) == 0));
     json_number(lines, "status", (unsigned long)report_status(sum));
     json_number(lines, "folders", sum->folders);
     json_number(lines, "figures", sum->figures);

@@ -4,6 +4,10 @@
 
 #include "report.h"
 
+/* The word itself, PASS or DO NOT SEAL; as it is added to a line it has its colour. */
+const char *verdict_word(bool pass);
+void add_verdict_word(struct text *line, bool pass);
+
 /* The verdict on one of several folders, as a line of its job. */
 void verdict_of_folder(struct report *report, const char *folder);
 

@@ -89,6 +89,12 @@ ended
 status_is 2
 last 'DO NOT SEAL: not finished: 1 of 2 sticks passed'
 
+try 'for programs'
+stick --json --batch 1 --log "$T/log" "$P"
+status_is 0
+last '\{"verdict":"PASS","sticks":1,"passed":1,"not_finished":0\}'
+lines out 8
+
 try 'the log has a name of the day where none is given'
 cd "$T" || exit 2
 stick --batch 1 "$P"
