@@ -219,6 +219,7 @@ static void say_missing(struct check *check) {
 
 /* What only the whole walk can tell. */
 static void at_end(struct check *check) {
+    struct trouble trouble;
     if (stopped()) {
         check->report->unfinished = true;
     }
@@ -226,7 +227,8 @@ static void at_end(struct check *check) {
         return;
     }
     if (!walk_root_stands(&check->walk, check->root)) {
-        could_not_for_words(check, check->root, "", ""); /* finds the right words itself */
+        trouble_of_stick(&trouble);
+        could_not(check, check->root, &trouble);
         return;
     }
     if (check->figures == 0) {
