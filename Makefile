@@ -6,7 +6,7 @@
 .DEFAULT_GOAL := run
 SHELL := /bin/bash
 .SHELLFLAGS := -o pipefail -c
-.PHONY: prove test rust-test differ fuzz real turned bench c-check asked clean
+.PHONY: prove test rust-test differ fuzz real turned bench bench-build c-check clean
 
 prove:
 	rt check
@@ -14,13 +14,16 @@ prove:
 test:
 	bash tests/gate
 
-# rt knows what has changed, so it is always asked; it says much, of which the proofs are shown
-target/staticlib/libtds.a: asked
+# rt is asked where anything in crates/, or rt itself, is newer than the library (a folder is, once a file has gone from it).
+# It says much, of which the proofs are shown.
+RT := $(shell command -v rt)
+TDS_SOURCES := crates.txt $(shell find crates -name must-fail -prune -o -print)
+target/staticlib/libtds.a: $(TDS_SOURCES) $(RT)
+	$(if $(RT),,$(error The library must be built, and the Rattle kit is not here: install it so that "rt version" answers, then make again))
 	@mkdir -p build
 	@echo 'The library is proved and compiled: a few minutes the first time, then seconds.'
-	@rt staticlib tds 2>&1 | tee build/library.log | grep --line-buffered '^rt: [a-z_]* proved' || { cat build/library.log; exit 1; }
-
-asked:
+	@rt staticlib tds 2>&1 | tee build/library.log | sed -un '/^rt: [a-z_]* proved/p' || { cat build/library.log; exit 1; }
+	@touch -c $@
 
 # ---- the second reader, over the library
 
@@ -48,6 +51,10 @@ turned: differ samples
 
 bench: target/staticlib/libtds.a
 	cargo run $(CARGO_FLAGS) bench/Cargo.toml
+
+# for the gate: it builds, and is not timed
+bench-build: target/staticlib/libtds.a
+	cargo build $(CARGO_FLAGS) bench/Cargo.toml
 
 # ---- the C side: run, c-test, c-memcheck, samples, install
 

@@ -1,8 +1,7 @@
-/* Printing names that come from a stick: one line each, and nothing that a terminal would obey. */
+/* Writing out names from a stick: one line each, and nothing that a terminal would obey or hide. */
 #include "escape.h"
 
 #include <stdbool.h>
-#include <stddef.h>
 #include <stdint.h>
 
 /* How many bytes the character takes that begins with this byte; 0 if none begins so. */
@@ -18,11 +17,24 @@ static size_t bytes_of(unsigned char first) {
 
 static bool readable(uint32_t character) {
     static const uint32_t hidden[][2] = {
-        {0x0000, 0x001F}, /* control characters */
-        {0x007F, 0x009F}, /* more of them */
-        {0x2028, 0x202E}, /* ends of lines, directions of writing */
-        {0x2066, 0x2069}, /* directions of writing */
-        {0xD800, 0xDFFF}, /* no characters */
+        {0x0000, 0x001F},   /* control characters */
+        {0x007F, 0x009F},   /* more of them */
+        {0x00AD, 0x00AD},   /* a hyphen that is not shown */
+        {0x034F, 0x034F},   /* a joiner without width */
+        {0x061C, 0x061C},   /* a direction of writing */
+        {0x115F, 0x1160},   /* letters that are blank */
+        {0x180B, 0x180F},   /* variants, a vowel separator without width */
+        {0x200B, 0x200F},   /* spaces and joiners without width, directions of writing */
+        {0x2028, 0x202E},   /* ends of lines, directions of writing */
+        {0x2060, 0x206F},   /* joiners without width, signs that are not seen, directions */
+        {0x3164, 0x3164},   /* a letter that is blank */
+        {0xD800, 0xDFFF},   /* no characters */
+        {0xFE00, 0xFE0F},   /* variants */
+        {0xFEFF, 0xFEFF},   /* a space without width */
+        {0xFFA0, 0xFFA0},   /* a letter that is blank */
+        {0xFFF0, 0xFFFB},   /* marks around notes */
+        {0x1D173, 0x1D17A}, /* signs of music that are not seen */
+        {0xE0000, 0xE0FFF}, /* tags, variants */
     };
     for (size_t i = 0; i < sizeof hidden / sizeof hidden[0]; i++) {
         if (character >= hidden[i][0] && character <= hidden[i][1]) {
@@ -46,16 +58,16 @@ static size_t character_at(const unsigned char *at) {
     return bytes != 0 && character >= least[bytes] && readable(character) ? bytes : 0;
 }
 
-void print_escaped(FILE *out, const char *name) {
+void text_escaped(struct text *text, const char *name) {
     const unsigned char *at = (const unsigned char *)name;
     while (*at != '\0') {
         size_t bytes = character_at(at);
         if (*at == '\\') {
-            fputs("\\\\", out);
+            text_add(text, "\\\\");
         } else if (bytes == 0) {
-            fprintf(out, "\\x%02X", *at);
+            text_format(text, "\\x%02X", *at);
         } else {
-            fwrite(at, 1, bytes, out);
+            text_add_bytes(text, (const char *)at, bytes);
         }
         at += bytes == 0 ? 1 : bytes;
     }

@@ -7,12 +7,12 @@
 #include "tds.h"
 #include "text.h"
 
-void checker_start(struct checker *checker, struct report *report) {
-    *checker = (struct checker){.report = report, .file = need_memory(NULL, MOST_READ)};
+void checker_start(struct checker *checker) {
+    *checker = (struct checker){.block = need_memory(NULL, MOST_READ)};
 }
 
 void checker_free(struct checker *checker) {
-    free(checker->file);
+    free(checker->block);
     free(checker->records);
 }
 
@@ -41,31 +41,18 @@ static uint64_t list_figure(struct checker *checker, size_t length, size_t count
         checker->records = need_memory(checker->records, count * TDS_RECORD_BYTES);
         checker->records_room = count;
     }
-    answer =
-        tds_list(checker->file, length, checker->records, checker->records_room * TDS_RECORD_BYTES);
+    answer = tds_list(checker->block, length, checker->records,
+                      checker->records_room * TDS_RECORD_BYTES);
     if (!TDS_REFUSED(answer)) {
         *totals = totals_of(checker->records, (size_t)answer);
     }
     return answer;
 }
 
-void check_figure(struct checker *checker, const char *path) {
-    struct totals totals = {0};
-    struct trouble trouble;
-    uint64_t answer;
-    size_t length;
-    report_begin(checker->report);
-    if (!read_figure(path, checker->file, &length, &trouble)) {
-        report_unchecked(checker->report, path, trouble.words);
-        return;
+uint64_t judge_figure(struct checker *checker, size_t length, struct totals *totals) {
+    uint64_t answer = tds_check(checker->block, length);
+    if (!TDS_REFUSED(answer) && totals != NULL) {
+        answer = list_figure(checker, length, (size_t)answer, totals);
     }
-    answer = tds_check(checker->file, length);
-    if (!TDS_REFUSED(answer) && checker->report->list) {
-        answer = list_figure(checker, length, (size_t)answer, &totals);
-    }
-    if (TDS_REFUSED(answer)) {
-        report_refused(checker->report, path, answer);
-    } else {
-        report_accepted(checker->report, path, &totals);
-    }
+    return answer;
 }

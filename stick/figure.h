@@ -1,21 +1,22 @@
-/* The check of one figure. */
+/* The check of one figure in memory. */
 #ifndef STICK_FIGURE_H
 #define STICK_FIGURE_H
+
+#include <stddef.h>
 
 #include "report.h"
 
 /* The memory for checking, used for one figure after another. */
 struct checker {
-    struct report *report;
-    uint8_t *file;
+    uint8_t *block; /* MOST_READ bytes */
     uint8_t *records;
     size_t records_room; /* in records */
 };
 
-void checker_start(struct checker *checker, struct report *report);
+void checker_start(struct checker *checker);
 void checker_free(struct checker *checker);
 
-/* Reads and checks the file at this path, and reports it. */
-void check_figure(struct checker *checker, const char *path);
+/* Judges the figure in the block; if it is good and totals are wanted (not NULL), counts them. */
+uint64_t judge_figure(struct checker *checker, size_t length, struct totals *totals);
 
 #endif

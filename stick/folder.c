@@ -12,7 +12,6 @@
 #include "text.h"
 
 static void add_name(struct folder *folder, const char *name) {
-    size_t size = strlen(name) + 1;
     if (strcmp(name, ".") == 0 || strcmp(name, "..") == 0) {
         return;
     }
@@ -20,7 +19,7 @@ static void add_name(struct folder *folder, const char *name) {
         folder->room = 2 * folder->room + 16;
         folder->names = need_memory(folder->names, folder->room * sizeof *folder->names);
     }
-    folder->names[folder->count] = memcpy(need_memory(NULL, size), name, size);
+    folder->names[folder->count] = need_copy(name);
     folder->count++;
 }
 
@@ -41,8 +40,9 @@ static int read_names(struct folder *folder, DIR *stream) {
     }
 }
 
-int folder_read(struct folder *folder, const char *path) {
-    int file = long_open(path, O_RDONLY | O_DIRECTORY | O_CLOEXEC);
+int folder_read(struct folder *folder, const char *path, bool follow_link) {
+    int follow = follow_link ? 0 : O_NOFOLLOW;
+    int file = long_open(path, O_RDONLY | O_DIRECTORY | O_CLOEXEC | follow);
     DIR *stream = file < 0 ? NULL : fdopendir(file);
     int error = errno;
     *folder = (struct folder){0};

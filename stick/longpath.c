@@ -3,6 +3,8 @@
 
 #include <errno.h>
 #include <fcntl.h>
+#include <stdbool.h>
+#include <stdio.h> /* renameat */
 #include <string.h>
 #include <unistd.h>
 
@@ -10,7 +12,7 @@ enum { PIECE = 1000 }; /* every system takes this much; no single name in a path
 
 static void close_quietly(int folder) {
     int error = errno;
-    if (folder >= 0) {
+    if (folder >= 0) { /* AT_FDCWD is below 0 */
         close(folder);
     }
     errno = error;
@@ -62,24 +64,60 @@ static const char *last_piece(int folder, const char *path) {
     return folder != AT_FDCWD && *path == '\0' ? "." : path;
 }
 
+/* The last piece of a path, and the folder that it is to be looked up in. */
+struct place {
+    int folder;
+    const char *name;
+};
+
+/* Answers whether the place could be found; then it is to be left again. */
+static bool find_place(struct place *place, const char *path) {
+    place->folder = folder_of(&path);
+    place->name = last_piece(place->folder, path);
+    return place->folder != -1;
+}
+
+static int leave_place(struct place *place, int result) {
+    close_quietly(place->folder);
+    return result;
+}
+
 int long_open(const char *path, int flags) {
-    int folder = folder_of(&path);
-    int file;
-    if (folder == -1) {
-        return -1;
-    }
-    file = openat(folder, last_piece(folder, path), flags);
-    close_quietly(folder);
-    return file;
+    struct place at;
+    return find_place(&at, path) ? leave_place(&at, openat(at.folder, at.name, flags)) : -1;
+}
+
+int long_create(const char *path) {
+    const int flags = O_WRONLY | O_CREAT | O_EXCL | O_NOFOLLOW | O_CLOEXEC;
+    struct place at;
+    return find_place(&at, path) ? leave_place(&at, openat(at.folder, at.name, flags, 0666)) : -1;
 }
 
 int long_stat(const char *path, int link, struct stat *status) {
-    int folder = folder_of(&path);
+    const int flags = link ? AT_SYMLINK_NOFOLLOW : 0;
+    struct place at;
+    return find_place(&at, path) ? leave_place(&at, fstatat(at.folder, at.name, status, flags))
+                                 : -1;
+}
+
+int long_mkdir(const char *path) {
+    struct place at;
+    return find_place(&at, path) ? leave_place(&at, mkdirat(at.folder, at.name, 0777)) : -1;
+}
+
+int long_unlink(const char *path) {
+    struct place at;
+    return find_place(&at, path) ? leave_place(&at, unlinkat(at.folder, at.name, 0)) : -1;
+}
+
+int long_rename(const char *from, const char *to) {
+    struct place old, new;
     int result;
-    if (folder == -1) {
+    if (!find_place(&old, from)) {
         return -1;
     }
-    result = fstatat(folder, last_piece(folder, path), status, link ? AT_SYMLINK_NOFOLLOW : 0);
-    close_quietly(folder);
-    return result;
+    result = find_place(&new, to)
+                 ? leave_place(&new, renameat(old.folder, old.name, new.folder, new.name))
+                 : -1;
+    return leave_place(&old, result);
 }

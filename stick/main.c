@@ -3,23 +3,23 @@
 #include <stdio.h>
 #include <string.h>
 
-#include "figure.h"
+#include "batch.h"
 #include "options.h"
 #include "refusals.h"
-#include "walk.h"
+#include "stop.h"
 
-#define VERSION "1.0"
+#define VERSION "2.0"
 
-static int check(const struct options *options) {
-    struct checker checker;
-    struct report report;
-    report_start(&report, options->quiet, options->list);
-    checker_start(&checker, &report);
-    for (char **argument = options->arguments; *argument != NULL; argument++) {
-        walk_argument(&checker, *argument);
+static int work(const struct options *options) {
+    struct session session;
+    int status = session_start(&session, options);
+    if (status == 0) {
+        status = options->batch > 0
+                     ? batch_run(&session, options->arguments[0])
+                     : session_work(&session, options->arguments, options->count, NULL);
     }
-    checker_free(&checker);
-    return report_end(&report);
+    session_end(&session);
+    return status;
 }
 
 /* Ends a task that only prints something. */
@@ -34,10 +34,11 @@ static int printed(void) {
 int main(int argc, char **argv) {
     struct options options = options_read(argc, argv);
     switch (options.task) {
-    case TASK_CHECK:
+    case TASK_WORK:
         setvbuf(stdout, NULL, _IOLBF, BUFSIZ); /* each line is there as soon as it is known, */
         setvbuf(stderr, NULL, _IOLBF, BUFSIZ); /* and is whole */
-        return check(&options);
+        stop_on_signals();
+        return work(&options);
     case TASK_HELP:
         print_help();
         return printed();

@@ -5,65 +5,125 @@
 #include <getopt.h>
 #include <stdio.h>
 #include <stdlib.h>
+#include <sys/stat.h>
 
 #include "escape.h"
+#include "longpath.h"
 #include "refusals.h"
 
+enum { OPTION_JSON = 256, OPTION_AGAINST, OPTION_COPY, OPTION_BATCH, OPTION_LOG };
+
 static const struct option names[] = {
-    {"help", no_argument, NULL, 'h'},          {"version", no_argument, NULL, 'V'},
-    {"quiet", no_argument, NULL, 'q'},         {"list", no_argument, NULL, 'l'},
-    {"explain", required_argument, NULL, 'e'}, {NULL, 0, NULL, 0},
+    {"help", no_argument, NULL, 'h'},
+    {"version", no_argument, NULL, 'V'},
+    {"quiet", no_argument, NULL, 'q'},
+    {"verbose", no_argument, NULL, 'v'},
+    {"list", no_argument, NULL, 'l'},
+    {"explain", required_argument, NULL, 'e'},
+    {"json", no_argument, NULL, OPTION_JSON},
+    {"against", required_argument, NULL, OPTION_AGAINST},
+    {"copy", required_argument, NULL, OPTION_COPY},
+    {"batch", required_argument, NULL, OPTION_BATCH},
+    {"log", required_argument, NULL, OPTION_LOG},
+    {NULL, 0, NULL, 0},
 };
 
 void print_help(void) {
     printf("Usage: stick [OPTION]... FOLDER...\n"
-           "Checks every figure (.3ds) in each FOLDER and in the folders below it, and says in\n"
-           "plain words which are damaged, where, and what to do. A FOLDER may also be one file.\n"
+           "       stick --copy EDITION [OPTION]... FOLDER...\n"
+           "Checks every figure (.3ds) in each FOLDER and below it, and says in plain words\n"
+           "which are damaged, where, and what to do. The last line begins with PASS or\n"
+           "DO NOT SEAL. Several FOLDERs are worked on at once; one may also be a file.\n"
            "\n"
-           "  -l, --list       one line for each good figure too: its meshes, vertices and faces\n"
-           "  -q, --quiet      only the problems: no progress, no last line\n"
-           "  -e, --explain N  explain refusal N (1 to %d) at length, and what to do\n"
-           "  -h, --help       this help\n"
-           "  -V, --version    the version of this program\n"
+           "      --against MASTER  compare every file with the one in the folder MASTER too\n"
+           "      --copy EDITION    first copy what is in EDITION and not in a FOLDER yet,\n"
+           "                        then check and compare; nothing there is changed\n"
+           "      --batch N         N sticks one after another at the same FOLDER\n"
+           "      --log FILE        where the batch is logged (stick-batch-DATE.log)\n"
+           "  -v, --verbose         a line for each good file too\n"
+           "  -l, --list            the meshes, vertices and faces of each good figure\n"
+           "  -q, --quiet           only the problems: no progress, no last line\n"
+           "      --json            one JSON object a line, for programs\n"
+           "  -e, --explain N       explain refusal N (1 to %d, or its name) at length\n"
+           "  -h, --help            this help\n"
+           "  -V, --version         the version of this program\n"
            "\n"
-           "Exit status: 0 all figures are good; 1 some are refused; 2 something could not be\n"
-           "checked (the rest was), there was no figure, or the command was wrong.\n",
+           "Exit status: 0 all is well; 1 something is refused, differs, is missing or does\n"
+           "not belong there; 2 something could not be checked (the rest was), there was no\n"
+           "figure, the work was stopped, or the command was wrong.\n",
            refusal_last());
 }
 
-/* The refusal of a number given in words of the command line, or NULL if there is none. */
-static const struct refusal *refusal_named(const char *words) {
+/* A mistake in the command line that has to do with one word of it. */
+static void mistake(struct options *options, const char *before, const char *word,
+                    const char *behind) {
+    struct text escaped = {0};
+    text_escaped(&escaped, word);
+    fprintf(stderr, "stick: %s%s%s\n", before, escaped.length == 0 ? "''" : escaped.bytes, behind);
+    text_free(&escaped);
+    options->task = TASK_MISTAKE;
+}
+
+/* A number in words of the command line; 0 if it is none. */
+static unsigned long number_of(const char *words) {
     char *end;
-    long number;
+    unsigned long number;
     errno = 0;
-    number = strtol(words, &end, 10);
-    if (errno != 0 || end == words || *end != '\0' || number < 1 || number > refusal_last()) {
-        fprintf(stderr, "stick: there is no refusal ");
-        print_escaped(stderr, words);
-        fprintf(stderr, ": they are numbered 1 to %d\n", refusal_last());
-        return NULL;
+    number = strtoul(words, &end, 10);
+    return errno != 0 || end == words || *end != '\0' || words[0] == '-' ? 0 : number;
+}
+
+static void take_explain(struct options *options, const char *words) {
+    unsigned long number = number_of(words);
+    options->explain = number > 0 && number <= (unsigned long)refusal_last()
+                           ? refusal_of((int)number)
+                           : refusal_named(words);
+    options->task = TASK_EXPLAIN;
+    if (options->explain == NULL) {
+        mistake(options, "there is no refusal ", words, ": the manual page has them all");
+        fprintf(stderr, "They are numbered 1 to %d.\n", refusal_last());
     }
-    return refusal_of((int)number);
+}
+
+static void take_batch(struct options *options, const char *words) {
+    options->batch = number_of(words);
+    if (options->batch == 0) {
+        mistake(options, "how many sticks are ", words, "? For example: --batch 40");
+    }
+}
+
+/* A folder that must be there before anything begins. */
+static void take_folder(struct options *options, const char **folder, const char *path) {
+    struct stat status;
+    *folder = path;
+    if (long_stat(path, 0, &status) != 0 || !S_ISDIR(status.st_mode)) {
+        mistake(options, "there is no folder ", path, "");
+    }
 }
 
 /* Takes one option into account. --help and --version win over what stands behind them. */
 static void take(struct options *options, int option) {
     switch (option) {
     case 'q':
-        options->quiet = true;
+        options->style.quiet = true;
+        break;
+    case 'v':
+        options->style.verbose = true;
         break;
     case 'l':
-        options->list = true;
+        options->style.list = true;
+        break;
+    case OPTION_JSON:
+        options->style.json = true;
+        break;
+    case OPTION_LOG:
+        options->log = optarg;
         break;
     case 'h':
         options->task = TASK_HELP;
         break;
     case 'V':
         options->task = TASK_VERSION;
-        break;
-    case 'e':
-        options->explain = refusal_named(optarg);
-        options->task = options->explain == NULL ? TASK_MISTAKE : TASK_EXPLAIN;
         break;
     default: /* getopt_long has said what is wrong */
         fprintf(stderr, "Try 'stick --help'.\n");
@@ -72,20 +132,53 @@ static void take(struct options *options, int option) {
     }
 }
 
+/* The options that have a word behind them which can be wrong. */
+static void take_with_word(struct options *options, int option) {
+    switch (option) {
+    case 'e':
+        take_explain(options, optarg);
+        break;
+    case OPTION_AGAINST:
+        take_folder(options, &options->against, optarg);
+        break;
+    case OPTION_COPY:
+        take_folder(options, &options->edition, optarg);
+        break;
+    case OPTION_BATCH:
+        take_batch(options, optarg);
+        break;
+    default:
+        take(options, option);
+        break;
+    }
+}
+
+/* What only the whole command line can tell. */
+static void judge(struct options *options) {
+    if (options->count == 0) {
+        fprintf(stderr, "stick: which folder is to be checked? For example: stick /media/stick\n"
+                        "Try 'stick --help'.\n");
+        options->task = TASK_MISTAKE;
+    } else if (options->against != NULL && options->edition != NULL) {
+        mistake(options, "--copy compares with the edition already: leave ", "--against", " away");
+    } else if (options->batch > 0 && options->count > 1) {
+        mistake(options, "a batch has one folder: leave ", options->arguments[1], " away");
+    }
+}
+
 struct options options_read(int argc, char **argv) {
-    struct options options = {.task = TASK_CHECK};
-    while (options.task == TASK_CHECK) {
-        int option = getopt_long(argc, argv, "hVqle:", names, NULL);
+    struct options options = {.task = TASK_WORK};
+    while (options.task == TASK_WORK) {
+        int option = getopt_long(argc, argv, "hVqvle:", names, NULL);
         if (option == -1) {
             break;
         }
-        take(&options, option);
+        take_with_word(&options, option);
     }
     options.arguments = argv + optind;
-    if (options.task == TASK_CHECK && optind == argc) {
-        fprintf(stderr, "stick: which folder is to be checked? For example: stick /media/stick\n"
-                        "Try 'stick --help'.\n");
-        options.task = TASK_MISTAKE;
+    options.count = (size_t)(argc - optind);
+    if (options.task == TASK_WORK) {
+        judge(&options);
     }
     return options;
 }

@@ -3,17 +3,24 @@
 #define STICK_OPTIONS_H
 
 #include <stdbool.h>
+#include <stddef.h>
+
+#include "report.h"
 
 struct refusal;
 
-enum task { TASK_CHECK, TASK_HELP, TASK_VERSION, TASK_EXPLAIN, TASK_MISTAKE };
+enum task { TASK_WORK, TASK_HELP, TASK_VERSION, TASK_EXPLAIN, TASK_MISTAKE };
 
 struct options {
     enum task task;
-    bool quiet;
-    bool list;
+    struct style style;
+    const char *against;           /* the master to compare with, or NULL */
+    const char *edition;           /* what is to be copied first, or NULL */
+    unsigned long batch;           /* how many sticks one after another; 0 without --batch */
+    const char *log;               /* of the batch, or NULL for the usual name */
     const struct refusal *explain; /* for TASK_EXPLAIN */
-    char **arguments;              /* folders and files, ended by NULL */
+    char **arguments;              /* folders and files */
+    size_t count;
 };
 
 /* Reads the command line. A mistake in it has been said when this answers TASK_MISTAKE. */

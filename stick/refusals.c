@@ -2,6 +2,7 @@
 #include "refusals.h"
 
 #include <stddef.h>
+#include <strings.h>
 
 #include "tds.h"
 
@@ -27,9 +28,7 @@ static const struct refusal table[] = {
      "A figure begins with the bytes 4D 4D and has at least 6 bytes. This file is\n"
      "empty, cut off, overwritten, or something else that was given the name of a\n"
      "figure. The place is always byte 0.\n",
-     AGAIN,
-     ADVICE "Files whose names begin with ._ are left behind by some computers when they\n"
-            "copy; they are no figures and can be deleted from the stick.\n"},
+     AGAIN, ADVICE},
     {TDS_TRAILING, "TRAILING", "bytes are left over behind the end of the figure",
      "The figure says at its start how long it is, and the file goes on behind\n"
      "that. Either the length was damaged or something was added to the file. The\n"
@@ -114,6 +113,15 @@ int refusal_last(void) {
 
 const struct refusal *refusal_of(int number) {
     return number >= 1 && number <= refusal_last() ? &table[number - 1] : NULL;
+}
+
+const struct refusal *refusal_named(const char *name) {
+    for (size_t i = 0; i < sizeof table / sizeof table[0]; i++) {
+        if (strcasecmp(table[i].name, name) == 0) {
+            return &table[i];
+        }
+    }
+    return NULL;
 }
 
 void refusal_explain(FILE *out, const struct refusal *refusal) {

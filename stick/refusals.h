@@ -16,6 +16,9 @@ struct refusal {
 /* The refusal of this number, or NULL if there is none. */
 const struct refusal *refusal_of(int number);
 
+/* The refusal of this name, in letters of either case, or NULL if there is none. */
+const struct refusal *refusal_named(const char *name);
+
 /* The highest number of a refusal; all numbers from 1 up to it are there. */
 int refusal_last(void);
 

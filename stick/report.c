@@ -1,91 +1,182 @@
 /*
- * What is printed about the check. What was found goes to standard output; what could not be
- * checked goes to standard error, and each such line makes the exit status 2.
+ * What is found on one stick. What was found goes to standard output; what could not be checked
+ * goes to standard error (in JSON, all of it to standard output).
  */
 #include "report.h"
 
-#include <errno.h>
-#include <stdio.h>
-#include <string.h>
+#include <stdlib.h>
 
 #include "escape.h"
+#include "json.h"
 #include "refusals.h"
 #include "tds.h"
 
-void report_start(struct report *report, bool quiet, bool list) {
-    *report = (struct report){.quiet = quiet, .list = list};
-    progress_start(&report->progress, quiet);
-    clock_gettime(CLOCK_MONOTONIC, &report->start);
+/* What each outcome is called in a line. */
+static const char *const labels[OUTCOMES] = {
+    "OK",         "refused", "differs", "missing", "not expected", "left by another computer",
+    "not checked"};
+
+void report_start(struct report *report, const struct style *style, struct screen *screen,
+                  size_t job) {
+    *report = (struct report){.style = style, .screen = screen, .job = job, .folders = 1};
 }
 
-void report_begin(struct report *report) {
-    progress_show(&report->progress, report->figures + 1, report->refused);
+void report_free(struct report *report) {
+    names_free(&report->near);
+    names_free(&report->unknown);
 }
 
-static void print_count(unsigned long count, const char *one, const char *many) {
-    printf("%lu %s", count, count == 1 ? one : many);
+static const char *label_of(const struct finding *finding) {
+    return finding->label == NULL ? labels[finding->outcome] : finding->label;
 }
 
-void report_accepted(struct report *report, const char *path, const struct totals *totals) {
-    report->figures++;
-    if (!report->list) {
+static void add_count(struct text *line, unsigned long count, const char *one, const char *many) {
+    text_format(line, "%lu %s", count, count == 1 ? one : many);
+}
+
+static void add_totals(struct text *line, const struct totals *totals) {
+    text_add(line, ": accepted: ");
+    add_count(line, totals->meshes, "mesh", "meshes");
+    text_add(line, ", ");
+    add_count(line, totals->vertices, "vertex", "vertices");
+    text_add(line, ", ");
+    add_count(line, totals->faces, "face", "faces");
+}
+
+static void add_refusal(struct text *line, uint64_t answer) {
+    const struct refusal *refusal = refusal_of(TDS_REFUSAL(answer));
+    text_add(line, ": refused: ");
+    if (refusal != NULL) {
+        text_format(line, "%s (%d): %s", refusal->name, refusal->number, refusal->sentence);
+    } else {
+        text_format(line, "%d", TDS_REFUSAL(answer));
+    }
+    text_format(line, ", at byte %lu", (unsigned long)TDS_PLACE(answer));
+}
+
+static void add_words(struct text *line, const struct finding *finding) {
+    if (finding->totals != NULL) {
+        add_totals(line, finding->totals);
+    } else if (finding->answer != 0) {
+        add_refusal(line, finding->answer);
+    } else {
+        text_format(line, ": %s", finding->words == NULL ? label_of(finding) : finding->words);
+    }
+    if (finding->remedy != NULL) {
+        text_format(line, ": %s", finding->remedy);
+    }
+    if (finding->detail != NULL && finding->detail[0] != '\0') {
+        text_format(line, " (%s)", finding->detail);
+    }
+    text_add(line, "\n");
+}
+
+static void say_plainly(struct report *report, const struct finding *finding) {
+    bool unchecked = finding->outcome == FOUND_UNCHECKED;
+    struct text line = {0};
+    text_add(&line, unchecked ? "stick: " : "");
+    text_escaped(&line, finding->path);
+    if (unchecked) {
+        text_format(&line, ": %s", label_of(finding));
+    }
+    add_words(&line, finding);
+    screen_line(report->screen, report->job, unchecked ? TO_ERROR : TO_OUTPUT, line.bytes);
+    text_free(&line);
+}
+
+static void say_as_json(struct report *report, const struct finding *finding) {
+    const struct refusal *refusal = refusal_of(TDS_REFUSAL(finding->answer));
+    struct text line = {0};
+    json_begin(&line);
+    json_path(&line, "path", finding->path);
+    json_string(&line, "result", label_of(finding));
+    if (finding->answer != 0) {
+        json_number(&line, "refusal", (unsigned long)TDS_REFUSAL(finding->answer));
+        json_string(&line, "name", refusal == NULL ? NULL : refusal->name);
+        json_number(&line, "place", TDS_PLACE(finding->answer));
+    }
+    json_string(&line, "words", refusal == NULL ? finding->words : refusal->sentence);
+    json_string(&line, "remedy", finding->remedy);
+    json_string(&line, "detail", finding->detail);
+    if (finding->totals != NULL) {
+        json_number(&line, "meshes", finding->totals->meshes);
+        json_number(&line, "vertices", finding->totals->vertices);
+        json_number(&line, "faces", finding->totals->faces);
+    }
+    json_end(&line);
+    screen_line(report->screen, report->job, TO_OUTPUT, line.bytes);
+    text_free(&line);
+}
+
+/* Good files have a line only where one is asked for. */
+static bool is_said(const struct report *report, const struct finding *finding) {
+    const struct style *style = report->style;
+    return finding->outcome != FOUND_OK || finding->totals != NULL || style->verbose ||
+           (style->json && !style->quiet);
+}
+
+void report_add(struct report *report, const struct finding *finding) {
+    report->count[finding->outcome]++;
+    if (!is_said(report, finding)) {
         return;
     }
-    progress_clear(&report->progress);
-    print_escaped(stdout, path);
-    printf(": accepted: ");
-    print_count(totals->meshes, "mesh", "meshes");
-    printf(", ");
-    print_count(totals->vertices, "vertex", "vertices");
-    printf(", ");
-    print_count(totals->faces, "face", "faces");
-    printf("\n");
-}
-
-void report_refused(struct report *report, const char *path, uint64_t answer) {
-    const struct refusal *refusal = refusal_of(TDS_REFUSAL(answer));
-    unsigned long place = TDS_PLACE(answer);
-    report->figures++;
-    report->refused++;
-    progress_clear(&report->progress);
-    print_escaped(stdout, path);
-    if (refusal == NULL) {
-        printf(": refused: %d, at byte %lu\n", TDS_REFUSAL(answer), place);
+    if (report->style->json) {
+        say_as_json(report, finding);
     } else {
-        printf(": refused: %s (%d): %s, at byte %lu: %s\n", refusal->name, refusal->number,
-               refusal->sentence, place, refusal->remedy);
+        say_plainly(report, finding);
     }
 }
 
-void report_unchecked(struct report *report, const char *path, const char *why) {
-    report->unchecked++;
-    progress_clear(&report->progress);
-    fflush(stdout);
-    fprintf(stderr, "stick: ");
-    print_escaped(stderr, path);
-    fprintf(stderr, ": not checked: %s\n", why);
+void report_trouble(struct report *report, const char *path, const char *label,
+                    const struct trouble *trouble) {
+    struct finding finding = {.outcome = FOUND_UNCHECKED,
+                              .path = path,
+                              .label = label,
+                              .words = trouble->words,
+                              .remedy = trouble->remedy,
+                              .detail = trouble->detail};
+    report_add(report, &finding);
 }
 
-static void last_line(const struct report *report) {
-    struct timespec now;
-    clock_gettime(CLOCK_MONOTONIC, &now);
-    print_count(report->figures, "figure", "figures");
-    printf(" checked, %lu refused, ", report->refused);
-    if (report->unchecked > 0) {
-        printf("%lu could not be checked, ", report->unchecked);
+void report_near(struct report *report, const char *path) {
+    struct finding finding = {.outcome = FOUND_UNCHECKED,
+                              .path = path,
+                              .words = "it is almost named as a figure",
+                              .remedy = NEAR_REMEDY};
+    names_add(&report->near, path, report->style->verbose);
+    if (report->style->json) {
+        say_as_json(report, &finding);
     }
-    printf("in %.1f seconds: %s\n", seconds_between(&report->start, &now),
-           report->refused + report->unchecked == 0 ? "all is well" : "NOT well, see above");
 }
 
-int report_end(struct report *report) {
-    progress_clear(&report->progress);
-    if (!report->quiet) {
-        last_line(report);
+void report_unknown(struct report *report, const char *path) {
+    struct finding finding = {
+        .outcome = FOUND_UNCHECKED, .path = path, .words = "of no known kind"};
+    names_add(&report->unknown, path, report->style->verbose);
+    if (report->style->json && !report->style->quiet) {
+        say_as_json(report, &finding);
     }
-    if (fflush(stdout) != 0 || ferror(stdout)) {
-        fprintf(stderr, "stick: what was found could not be written: %s\n", strerror(errno));
+}
+
+void report_join(struct report *sum, const struct report *report) {
+    for (int i = 0; i < OUTCOMES; i++) {
+        sum->count[i] += report->count[i];
+    }
+    sum->figures += report->figures;
+    sum->folders += report->folders;
+    sum->bare += report->bare;
+    sum->from_memory = sum->from_memory || report->from_memory;
+    sum->unfinished = sum->unfinished || report->unfinished;
+    names_join(&sum->near, &report->near);
+    names_join(&sum->unknown, &report->unknown);
+}
+
+int report_status(const struct report *report) {
+    unsigned long wrong = report->count[FOUND_REFUSED] + report->count[FOUND_DIFFERENT] +
+                          report->count[FOUND_MISSING] + report->count[FOUND_EXTRA] +
+                          report->count[FOUND_LEFT_BEHIND];
+    if (report->count[FOUND_UNCHECKED] > 0 || report->near.count > 0 || report->unfinished) {
         return 2;
     }
-    return report->unchecked > 0 ? 2 : report->refused > 0 ? 1 : 0;
+    return wrong > 0 ? 1 : 0;
 }

@@ -1,12 +1,35 @@
-/* What is printed about the check: one line a problem, and one line at the end. */
+/* What is found on one stick: a line for each problem, and the counts for the last line. */
 #ifndef STICK_REPORT_H
 #define STICK_REPORT_H
 
 #include <stdbool.h>
 #include <stdint.h>
-#include <time.h>
 
-#include "progress.h"
+#include "names.h"
+#include "screen.h"
+#include "trouble.h"
+
+/* What to do about a file that is almost named as a figure. */
+#define NEAR_REMEDY "copy the figure again, and delete this"
+
+/* How much is said, and in which form. */
+struct style {
+    bool quiet;   /* problems only */
+    bool list;    /* what is in each good figure */
+    bool verbose; /* a line for each good file too */
+    bool json;    /* one object a line, for programs */
+};
+
+enum outcome {
+    FOUND_OK,
+    FOUND_REFUSED,
+    FOUND_DIFFERENT, /* from the slip or the master */
+    FOUND_MISSING,   /* on the slip or in the master, and not here */
+    FOUND_EXTRA,     /* here, and not on the slip or in the master */
+    FOUND_LEFT_BEHIND,
+    FOUND_UNCHECKED,
+    OUTCOMES
+};
 
 /* What --list says of an accepted figure. */
 struct totals {
@@ -15,31 +38,51 @@ struct totals {
     unsigned long faces;
 };
 
-struct report {
-    bool quiet;
-    bool list;
-    unsigned long figures;   /* accepted or refused */
-    unsigned long refused;   /* those of them that were refused */
-    unsigned long unchecked; /* lines about what could not be checked */
-    struct progress progress;
-    struct timespec start;
+/* What was found out about one file or folder. */
+struct finding {
+    enum outcome outcome;
+    const char *path;
+    const char *label; /* what is said in place of "not checked", or NULL */
+    const char *words; /* what is wrong */
+    const char *remedy;
+    const char *detail;          /* the system's own words, or NULL */
+    uint64_t answer;             /* the reader's refusal, or 0 */
+    const struct totals *totals; /* of a good figure that is to be listed, or NULL */
 };
 
-void report_start(struct report *report, bool quiet, bool list);
+struct report {
+    const struct style *style;
+    struct screen *screen;
+    size_t job;
+    unsigned long count[OUTCOMES];
+    unsigned long figures; /* those that the reader accepted or refused */
+    struct names near;     /* files that are almost named as figures */
+    struct names unknown;  /* files of no known kind that nothing was said about */
+    unsigned long folders; /* 1; the sum of several reports has more */
+    unsigned long bare;    /* folders with nothing to compare with: structure only */
+    bool from_memory;      /* some file could not be read from the stick itself */
+    bool unfinished;
+};
 
-/* The check of one more figure begins. */
-void report_begin(struct report *report);
+void report_start(struct report *report, const struct style *style, struct screen *screen,
+                  size_t job);
+void report_free(struct report *report);
 
-/* A figure was accepted; a line only with --list. */
-void report_accepted(struct report *report, const char *path, const struct totals *totals);
+/* Counts a finding and says it, where it is to be said. */
+void report_add(struct report *report, const struct finding *finding);
 
-/* A figure was refused with this answer of the reader. */
-void report_refused(struct report *report, const char *path, uint64_t answer);
+/* Something was "not checked" or "not copied", and why. */
+void report_trouble(struct report *report, const char *path, const char *label,
+                    const struct trouble *trouble);
 
-/* Something could not be checked, and why. */
-void report_unchecked(struct report *report, const char *path, const char *why);
+/* A file that is almost named as a figure, or of no known kind: named in the last lines. */
+void report_near(struct report *report, const char *path);
+void report_unknown(struct report *report, const char *path);
 
-/* The last line. Answers the exit status: 0 all accepted, 1 some refused, 2 some not checked. */
-int report_end(struct report *report);
+/* Adds what is in one report to another. */
+void report_join(struct report *sum, const struct report *report);
+
+/* 0 all is well; 1 something is wrong; 2 something could not be checked. */
+int report_status(const struct report *report);
 
 #endif

@@ -4,12 +4,14 @@
  *     on_terminal both|error FILE COMMAND...
  *
  * both: standard output and error are the terminal; error: only standard error is. What the
- * terminal was sent goes to FILE, byte for byte. The exit status is the command's.
+ * terminal was sent goes to FILE, byte for byte. It has $WIDTH columns and $HEIGHT lines, where
+ * those are set. The exit status is the command's.
  */
 #include <fcntl.h>
 #include <stdio.h>
 #include <stdlib.h>
 #include <string.h>
+#include <sys/ioctl.h>
 #include <sys/wait.h>
 #include <termios.h>
 #include <unistd.h>
@@ -19,9 +21,16 @@ static _Noreturn void give_up(const char *what) {
     exit(125);
 }
 
+static unsigned short number_in(const char *name) {
+    const char *words = getenv(name);
+    return (unsigned short)(words == NULL ? 0 : atoi(words));
+}
+
 /* Becomes the command, with the terminal in place. */
 static void become(char **command, int terminal, int output_too) {
+    struct winsize size = {.ws_col = number_in("WIDTH"), .ws_row = number_in("HEIGHT")};
     struct termios settings;
+    ioctl(terminal, TIOCSWINSZ, &size);
     if (tcgetattr(terminal, &settings) != 0) {
         give_up("on_terminal: tcgetattr");
     }

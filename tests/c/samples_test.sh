@@ -33,7 +33,7 @@ while read -r file number place; do
     name=$(echo "$file" | sed 's/-.*//' | tr '[:lower:]' '[:upper:]')
     matches out "samples/damaged/$file: refused: $name.* \($number\): .*, at byte $place: .*"
 done <samples/damaged/expected.txt
-lines out $(($(wc -l <samples/damaged/expected.txt) + 1))
+lines out $(($(wc -l <samples/damaged/expected.txt) + 2))
 
 try 'the one that is too long'
 run "$BUILD/make_samples" --too-long "$T/too-long.3ds"

@@ -1,41 +1,14 @@
 #!/bin/sh
 # The bench tool, behaviour by behaviour. Needs no privileges, and is not made hollow by having them.
-# shellcheck source=tests/c/common.sh
-. tests/c/common.sh
-S=$BUILD/stick
-seconds='in [0-9]+\.[0-9] seconds'
-
-# stick ARGUMENTS...
-stick() {
-    run "$S" "$@"
-}
-
-# well FIGURES and unwell FIGURES REFUSED UNCHECKED: the last line.
-well() {
-    if [ "$1" -eq 1 ]; then noun=figure; else noun=figures; fi
-    last "$1 $noun checked, 0 refused, $seconds: all is well"
-}
-unwell() {
-    if [ "$1" -eq 1 ]; then noun=figure; else noun=figures; fi
-    if [ "$3" -eq 0 ]; then more=; else more="$3 could not be checked, "; fi
-    last "$1 $noun checked, $2 refused, $more$seconds: NOT well, see above"
-}
-last() {
-    if tail -n 1 "$T/out" | grep -qxE -e "$1"; then pass; else fail "the last line is not: $1"; fi
-}
-
-# folder NAME: a new empty folder, in $F.
-folder() {
-    F=$T/$1
-    mkdir "$F"
-}
+# shellcheck source=tests/c/stick_common.sh
+. tests/c/stick_common.sh
 
 # --- what is found, and what is said about it
 
 try 'a good edition'
 stick samples/edition
 status_is 0
-well 6
+passes 6
 lines out 1
 lines err 0
 
@@ -44,23 +17,79 @@ stick samples/damaged/overrun-length-bit-turned.3ds
 status_is 1
 P=$(sed -n 's/^overrun-length-bit-turned.3ds 5 //p' samples/damaged/expected.txt)
 matches out "samples/damaged/overrun-length-bit-turned.3ds: refused: OVERRUN \(5\): a length runs past the end of the chunk around it, at byte $P: copy this figure again"
-unwell 1 1 0
+unsealed 1 1 0
 lines out 2
 lines err 0
 
 try 'several folders'
 stick samples/edition samples/damaged
 status_is 1
-unwell 24 18 0
+unsealed 24 18 0
 
 try 'endings of any case, in folders below, and no others'
 folder case
 mkdir -p "$F/deep/er"
 for name in a.3ds B.3DS c.3Ds deep/d.3dS deep/er/e.3ds .3ds; do triangle >"$F/$name"; done
-for name in f.txt g3ds h.3ds.bak i.3d; do echo 'no figure' >"$F/$name"; done
+for name in f.txt g3ds i.3d; do echo 'no figure' >"$F/$name"; done
 stick "$F"
 status_is 0
-well 6
+passes 6
+matches out "not looked at: 3 files of no known kind: $F/f.txt, $F/g3ds, $F/i.3d"
+has out '; 3 of no known kind not looked at'
+lines out 2
+
+try 'many files of no known kind are not all named, but with --verbose'
+folder unknown
+triangle >"$F/t.3ds"
+for name in a b c d e f g h i j; do echo 'no figure' >"$F/$name.txt"; done
+stick "$F"
+status_is 0
+matches out "not looked at: 10 files of no known kind: $F/a.txt, .*, $F/h.txt and 2 more"
+stick --verbose "$F"
+matches out "not looked at: 10 files of no known kind: $F/a.txt, .*, $F/i.txt, $F/j.txt"
+
+try 'files that are almost named as figures are counted and named in the last lines'
+folder near
+triangle >"$F/t.3ds"
+for name in a.3ds.part b.3ds~ 'c.3ds ' d.3DS.bak; do triangle >"$F/$name"; done
+stick "$F"
+status_is 2
+matches out "not checked: 4 files almost named as a figure: $F/a.3ds.part, $F/b.3ds~, $F/c.3ds , $F/d.3DS.bak: copy the figure again, and delete this"
+unsealed 1 0 4
+lines err 0
+stick --quiet "$F"
+status_is 2
+lines out 1
+
+try 'figures of kinds that have no reader yet'
+folder kinds
+triangle >"$F/t.3ds"
+echo Caligari >"$F/a.cob"
+echo FORM >"$F/b.C4D"
+stick "$F"
+status_is 2
+matches err "stick: $F/a.cob: not checked: there is no reader for this kind of figure yet: compare it with the master \(--against\)"
+has err "$F/b.C4D: not checked: there is no reader for this kind of figure yet"
+unsealed 1 0 2
+
+try 'what another computer left is to be deleted, and is not taken for a figure'
+folder left
+triangle >"$F/adze.3ds"
+echo AppleDouble >"$F/._adze.3ds"
+echo '{' >"$F/Thumbs.db"
+echo '{' >"$F/.DS_Store"
+mkdir "$F/.Trashes" "$F/System Volume Information"
+echo bad >"$F/.Trashes/gone.3ds"
+stick "$F"
+status_is 1
+matches out "$F/\._adze.3ds: left by another computer: delete it"
+matches out "$F/Thumbs.db: left by another computer: delete it"
+matches out "$F/\.DS_Store: left by another computer: delete it"
+matches out "$F/\.Trashes: left by another computer: delete it"
+matches out "$F/System Volume Information: left by another computer: delete it"
+lines out 6
+lines err 0
+last "DO NOT SEAL: 1 figure checked, 0 refused, 5 left by another computer, $seconds: see above; structure only: no slip on this stick"
 
 try 'the order is that of the names'
 folder order
@@ -74,18 +103,17 @@ try 'a file as argument, whatever its name'
 triangle >"$T/no-ending"
 stick "$T/no-ending"
 status_is 0
-well 1
+passes 1
 
 try 'a name that begins with a dash'
 folder dash
 triangle >"$F/-x.3ds"
 (cd "$F" && mkdir -- -d && cp ./-x.3ds ./-d)
-S_FULL=$(cd "$(dirname "$S")" && pwd)/$(basename "$S")
 cd "$F" || exit 2
-run "$S_FULL" -- -d -x.3ds
+stick -- -d -x.3ds
 cd "$OLDPWD" || exit 2
 status_is 0
-well 2
+passes 2
 
 # --- length
 
@@ -94,7 +122,7 @@ try 'the longest figure there may be'
 { printf 'MM\0\0\020\0==\006\0\0\0\043\201\364\377\017\0' && head -c 1048558 /dev/zero; } >"$T/longest.3ds"
 stick "$T/longest.3ds"
 status_is 0
-well 1
+passes 1
 
 try 'one byte more'
 { printf 'MM\001\0\020\0==\006\0\0\0\043\201\365\377\017\0' && head -c 1048559 /dev/zero; } >"$T/over.3ds"
@@ -105,14 +133,7 @@ has out 'over.3ds: refused: TOO LONG (1): the file is longer than a figure may b
 try 'a huge file is read no further than needed'
 triangle >"$T/huge.3ds"
 truncate -s 20G "$T/huge.3ds"
-# (Leaks cannot be looked for in a program that is traced.)
-# shellcheck disable=SC2086
-ASAN_OPTIONS=detect_leaks=0 "$BUILD/c-test/traced" count "$T/bytes" "$T/huge.3ds" $RUN "$S" "$T/huge.3ds" \
-    >"$T/out" 2>"$T/err"
-status=$?
-if [ "$status" -eq 125 ]; then
-    skip "$(cat "$T/err")"
-else
+if traced count "$T/bytes" "$T/huge.3ds" "$T/huge.3ds"; then
     status_is 1
     has out 'huge.3ds: refused: TOO LONG (1)'
     if [ "$(cat "$T/bytes")" -le 1048577 ]; then pass; else fail "read $(cat "$T/bytes") bytes"; fi
@@ -136,32 +157,32 @@ lines out 0
 try 'a missing folder, and the rest is checked'
 stick "$T/nowhere" samples/edition
 status_is 2
-matches err "stick: $T/nowhere: not checked: there is no such file or folder \(No such file or directory\)"
+matches err "stick: $T/nowhere: not checked: there is no such file or folder: see that the stick is in, and the name right \(No such file or directory\)"
 lines err 1
-unwell 6 0 1
+unsealed 6 0 1
 
 try 'an empty name'
 stick ''
 status_is 2
-has err 'stick: : not checked: there is no such file or folder'
+matches err "stick: '': not checked: the name is empty: give a folder, for example /media/stick"
 
 try 'status 2 wins over 1'
 stick "$T/nowhere" samples/damaged
 status_is 2
-unwell 18 18 1
+unsealed 18 18 1
 
 try 'a folder with no figure in it'
 folder none
 stick "$F"
 status_is 2
-matches err "stick: $F: not checked: there is no figure \(\.3ds\) in this folder"
+matches err "stick: $F: not checked: there is no figure \(\.3ds\) in this folder: see that it is the right folder, and that the edition was copied"
 mkdir "$F/below"
 echo text >"$F/below/notes.txt"
 stick "$F" samples/edition
 status_is 2
-matches err "stick: $F: not checked: there is no figure \(\.3ds\) in this folder"
+matches err "stick: $F: not checked: there is no figure \(\.3ds\) in this folder: see that it is the right folder, and that the edition was copied"
 lines err 1
-unwell 6 0 1
+unsealed 6 0 1
 
 try 'a folder named as a figure'
 folder named
@@ -170,81 +191,117 @@ triangle >"$F/x.3ds/inside.3ds"
 triangle >"$F/y.3ds"
 stick "$F"
 status_is 2
-has err "$F/x.3ds: not checked: it is a folder, though it is named as a figure"
+matches err "stick: $F/x.3ds: not checked: it is a folder, though it is named as a figure \(what is in it is checked\): give the folder another name"
 lines err 1
-unwell 2 0 1
+unsealed 2 0 1
 
-try 'links to a figure and to a folder are followed'
+try 'links are said and not followed: neither to a figure nor to a folder'
 folder links
 mkdir "$T/elsewhere"
 triangle >"$T/elsewhere/t.3ds"
+triangle >"$F/here.3ds"
 ln -s "$T/elsewhere/t.3ds" "$F/one.3ds"
 ln -s "$T/elsewhere" "$F/two"
+ln -s /proc "$F/three"
 stick "$F"
-status_is 0
-well 2
+status_is 2
+for name in one.3ds two three; do
+    matches err "stick: $F/$name: not checked: it is a link, and links are not followed: put the file itself there"
+done
+lines err 3
+unsealed 1 0 3
 
-try 'links that lead nowhere'
-folder nowhere_links
+try 'a folder whose only figure is a link'
+folder only
+ln -s "$T/elsewhere/t.3ds" "$F/one.3ds"
+stick "$F"
+status_is 2
+lines err 1
+unsealed 0 0 1
+
+try 'links that lead nowhere, to themselves and back'
+folder loops
 triangle >"$F/t.3ds"
 ln -s missing "$F/lost.3ds"
-ln -s missing "$F/lost"
-stick "$F"
-status_is 2
-has err "$F/lost.3ds: not checked: it is a link that leads nowhere"
-has err "$F/lost: not checked: it is a link that leads nowhere"
-lines err 2
-unwell 1 0 2
-
-try 'a link to itself'
-folder self
-triangle >"$F/t.3ds"
 ln -s loop.3ds "$F/loop.3ds"
-ln -s ring-b "$F/ring-a"
-ln -s ring-a "$F/ring-b"
+ln -s . "$F/back"
 stick "$F"
 status_is 2
-has err "$F/loop.3ds: not checked: it is a link that leads back to itself"
-has err "$F/ring-a: not checked: it is a link that leads back to itself"
-unwell 1 0 3
+for name in lost.3ds loop.3ds back; do has err "$F/$name: not checked: it is a link"; done
+lines err 3
+unsealed 1 0 3
 
-try 'a link to a folder around it'
-folder around
-mkdir -p "$F/in/deeper"
-triangle >"$F/in/t.3ds"
-ln -s ../.. "$F/in/deeper/back"
-ln -s . "$F/in/here"
-stick "$F"
-status_is 2
-has err "$F/in/deeper/back: not checked: it is a link that leads back to a folder around it"
-has err "$F/in/here: not checked: it is a link that leads back to a folder around it"
-lines err 2
-unwell 1 0 2
-
-try 'two folders that link to each other'
-folder mutual
-mkdir "$F/a" "$F/b"
-triangle >"$F/a/t.3ds"
-ln -s ../b "$F/a/to-b"
-ln -s ../a "$F/b/to-a"
-stick "$F"
-status_is 2
-has err "$F/a/to-b/to-a: not checked: it is a link that leads back to a folder around it"
-has err "$F/b/to-a/to-b: not checked: it is a link that leads back to a folder around it"
-unwell 2 0 2
-
-# Permissions do not keep a privileged user from reading anything. Reading a process's own memory
-# at address 0 does: the file can be opened, and read() fails with EIO for everybody, as on a bad
-# stick.
-try 'a file that cannot be read'
-folder unreadable
+try 'levels of two links each check no file twice'
+folder levels
 triangle >"$F/t.3ds"
-ln -s /proc/self/mem "$F/bad.3ds"
+at=$F
+for _ in 1 2 3 4 5 6 7 8 9 10 11 12 13 14 15 16 17 18; do
+    mkdir "$at/next"
+    ln -s next "$at/one"
+    ln -s next "$at/two"
+    at=$at/next
+done
+triangle >"$at/deep.3ds"
 stick "$F"
 status_is 2
-has err "$F/bad.3ds: not checked: the stick or disk cannot be read there (Input/output error)"
+unsealed 2 0 36
+
+try 'a link named on the command line: to a folder it is followed, to a file it is not'
+ln -s "$T/elsewhere" "$T/to-folder"
+ln -s "$T/elsewhere/t.3ds" "$T/to-file.3ds"
+stick "$T/to-folder"
+status_is 0
+passes 1
+stick "$T/to-file.3ds"
+status_is 2
+has err "$T/to-file.3ds: not checked: it is a link"
+
+# Reading a process's own memory at address 0 fails with EIO for everybody, as on a bad stick.
+try 'a file that cannot be read'
+stick /proc/self/mem samples/edition
+status_is 2
+matches err 'stick: /proc/self/mem: not checked: the stick stopped answering: warm it in the hand, plug it in again \(Input/output error\)'
 lines err 1
-unwell 1 0 1
+unsealed 6 0 1
+
+try 'a stick that drops out while it is read'
+for error in $EIO $ENODEV; do
+    faulty "read:$error:edition/chisel" samples/edition
+    status_is 2
+    has err 'samples/edition/chisel.3ds: not checked: the stick stopped answering: warm it in the hand, plug it in again'
+    lines err 1
+    unsealed 5 0 1
+done
+try 'nothing more is tried on a stick that stays away'
+faulty "read:$EIO:edition/:2" samples/edition
+status_is 2
+lines err 3
+has err 'samples/edition/chisel.3ds: not checked: the stick stopped answering: warm it in the hand, plug it in again'
+last "DO NOT SEAL: not finished: 1 figure checked, 0 refused, 3 could not be checked, $seconds: see above; .*"
+
+try 'a stick that is drawn out'
+edition drawn
+if traced 'do' "mv '$F' '$F-away'" "$F/chisel.3ds" "$F"; then
+    status_is 2
+    matches err "stick: $F/mallet.3ds: not checked: the stick stopped answering: warm it in the hand, plug it in again"
+    lines err 1
+    last "DO NOT SEAL: not finished: 2 figures checked, 0 refused, 1 could not be checked, $seconds: see above; .*"
+fi
+try 'a stick that is drawn out at its last figure'
+edition drawn_late
+if traced 'do' "mv '$F' '$F-away'" "$F/vice.3ds" "$F"; then
+    status_is 2
+    matches err "stick: $F: not checked: the stick stopped answering: warm it in the hand, plug it in again"
+    lines err 1
+fi
+try 'a file that vanishes'
+edition vanishing
+if traced 'do' "rm '$F/mallet.3ds'" "$F/chisel.3ds" "$F"; then
+    status_is 2
+    has err "$F/mallet.3ds: not checked: there is no such file or folder"
+    lines err 1
+    unsealed 5 0 1
+fi
 
 # The same for permissions: a privileged user tries it as nobody.
 try 'a file and a folder that may not be read'
@@ -265,10 +322,10 @@ if $as test -r "$F/t.3ds" 2>/dev/null; then
     $as $RUN "$T/stick" "$F" >"$T/out" 2>"$T/err"
     status=$?
     status_is 2
-    has err "$F/shut.3ds: not checked: reading it is not permitted (Permission denied)"
-    has err "$F/shut: not checked: reading it is not permitted (Permission denied)"
+    has err "$F/shut.3ds: not checked: this is not permitted: ask whoever looks after this computer (Permission denied)"
+    has err "$F/shut: not checked: this is not permitted: ask whoever looks after this computer (Permission denied)"
     lines err 2
-    unwell 1 0 2
+    unsealed 1 0 2
     # shellcheck disable=SC2086
     $as $RUN "$T/stick" "$F/shut" >"$T/out" 2>"$T/err"
     status=$?
@@ -286,25 +343,18 @@ mkfifo "$F/pipe.3ds"
 timeout 20 $RUN "$S" "$F" >"$T/out" 2>"$T/err"
 status=$?
 status_is 2
-has err "$F/pipe.3ds: not checked: it is neither a file nor a folder"
-unwell 1 0 1
+matches err "stick: $F/pipe.3ds: not checked: it is neither a file nor a folder, but a pipe, a device or the like: take it off the stick"
+unsealed 1 0 1
 
 # resized NEW-SIZE WORDS: the file gets this size after it was opened and before it is read.
 shrinking=0
 resized() {
     triangle >"$T/resized.3ds"
-    # shellcheck disable=SC2086
-    ASAN_OPTIONS=detect_leaks=0 "$BUILD/c-test/traced" resize "$1" "$T/resized.3ds" \
-        $RUN "$S" "$T/resized.3ds" samples/edition >"$T/out" 2>"$T/err"
-    status=$?
-    if [ "$status" -eq 125 ]; then
-        skip "$(cat "$T/err")"
-        return
-    fi
+    traced 'do' "truncate -s $1 '$T/resized.3ds'" "$T/resized.3ds" "$T/resized.3ds" samples/edition || return
     shrinking=$((shrinking + 1))
     status_is 2
-    has err "$T/resized.3ds: not checked: it became $2 while it was read (86 bytes, then $1)"
-    unwell 6 0 1
+    has err "$T/resized.3ds: not checked: it became $2 while it was read (86 bytes, then $1): wait until copying has ended, and check again"
+    unsealed 6 0 1
 }
 try 'a file that shrinks while it is read'
 resized 40 shorter
@@ -318,11 +368,9 @@ try 'a file that gives fewer bytes than it said'
 for file in /sys/kernel/uevent_seqnum /sys/kernel/profiling /sys/kernel/fscaps; do
     if [ -r "$file" ] && [ "$(stat -c %s "$file")" -eq 4096 ]; then
         shrinking=$((shrinking + 1))
-        folder sysfs
-        ln -s "$file" "$F/x.3ds"
-        stick "$F"
+        stick "$file"
         status_is 2
-        has err "$F/x.3ds: not checked: it became shorter while it was read (4096 bytes, then "
+        has err "$file: not checked: it became shorter while it was read (4096 bytes, then "
         break
     fi
 done
@@ -342,6 +390,18 @@ if [ -w /dev/full ]; then
 else
     skip 'there is no /dev/full'
 fi
+
+try 'a reader of the lines that has gone away'
+mkfifo "$T/closed"
+(exec 3<"$T/closed") &
+exec 4>"$T/closed" # the two open it together, and then the reader ends
+wait $!
+# shellcheck disable=SC2086
+timeout 60 $RUN "$S" samples/damaged samples/edition >&4 2>"$T/err"
+status=$?
+exec 4>&-
+status_is 2
+has err 'stick: what was found could not be written: Broken pipe'
 
 # --- names
 
@@ -369,6 +429,17 @@ stick "$F"
 has err "$F/a\\x0Ab.3ds-folder.3ds: not checked"
 lines err 1
 
+try 'characters that cannot be seen are shown'
+folder unseen
+for name in 'a\342\200\213z' 'b\342\200\215z' 'c\357\273\277z' 'd\302\255z' 'e\342\201\240z' 'f\315\217z' 'g\363\240\200\201z'; do
+    # shellcheck disable=SC2059
+    echo bad >"$F/$(printf "$name").3ds"
+done
+stick "$F"
+for name in 'a\xE2\x80\x8Bz' 'b\xE2\x80\x8Dz' 'c\xEF\xBB\xBFz' 'd\xC2\xADz' 'e\xE2\x81\xA0z' 'f\xCD\x8Fz' 'g\xF3\xA0\x80\x81z'; do
+    has out "$F/$name.3ds: refused"
+done
+
 try 'paths longer than the system takes at once'
 folder long
 name=$(printf '%0200d' 0)
@@ -388,10 +459,10 @@ status_is 2
 has out "$name/t.3ds: accepted: 1 mesh, 3 vertices, 1 face"
 has out "$name/bad.3ds: refused: NOT A FIGURE (2)"
 has err "$name/x.3ds: not checked: it is a folder"
-has err "$name/lost.3ds: not checked: it is a link that leads nowhere"
-has err "$name/here: not checked: it is a link that leads back"
+has err "$name/lost.3ds: not checked: it is a link"
+has err "$name/here: not checked: it is a link"
 lines err 3
-unwell 2 1 3
+unsealed 2 1 3
 
 try 'more folders inside each other than files may be open'
 folder deep
@@ -410,7 +481,7 @@ done
 status=$?
 if [ -n "$RUN" ]; then skip "$RUN needs files of its own"; else
     status_is 0
-    well 1
+    passes 1
 fi
 
 # --- options
@@ -434,7 +505,7 @@ matches out 'samples/edition/adze.3ds: accepted: 2 meshes, 92 vertices, 164 face
 matches out 'samples/edition/chisel.3ds: accepted: 1 mesh, 84 vertices, 160 faces'
 matches out 'samples/edition/plane.3ds: accepted: 5 meshes, 90 vertices, 156 faces'
 lines out 7
-well 6
+passes 6
 try '--list of a refused figure'
 stick --list samples/damaged/name-zero-byte-lost.3ds
 status_is 1
@@ -449,6 +520,16 @@ try '--list of a figure without meshes'
 printf 'MM\014\0\0\0==\006\0\0\0' >"$T/bare.3ds"
 stick -l "$T/bare.3ds"
 matches out "$T/bare.3ds: accepted: 0 meshes, 0 vertices, 0 faces"
+
+try '--verbose'
+stick --verbose samples/edition samples/damaged/short-length-of-five.3ds
+status_is 1
+matches out 'samples/edition/adze.3ds: OK'
+matches out 'samples/damaged/short-length-of-five.3ds: refused: .*'
+has out 'samples/edition: PASS: 6 figures checked, 0 refused'
+lines out 9
+stick samples/edition
+lacks out OK
 
 try '--explain, the manual page and the messages agree'
 number=0
@@ -476,8 +557,16 @@ for number in 0 18 -1 x 5x '' 99999999999999999999; do
     stick --explain "$number"
     status_is 2
     has err 'stick: there is no refusal '
-    has err 'they are numbered 1 to 17'
+    has err 'They are numbered 1 to 17.'
 done
+try '--explain by name'
+for name in overrun OVERRUN 'Too Long'; do
+    stick --explain "$name"
+    status_is 0
+    has out 'Refusal '
+done
+stick --explain overrun
+has out 'Refusal 5, OVERRUN: '
 try '--explain without a number'
 stick --explain
 status_is 2
@@ -486,7 +575,9 @@ try '--help'
 stick --help
 status_is 0
 lines err 0
-for option in --help --version --quiet --list --explain FOLDER; do has out "$option"; done
+for option in --help --version --quiet --list --explain --verbose --json --against --copy --batch --log FOLDER; do has out "$option"; done
+widest=$(awk '{ if (length($0) > most) most = length($0) } END { print most }' "$T/out")
+if [ "$widest" -le 80 ]; then pass; else fail "a line of $widest characters"; fi
 try '--version'
 stick --version
 status_is 0
@@ -498,71 +589,4 @@ has err 'frobnicate'
 has err "Try 'stick --help'"
 lines out 0
 
-# --- progress
-
-# terminal both|error ARGUMENTS...: what the terminal was sent, in $T/terminal.
-terminal() {
-    kind=$1
-    shift
-    # shellcheck disable=SC2086
-    "$BUILD/c-test/on_terminal" "$kind" "$T/terminal" $RUN "$S" "$@" >"$T/out" 2>"$T/err"
-    status=$?
-}
-# What is left on the terminal to be read: each line with what was written over it last.
-left() {
-    awk 'BEGIN { RS = "\n" } {
-        count = split($0, part, "\r"); line = ""
-        for (i = 1; i <= count; i++) line = part[i] substr(line, length(part[i]) + 1)
-        sub(/ +$/, "", line); print line }' "$T/terminal"
-}
-
-try 'progress on a terminal'
-terminal both samples/edition
-status_is 0
-has terminal 'checking figure 1, 0 refused so far ...'
-left >"$T/out"
-lines out 1
-well 6
-
-try 'progress leaves the lines readable'
-terminal both samples/damaged
-status_is 1
-has terminal 'checking figure 1, '
-left | sed '$d' >"$T/on"
-stick samples/damaged
-sed '$d' "$T/out" >"$T/off"
-same 'what is left on the terminal' "$T/on" "$T/off"
-
-try 'progress when only standard error is a terminal'
-terminal error samples/edition
-has terminal 'checking figure 1'
-lines out 1
-well 6
-lacks out checking
-
-try 'no progress without a terminal'
-stick samples/edition
-lacks err checking
-lacks out checking
-
-try 'no progress when quiet'
-terminal both --quiet samples/edition
-status_is 0
-if [ -s "$T/terminal" ]; then fail 'something was shown'; else pass; fi
-
-try 'progress moves on'
-folder many
-triangle >"$F/0.3ds"
-i=0
-while [ "$i" -lt 400 ]; do
-    i=$((i + 1))
-    ln "$F/0.3ds" "$F/$i.3ds"
-done
-mkfifo "$T/slow"
-# The tool waits at the pipe that takes its lines, so a tenth of a second passes in between.
-(sleep 0.3 && cat) <"$T/slow" >"$T/slow-out" &
-"$BUILD/c-test/on_terminal" error "$T/terminal" sh -c "$RUN '$S' --list '$F' '$F' '$F' >'$T/slow'"
-wait
-figures=$(tr '\r' '\n' <"$T/terminal" | grep -c '^checking figure')
-if [ "$figures" -ge 2 ]; then pass; else fail "shown $figures times"; fi
 finish stick_test

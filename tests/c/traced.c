@@ -2,12 +2,12 @@
  * Runs a command and watches how it reads one file, through ptrace(2).
  *
  *     traced count RESULT FILE COMMAND...    writes to RESULT how many bytes were read from FILE
- *     traced resize SIZE FILE COMMAND...     makes FILE this long just before its first byte is
- * read
+ *     traced calls RESULT FILE COMMAND...    writes to RESULT what was done with FILE, in order
+ *     traced do SHELL FILE COMMAND...        runs SHELL just before FILE's first byte is read
  *
- * So a file can be made to shrink while it is read, at a moment that no luck is needed for, and the
- * program that reads it knows nothing of the test. The exit status is the command's; 125 means that
- * this system lets no program be traced.
+ * So a file can be made to shrink or vanish while it is read, at a moment that no luck is needed
+ * for, and the program that reads it knows nothing of the test. SHELL finds the program's number in
+ * $PROCESS. The exit status is the command's; 125 means that this system lets no program be traced.
  */
 #include <errno.h>
 #include <limits.h>
@@ -20,11 +20,15 @@
 #include <sys/wait.h>
 #include <unistd.h>
 
+enum { MOST_THREADS = 64 };
+
 struct watch {
-    char *file; /* its full path */
-    int resize; /* whether to change its size, and to what */
-    off_t size;
-    int in_read; /* between the start and the end of a call that reads the file */
+    char *file;       /* its full path */
+    const char *what; /* count, calls or do */
+    const char *argument;
+    FILE *result;
+    pid_t command;
+    pid_t reading[MOST_THREADS]; /* threads between the start and the end of a call that reads it */
     unsigned long long bytes;
 };
 
@@ -33,8 +37,22 @@ static _Noreturn void give_up(const char *what) {
     exit(125);
 }
 
-static int reads(unsigned long long call) {
-    return call == SYS_read || call == SYS_pread64 || call == SYS_readv || call == SYS_preadv;
+/* What a call does, as far as it matters here; NULL for all others. */
+static const char *name_of(unsigned long long call) {
+    switch (call) {
+    case SYS_read:
+    case SYS_pread64:
+    case SYS_readv:
+    case SYS_preadv:
+        return "read";
+    case SYS_fsync:
+    case SYS_fdatasync:
+        return "write out";
+    case SYS_fadvise64:
+        return "drop";
+    default:
+        return NULL;
+    }
 }
 
 /* Whether a descriptor of the process is the file that is watched. */
@@ -50,49 +68,96 @@ static int is_watched(const struct watch *watch, pid_t process, unsigned long lo
     return strcmp(target, watch->file) == 0;
 }
 
-/* The process has stopped at the start or the end of a call to the system. */
-static void look(struct watch *watch, pid_t process) {
+/* Where it is kept that a thread is reading; an empty place for one that is not. */
+static pid_t *place_of(struct watch *watch, pid_t thread) {
+    pid_t *empty = NULL;
+    for (int i = 0; i < MOST_THREADS; i++) {
+        if (watch->reading[i] == thread) {
+            return &watch->reading[i];
+        }
+        empty = watch->reading[i] == 0 && empty == NULL ? &watch->reading[i] : empty;
+    }
+    if (empty == NULL) {
+        give_up("too many threads");
+    }
+    return empty;
+}
+
+/* Does once what is to be done before the first byte is read. */
+static void do_once(struct watch *watch) {
+    char number[20];
+    if (strcmp(watch->what, "do") != 0 || watch->argument == NULL) {
+        return;
+    }
+    snprintf(number, sizeof number, "%d", (int)watch->command);
+    setenv("PROCESS", number, 1);
+    if (system(watch->argument) != 0) {
+        give_up(watch->argument);
+    }
+    watch->argument = NULL;
+}
+
+/* A thread has stopped at the start or the end of a call to the system. */
+static void look(struct watch *watch, pid_t thread) {
     struct __ptrace_syscall_info info;
-    if (ptrace(PTRACE_GET_SYSCALL_INFO, process, sizeof info, &info) <= 0) {
+    const char *name;
+    pid_t *place = place_of(watch, thread);
+    if (ptrace(PTRACE_GET_SYSCALL_INFO, thread, sizeof info, &info) <= 0) {
         give_up("a call cannot be looked at");
     }
-    if (info.op == PTRACE_SYSCALL_INFO_ENTRY) {
-        watch->in_read = reads(info.entry.nr) && is_watched(watch, process, info.entry.args[0]);
-        if (watch->in_read && watch->resize) {
-            watch->resize = 0;
-            if (truncate(watch->file, watch->size) != 0) {
-                give_up("the file cannot be resized");
-            }
-        }
-    } else if (info.op == PTRACE_SYSCALL_INFO_EXIT && watch->in_read) {
-        watch->in_read = 0;
+    if (info.op == PTRACE_SYSCALL_INFO_EXIT && *place == thread) {
+        *place = 0;
         watch->bytes += info.exit.is_error ? 0 : (unsigned long long)info.exit.rval;
+    }
+    name = info.op == PTRACE_SYSCALL_INFO_ENTRY ? name_of(info.entry.nr) : NULL;
+    if (name == NULL || !is_watched(watch, thread, info.entry.args[0])) {
+        return;
+    }
+    if (strcmp(watch->what, "calls") == 0) {
+        fprintf(watch->result, "%s\n", name);
+    }
+    if (strcmp(name, "read") == 0) {
+        *place = thread;
+        do_once(watch);
+    }
+}
+
+/* Lets a thread go on; one that has ended meanwhile is no trouble. */
+static void go_on(pid_t thread, int signal_number) {
+    if (ptrace(PTRACE_SYSCALL, thread, NULL, signal_number) != 0 && errno != ESRCH) {
+        give_up("the command cannot be followed");
     }
 }
 
 /* Lets the process run to its end; answers its exit status. */
-static int follow(struct watch *watch, pid_t process) {
-    int status, signal_number = 0;
+static int follow(struct watch *watch) {
+    int status, signal_number;
+    go_on(watch->command, 0);
     for (;;) {
-        if (ptrace(PTRACE_SYSCALL, process, NULL, signal_number) != 0) {
-            give_up("the command cannot be followed");
-        }
-        if (waitpid(process, &status, 0) != process) {
+        pid_t thread = waitpid(-1, &status, __WALL);
+        if (thread < 0) {
             give_up("waitpid");
         }
         if (!WIFSTOPPED(status)) {
-            return WIFEXITED(status) ? WEXITSTATUS(status) : 126;
+            if (thread == watch->command) {
+                return WIFEXITED(status) ? WEXITSTATUS(status) : 126;
+            }
+            continue;
         }
-        signal_number = 0;
-        if (WSTOPSIG(status) == (SIGTRAP | 0x80)) {
-            look(watch, process);
-        } else if (WSTOPSIG(status) != SIGTRAP) {
-            signal_number = WSTOPSIG(status);
+        signal_number = WSTOPSIG(status);
+        if (signal_number == (SIGTRAP | 0x80)) {
+            look(watch, thread);
         }
+        /* New threads begin with a stop of their own. */
+        go_on(thread, signal_number == (SIGTRAP | 0x80) || signal_number == SIGTRAP ||
+                              signal_number == SIGSTOP
+                          ? 0
+                          : signal_number);
     }
 }
 
 static pid_t start(char **command) {
+    const long options = PTRACE_O_TRACESYSGOOD | PTRACE_O_EXITKILL | PTRACE_O_TRACECLONE;
     int status;
     pid_t process = fork();
     if (process == 0) {
@@ -104,7 +169,7 @@ static pid_t start(char **command) {
         give_up(command[0]);
     }
     if (process < 0 || waitpid(process, &status, 0) != process || !WIFSTOPPED(status) ||
-        ptrace(PTRACE_SETOPTIONS, process, NULL, PTRACE_O_TRACESYSGOOD | PTRACE_O_EXITKILL) != 0) {
+        ptrace(PTRACE_SETOPTIONS, process, NULL, options) != 0) {
         give_up("the command cannot be traced");
     }
     return process;
@@ -114,22 +179,24 @@ int main(int argc, char **argv) {
     struct watch watch = {0};
     int status;
     if (argc < 5) {
-        fprintf(stderr, "usage: traced count RESULT FILE COMMAND...\n"
-                        "       traced resize SIZE FILE COMMAND...\n");
+        fprintf(stderr, "usage: traced count|calls RESULT FILE COMMAND...\n"
+                        "       traced do SHELL FILE COMMAND...\n");
         return 125;
     }
+    watch.what = argv[1];
+    watch.argument = argv[2];
     watch.file = realpath(argv[3], NULL);
-    if (watch.file == NULL) {
+    watch.result = strcmp(watch.what, "do") == 0 ? NULL : fopen(argv[2], "w");
+    if (watch.file == NULL || (watch.result == NULL && strcmp(watch.what, "do") != 0)) {
         give_up(argv[3]);
     }
-    watch.resize = strcmp(argv[1], "resize") == 0;
-    watch.size = watch.resize ? (off_t)atoll(argv[2]) : 0;
-    status = follow(&watch, start(argv + 4));
-    if (strcmp(argv[1], "count") == 0) {
-        FILE *result = fopen(argv[2], "w");
-        if (result == NULL || fprintf(result, "%llu\n", watch.bytes) < 0 || fclose(result) != 0) {
-            give_up(argv[2]);
-        }
+    watch.command = start(argv + 4);
+    status = follow(&watch);
+    if (strcmp(watch.what, "count") == 0) {
+        fprintf(watch.result, "%llu\n", watch.bytes);
+    }
+    if (watch.result != NULL && fclose(watch.result) != 0) {
+        give_up(argv[2]);
     }
     free(watch.file);
     return status;

@@ -1,0 +1,21 @@
+/* The check of one stick. */
+#ifndef STICK_CHECK_H
+#define STICK_CHECK_H
+
+#include "manifest.h"
+#include "report.h"
+
+/* What a stick is compared with. */
+struct against {
+    const char *folder;              /* the master's, or NULL */
+    const struct manifest *manifest; /* what is in it */
+    const char *again;               /* what to do about a file that differs */
+};
+
+/*
+ * Checks every figure below this folder, or this file whatever its name; links are not followed.
+ * All that cannot be looked at is reported, and the rest still checked.
+ */
+void check_stick(const char *root, const struct against *against, struct report *report);
+
+#endif

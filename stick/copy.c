@@ -1,0 +1,150 @@
+/* Copying an edition to a stick: only what is not there, each file whole or not at all. */
+#include "copy.h"
+
+#include <errno.h>
+#include <stdlib.h>
+#include <string.h>
+
+#include "longpath.h"
+#include "reading.h"
+#include "stop.h"
+#include "writing.h"
+
+struct copying {
+    const char *edition;
+    const char *stick;
+    struct report *report;
+    struct text from;
+    struct text to;
+    uint8_t *block;
+};
+
+/* Sets the paths of one file in the edition and on the stick. */
+static void set_paths(struct copying *copying, const char *name) {
+    text_cut(&copying->from, 0);
+    text_format(&copying->from, "%s/%s", copying->edition, name);
+    text_cut(&copying->to, 0);
+    text_format(&copying->to, "%s/%s", copying->stick, name);
+}
+
+/* Makes the folders on the way to a file. Answers 0 or the system's error. */
+static int make_folders(struct copying *copying) {
+    char *path = copying->to.bytes;
+    for (char *at = path + strlen(copying->stick) + 1; *at != '\0'; at++) {
+        int error = 0;
+        if (*at == '/') {
+            *at = '\0';
+            error = long_mkdir(path) == 0 || errno == EEXIST ? 0 : errno;
+            *at = '/';
+        }
+        if (error != 0) {
+            return error;
+        }
+    }
+    return 0;
+}
+
+/* Carries the bytes over. Answers false and says why. */
+static bool carry(struct copying *copying, struct reading *reading, struct writing *writing,
+                  struct trouble *trouble) {
+    size_t length;
+    do {
+        if (!reading_block(reading, copying->block, MOST_READ, &length, trouble) ||
+            !writing_add(writing, copying->block, length, trouble)) {
+            return false;
+        }
+        if (stopped()) {
+            trouble_of_words(trouble, "stopped by hand", "copy again");
+            return false;
+        }
+    } while (!reading->ended);
+    return true;
+}
+
+static bool copy_file(struct copying *copying, struct trouble *trouble) {
+    struct trouble later;
+    struct reading reading;
+    struct writing writing;
+    int error = make_folders(copying);
+    bool good;
+    if (error != 0) {
+        trouble_of_system(trouble, error);
+        return false;
+    }
+    if (!reading_open(&reading, copying->from.bytes, FROM_ANYWHERE, trouble)) {
+        return false;
+    }
+    good = writing_open(&writing, copying->to.bytes, trouble);
+    if (good) {
+        good = carry(copying, &reading, &writing, trouble);
+        good = writing_close(&writing, good, good ? trouble : &later) && good;
+    }
+    if (!reading_close(&reading, &later) && good) {
+        *trouble = later;
+        good = false;
+    }
+    return good;
+}
+
+/* Whether something of this name stands on the stick; it is then left alone. */
+static bool stands(const char *path) {
+    struct stat status;
+    return long_stat(path, 1, &status) == 0;
+}
+
+/* The stick must be there, be a folder, and be another one than the edition. */
+static bool fit_to_copy_to(const struct copying *copying, struct trouble *trouble) {
+    struct stat edition, stick;
+    if (long_stat(copying->stick, 0, &stick) != 0 ||
+        long_stat(copying->edition, 0, &edition) != 0) {
+        trouble_of_system(trouble, errno);
+        return false;
+    }
+    if (!S_ISDIR(stick.st_mode)) {
+        trouble_of_words(trouble, "it is not a folder", "give the folder of the stick");
+        return false;
+    }
+    if (stick.st_dev == edition.st_dev && stick.st_ino == edition.st_ino) {
+        trouble_of_words(trouble, "it is the edition itself", "give the folder of the stick");
+        return false;
+    }
+    return true;
+}
+
+static bool copy_all(struct copying *copying, const struct manifest *manifest,
+                     struct trouble *trouble) {
+    if (!fit_to_copy_to(copying, trouble)) {
+        text_add(&copying->to, copying->stick);
+        return false;
+    }
+    for (size_t i = 0; i < manifest->count; i++) {
+        struct row row = {copying->stick, COPYING, i + 1, 0};
+        set_paths(copying, manifest->names[i]);
+        screen_row(copying->report->screen, copying->report->job, &row);
+        if (!stands(copying->to.bytes) && !copy_file(copying, trouble)) {
+            return false;
+        }
+    }
+    return true;
+}
+
+bool copy_edition(const char *edition, const struct manifest *manifest, const char *stick,
+                  struct report *report) {
+    struct copying copying = {.edition = edition, .stick = stick, .report = report};
+    struct trouble trouble;
+    bool good;
+    copying.block = need_memory(NULL, MOST_READ);
+    good = copy_all(&copying, manifest, &trouble);
+    if (!good) {
+        struct stat status;
+        if (!trouble.gone && long_stat(stick, 0, &status) != 0 && copying.from.length > 0) {
+            trouble_of_stick(&trouble);
+        }
+        report->unfinished = true;
+        report_trouble(report, copying.to.bytes, "not copied", &trouble);
+    }
+    text_free(&copying.from);
+    text_free(&copying.to);
+    free(copying.block);
+    return good;
+}

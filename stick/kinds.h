@@ -1,0 +1,20 @@
+/* What a name on a stick stands for. */
+#ifndef STICK_KINDS_H
+#define STICK_KINDS_H
+
+enum kind {
+    KIND_FIGURE,      /* .3ds: is read strictly */
+    KIND_NO_READER,   /* .cob, .c4d: figures for which there is no reader yet */
+    KIND_NEAR_FIGURE, /* adze.3ds.part, adze.3ds~: a figure that was perhaps not copied whole */
+    KIND_LEFT_BEHIND, /* what other computers leave on a stick: ._adze.3ds, Thumbs.db */
+    KIND_OTHER        /* nothing that is known here */
+};
+
+/* The kind of a file or folder by the last name in its path; letters of either case are the same.
+ */
+enum kind kind_of(const char *path);
+
+/* The last name in a path. */
+const char *last_name(const char *path);
+
+#endif

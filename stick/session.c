@@ -1,0 +1,169 @@
+/* One round of work: the folders that were named, at once, one reader for each. */
+#include "session.h"
+
+#include <pthread.h>
+#include <stdatomic.h>
+#include <stdlib.h>
+#include <sys/stat.h>
+
+#include "copy.h"
+#include "longpath.h"
+#include "verdict.h"
+
+enum { MOST_READERS = 40 }; /* a batch */
+
+/* What the readers of a round share. */
+struct round {
+    struct session *session;
+    struct screen screen;
+    char **folders;
+    struct report *reports;
+    size_t count;
+    atomic_size_t next;
+};
+
+/* One round of one job, outside all threads: for the edition. */
+static void single_start(struct screen *screen, struct report *report,
+                         const struct options *options) {
+    char *const names[] = {""};
+    screen_start(screen, names, 1, options->style.quiet);
+    report_start(report, &options->style, screen, 0);
+}
+
+/* The edition must be well itself: its faults would be on every stick. */
+static int check_edition(const struct options *options) {
+    struct against nothing = {0};
+    struct trouble trouble;
+    struct report report;
+    struct screen screen;
+    int status;
+    single_start(&screen, &report, options);
+    check_stick(options->edition, &nothing, &report);
+    status = report_status(&report);
+    if (status != 0) {
+        trouble_of_words(&trouble, "the edition itself is not well",
+                         "see above; nothing was copied");
+        report_trouble(&report, options->edition, "not copied", &trouble);
+        status = verdict_of_all(&report, 0);
+    }
+    screen_end(&screen);
+    report_free(&report);
+    return status;
+}
+
+static int read_master(struct session *session, const char *folder) {
+    struct report report;
+    struct screen screen;
+    int status;
+    single_start(&screen, &report, session->options);
+    manifest_of_folder(&session->manifest, folder, &report);
+    status = report_status(&report);
+    screen_end(&screen);
+    report_free(&report);
+    return status;
+}
+
+int session_start(struct session *session, const struct options *options) {
+    const char *folder = options->edition != NULL ? options->edition : options->against;
+    int status = 0;
+    *session = (struct session){.options = options};
+    if (options->edition != NULL) {
+        status = check_edition(options);
+    }
+    if (status == 0 && folder != NULL) {
+        status = read_master(session, folder);
+        session->against = (struct against){folder, &session->manifest, "copy it again"};
+    }
+    if (options->edition != NULL) {
+        session->against.again = "it was there before and is left alone: delete it, copy again";
+    }
+    return status;
+}
+
+void session_end(struct session *session) {
+    manifest_free(&session->manifest);
+}
+
+static bool is_folder(const char *path) {
+    struct stat status;
+    return long_stat(path, 0, &status) == 0 && S_ISDIR(status.st_mode);
+}
+
+static void work_on(struct round *round, size_t job) {
+    const struct session *session = round->session;
+    const char *folder = round->folders[job];
+    struct report *report = &round->reports[job];
+    struct trouble trouble;
+    bool good = *folder != '\0';
+    if (!good) {
+        trouble_of_words(&trouble, "the name is empty", "give a folder, for example /media/stick");
+        report_trouble(report, "''", NULL, &trouble);
+    }
+    if (good && session->options->edition != NULL) {
+        good = copy_edition(session->options->edition, &session->manifest, folder, report);
+    }
+    if (good) {
+        check_stick(folder, &session->against, report);
+    }
+    if (round->count > 1 && is_folder(folder)) {
+        verdict_of_folder(report, folder);
+    }
+    screen_done(&round->screen, job);
+}
+
+static void *reader(void *shared) {
+    struct round *round = shared;
+    for (;;) {
+        size_t job = atomic_fetch_add(&round->next, 1);
+        if (job >= round->count) {
+            return NULL;
+        }
+        work_on(round, job);
+    }
+}
+
+/* The main thread is a reader too, so that one folder needs no other. */
+static void read_all(struct round *round) {
+    pthread_t threads[MOST_READERS];
+    size_t started = 0;
+    while (started + 1 < round->count && started + 1 < MOST_READERS &&
+           pthread_create(&threads[started], NULL, reader, round) == 0) {
+        started++;
+    }
+    reader(round);
+    for (size_t i = 0; i < started; i++) {
+        pthread_join(threads[i], NULL);
+    }
+}
+
+/* Adds all reports up, and ends them. */
+static void add_up(struct round *round, struct report *sum) {
+    report_start(sum, &round->session->options->style, &round->screen, 0);
+    sum->folders = 0;
+    for (size_t i = 0; i < round->count; i++) {
+        report_join(sum, &round->reports[i]);
+        report_free(&round->reports[i]);
+    }
+}
+
+int session_work(struct session *session, char **folders, size_t count, struct text *log) {
+    struct round round = {.session = session, .folders = folders, .count = count};
+    struct timespec start, end;
+    struct report sum;
+    int status;
+    clock_gettime(CLOCK_MONOTONIC, &start);
+    screen_start(&round.screen, folders, count, session->options->style.quiet);
+    round.screen.log = log;
+    round.reports = need_memory(NULL, count * sizeof *round.reports);
+    for (size_t i = 0; i < count; i++) {
+        report_start(&round.reports[i], &session->options->style, &round.screen, i);
+    }
+    read_all(&round);
+    add_up(&round, &sum);
+    clock_gettime(CLOCK_MONOTONIC, &end);
+    status = verdict_of_all(&sum, seconds_between(&start, &end));
+    screen_end(&round.screen);
+    report_free(&sum);
+    free(round.reports);
+    return status;
+}

@@ -1,0 +1,56 @@
+/* One file on a stick: read once, block by block, for all that is to be known of it. */
+#include "subject.h"
+
+#include "stop.h"
+
+/* The first block holds a whole figure, or more than one may have. */
+static bool take_block(struct subject *subject, struct checker *checker, bool first, size_t length,
+                       struct trouble *trouble) {
+    if (first && subject->kind == KIND_FIGURE) {
+        subject->answer = judge_figure(checker, length, subject->list ? &subject->totals : NULL);
+    }
+    return comparison_add(&subject->comparison, checker->block, length, trouble);
+}
+
+/* Whether there may be something behind the blocks so far that anyone wants to know. */
+static bool wants_more(const struct subject *subject, const struct reading *reading) {
+    return !reading->ended && !stopped() && subject->comparison.wanted &&
+           !subject->comparison.different;
+}
+
+static bool read_blocks(struct subject *subject, struct checker *checker, struct reading *reading,
+                        struct trouble *trouble) {
+    bool first = true;
+    size_t length;
+    do {
+        if (!reading_block(reading, checker->block, MOST_READ, &length, trouble) ||
+            !take_block(subject, checker, first, length, trouble)) {
+            return false;
+        }
+        first = false;
+    } while (wants_more(subject, reading));
+    return true;
+}
+
+bool subject_read(struct subject *subject, struct checker *checker, struct trouble *trouble) {
+    struct trouble later;
+    struct reading reading;
+    bool good = true;
+    if (!reading_open(&reading, subject->path, FROM_STICK, trouble)) {
+        return false;
+    }
+    subject->settled = reading.settled;
+    if (subject->master != NULL) {
+        good = comparison_start(&subject->comparison, subject->master, trouble);
+    }
+    good = good && read_blocks(subject, checker, &reading, trouble);
+    if (!comparison_end(&subject->comparison, &later) && good) {
+        *trouble = later;
+        good = false;
+    }
+    if (!reading_close(&reading, &later) && good) {
+        *trouble = later;
+        good = false;
+    }
+    return good;
+}

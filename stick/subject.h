@@ -1,0 +1,24 @@
+/* One file on a stick: read once, from the stick, and as it is read judged and compared. */
+#ifndef STICK_SUBJECT_H
+#define STICK_SUBJECT_H
+
+#include "compare.h"
+#include "figure.h"
+#include "kinds.h"
+
+struct subject {
+    const char *path;
+    enum kind kind;
+    bool list;          /* what is in a good figure is to be counted */
+    const char *master; /* the file it is to be compared with, or NULL */
+    /* what came of it: */
+    uint64_t answer; /* the reader's, of a figure */
+    struct totals totals;
+    struct comparison comparison;
+    bool settled; /* it was read from the stick */
+};
+
+/* Reads it to its end, or as far as anyone wants to know of it. Answers false and says why not. */
+bool subject_read(struct subject *subject, struct checker *checker, struct trouble *trouble);
+
+#endif

@@ -1,0 +1,169 @@
+/*
+ * The last lines: PASS or DO NOT SEAL stands first, so that it can be read from two metres; then
+ * how many, and what was not covered.
+ */
+#include "verdict.h"
+
+#include <errno.h>
+#include <stdio.h>
+#include <stdlib.h>
+#include <string.h>
+#include <unistd.h>
+
+#include "escape.h"
+#include "json.h"
+
+#define RED_GROUND "\033[1;97;41m"
+#define GREEN_GROUND "\033[1;97;42m"
+#define PLAIN "\033[0m"
+
+/* Colour on a terminal only, and not where it is not wanted. */
+static bool in_colour(void) {
+    const char *refused = getenv("NO_COLOR"), *terminal = getenv("TERM");
+    return isatty(STDOUT_FILENO) && (refused == NULL || *refused == '\0') && terminal != NULL &&
+           strcmp(terminal, "dumb") != 0;
+}
+
+const char *verdict_word(bool pass) {
+    return pass ? "PASS" : "DO NOT SEAL";
+}
+
+void add_verdict_word(struct text *line, bool pass) {
+    if (in_colour()) {
+        text_format(line, "%s  %s  %s", pass ? GREEN_GROUND : RED_GROUND, verdict_word(pass),
+                    PLAIN);
+    } else {
+        text_add(line, verdict_word(pass));
+    }
+}
+
+static void add_word(struct text *line, const struct report *report) {
+    add_verdict_word(line, report_status(report) == 0);
+    text_add(line, report->unfinished ? ": not finished: " : ": ");
+}
+
+static void add_counts(struct text *line, const struct report *report) {
+    static const char *const words[OUTCOMES] = {
+        [FOUND_DIFFERENT] = "differ",
+        [FOUND_MISSING] = "missing",
+        [FOUND_EXTRA] = "not expected here",
+        [FOUND_LEFT_BEHIND] = "left by another computer",
+    };
+    unsigned long unchecked = report->count[FOUND_UNCHECKED] + report->near.count;
+    text_format(line, "%lu figure%s checked, %lu refused", report->figures,
+                report->figures == 1 ? "" : "s", report->count[FOUND_REFUSED]);
+    for (int i = 0; i < OUTCOMES; i++) {
+        if (words[i] != NULL && report->count[i] > 0) {
+            text_format(line, ", %lu %s", report->count[i], words[i]);
+        }
+    }
+    if (unchecked > 0) {
+        text_format(line, ", %lu could not be checked", unchecked);
+    }
+}
+
+/* What a PASS does not speak of. */
+static void add_uncovered(struct text *line, const struct report *report) {
+    if (report->bare > 0 && report->bare == report->folders && report->figures > 0) {
+        text_format(line, "; structure only: no slip on %s",
+                    report->folders == 1 ? "this stick" : "these sticks");
+    } else if (report->bare > 0) {
+        text_format(line, "; structure only on %lu of %lu: no slip there", report->bare,
+                    report->folders);
+    }
+    if (report->unknown.count > 0) {
+        text_format(line, "; %lu of no known kind not looked at", report->unknown.count);
+    }
+    if (report->from_memory) {
+        text_add(line, "; read from this computer's memory, not from the stick: take the stick "
+                       "out, put it in again, check again");
+    }
+}
+
+void verdict_of_folder(struct report *report, const char *folder) {
+    struct text line = {0};
+    if (report->style->quiet || report->style->json) {
+        return;
+    }
+    text_escaped(&line, folder);
+    text_add(&line, ": ");
+    add_word(&line, report);
+    add_counts(&line, report);
+    add_uncovered(&line, report);
+    text_add(&line, "\n");
+    screen_line(report->screen, report->job, TO_OUTPUT, line.bytes);
+    text_free(&line);
+}
+
+/* The files that nothing was said about, by name. Those that may be figures are a problem. */
+static void add_names(struct text *lines, const struct report *sum) {
+    if (sum->near.count > 0) {
+        text_format(lines, "not checked: %lu file%s almost named as a figure: ", sum->near.count,
+                    sum->near.count == 1 ? "" : "s");
+        names_say(&sum->near, lines);
+        text_add(lines, ": " NEAR_REMEDY "\n");
+    }
+    if (sum->unknown.count > 0 && !sum->style->quiet) {
+        text_format(lines, "not looked at: %lu file%s of no known kind: ", sum->unknown.count,
+                    sum->unknown.count == 1 ? "" : "s");
+        names_say(&sum->unknown, lines);
+        text_add(lines, "\n");
+    }
+}
+
+static void add_plain(struct text *lines, const struct report *sum, double seconds) {
+    add_names(lines, sum);
+    if (sum->style->quiet && !sum->unfinished) {
+        return;
+    }
+    add_word(lines, sum);
+    if (sum->folders > 1) {
+        text_format(lines, "%lu folders, ", sum->folders);
+    }
+    add_counts(lines, sum);
+    text_format(lines, ", in %.1f seconds%s", seconds,
+                report_status(sum) == 0 ? "" : ": see above");
+    add_uncovered(lines, sum);
+    text_add(lines, "\n");
+}
+
+static void add_json(struct text *lines, const struct report *sum, double seconds) {
+    if (sum->style->quiet && !sum->unfinished) {
+        return;
+    }
+    json_begin(lines);
+    json_string(lines, "verdict", verdict_word(report_status(sum) == 0));
+    json_number(lines, "status", (unsigned long)report_status(sum));
+    json_number(lines, "folders", sum->folders);
+    json_number(lines, "figures", sum->figures);
+    json_number(lines, "refused", sum->count[FOUND_REFUSED]);
+    json_number(lines, "differ", sum->count[FOUND_DIFFERENT]);
+    json_number(lines, "missing", sum->count[FOUND_MISSING]);
+    json_number(lines, "not_expected", sum->count[FOUND_EXTRA]);
+    json_number(lines, "left_behind", sum->count[FOUND_LEFT_BEHIND]);
+    json_number(lines, "not_checked", sum->count[FOUND_UNCHECKED] + sum->near.count);
+    json_number(lines, "of_no_known_kind", sum->unknown.count);
+    json_number(lines, "structure_only", sum->bare);
+    json_number(lines, "from_memory", sum->from_memory);
+    json_number(lines, "not_finished", sum->unfinished);
+    json_number(lines, "milliseconds", (unsigned long)(seconds * 1000));
+    json_end(lines);
+}
+
+int verdict_of_all(struct report *sum, double seconds) {
+    struct text lines = {0};
+    if (sum->style->json) {
+        add_json(&lines, sum, seconds);
+    } else {
+        add_plain(&lines, sum, seconds);
+    }
+    if (lines.length > 0) {
+        screen_line(sum->screen, 0, TO_OUTPUT, lines.bytes);
+    }
+    text_free(&lines);
+    if (fflush(stdout) != 0 || ferror(stdout)) {
+        fprintf(stderr, "stick: what was found could not be written: %s\n", strerror(errno));
+        return 2;
+    }
+    return report_status(sum);
+}

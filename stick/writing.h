@@ -1,0 +1,30 @@
+/* Writing a new file, whole or not at all. */
+#ifndef STICK_WRITING_H
+#define STICK_WRITING_H
+
+#include <stdbool.h>
+#include <stddef.h>
+#include <stdint.h>
+
+#include "text.h"
+#include "trouble.h"
+
+struct writing {
+    int file;
+    const char *path;
+    struct text part; /* the name it has until it is whole */
+};
+
+/* Begins a new file that is to have this path in the end, where nothing may stand yet. */
+bool writing_open(struct writing *writing, const char *path, struct trouble *trouble);
+
+bool writing_add(struct writing *writing, const uint8_t *bytes, size_t length,
+                 struct trouble *trouble);
+
+/*
+ * Ends it: written out to the medium and given its name if all is good so far, else taken away
+ * again. Answers whether it now stands there.
+ */
+bool writing_close(struct writing *writing, bool good, struct trouble *trouble);
+
+#endif

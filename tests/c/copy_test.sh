@@ -1,0 +1,146 @@
+#!/bin/sh
+# The bench tool copies an edition and checks it in one go; nothing on a stick is ever lost.
+# shellcheck source=tests/c/stick_common.sh
+. tests/c/stick_common.sh
+
+folder edition
+cp samples/edition/*.3ds "$F"
+mkdir -p "$F/texts/more"
+echo 'read me' >"$F/texts/README.TXT"
+head -c 3000000 /dev/urandom >"$F/texts/more/film.bin"
+: >"$F/empty"
+E=$F
+
+# as_edition FOLDER: holds just what the edition has.
+as_edition() {
+    if diff -r "$E" "$1" >"$T/out" 2>&1; then pass; else fail "$1 is not as the edition"; fi
+}
+
+try 'an edition is copied to several sticks and read back'
+mkdir "$T/one" "$T/two" "$T/three"
+stick --copy "$E" "$T/one" "$T/two" "$T/three"
+status_is 0
+matches out "$T/two: PASS: 6 figures checked, 0 refused"
+last "PASS: 3 folders, 18 figures checked, 0 refused, $seconds"
+for name in one two three; do as_edition "$T/$name"; done
+
+try 'a copy is read from the stick, not from memory'
+mkdir "$T/settled"
+cp "$E/adze.3ds" "$T/settled"
+if traced calls "$T/calls" "$T/settled/adze.3ds" --copy "$E" "$T/settled"; then
+    status_is 0
+    tr '\n' ',' <"$T/calls" >"$T/seen"
+    if [ "$(cat "$T/seen")" = 'write out,drop,read,read,' ]; then pass; else fail "$(cat "$T/seen")"; fi
+fi
+
+try 'what is there already is not written again'
+touch -d '2001-01-01' "$T/one/adze.3ds"
+stick --copy "$E" "$T/one"
+status_is 0
+if [ "$(stat -c %Y "$T/one/adze.3ds")" -lt 1000000000 ]; then pass; else fail 'it was written again'; fi
+
+try 'nothing on a stick is deleted or changed'
+echo mine >"$T/one/mine.txt"
+echo mine >"$T/one/saw.3ds"
+rm "$T/one/vice.3ds"
+stick --copy "$E" "$T/one"
+status_is 1
+matches out "$T/one/saw.3ds: refused: NOT A FIGURE .*"
+matches out "$T/one/mine.txt: not in the master: .*"
+if [ "$(cat "$T/one/mine.txt" "$T/one/saw.3ds")" = "$(printf 'mine\nmine')" ]; then pass; else fail 'it was changed'; fi
+same 'what was missing is copied' "$E/vice.3ds" "$T/one/vice.3ds"
+triangle >"$T/one/saw.3ds"
+stick --copy "$E" "$T/one"
+status_is 1
+matches out "$T/one/saw.3ds: differs from the master, at byte 2: it was there before and is left alone: delete it, copy again"
+
+try 'an edition that is not well is not copied'
+cp -R "$E" "$T/damaged"
+turn "$T/damaged/adze.3ds" 2
+mkdir "$T/four"
+stick --copy "$T/damaged" "$T/four"
+status_is 2
+matches out "$T/damaged/adze.3ds: refused: .*"
+matches err "stick: $T/damaged: not copied: the edition itself is not well: see above; nothing was copied"
+last 'DO NOT SEAL: .*'
+if [ -z "$(ls -A "$T/four")" ]; then pass; else fail 'something was copied'; fi
+
+try 'a stick that is not there is not made'
+stick --copy "$E" "$T/nowhere" "$T/two"
+status_is 2
+matches err "stick: $T/nowhere: not copied: there is no such file or folder: see that the stick is in, .*"
+matches out "$T/two: PASS: .*"
+if [ -e "$T/nowhere" ]; then fail 'it was made'; else pass; fi
+stick --copy "$E" "$E"
+status_is 2
+has err "$E: not copied: it is the edition itself"
+stick --copy "$T/nothing" "$T/two"
+status_is 2
+has err "stick: there is no folder $T/nothing"
+echo x >"$T/file"
+stick --copy "$E" "$T/file"
+status_is 2
+has err "$T/file: not copied: it is not a folder"
+
+# broken FAULT WORDS: a copy to a new stick that fails; nothing half is left, and it is one line.
+broken() {
+    rm -rf "$T/new"
+    mkdir "$T/new"
+    faulty "$1" --copy "$E" "$T/new"
+    status_is 2
+    has err "$2"
+    lines err 1
+    last 'DO NOT SEAL: not finished: .*'
+    if find "$T/new" -name '*.part*' | grep -q .; then fail 'a part is left'; else pass; fi
+}
+try 'a stick that is full'
+broken "write:$ENOSPC:new/mallet" "$T/new/mallet.3ds: not copied: the stick is full: take a larger stick, or make room on it"
+same 'what was copied before' "$E/chisel.3ds" "$T/new/chisel.3ds"
+if [ -e "$T/new/mallet.3ds" ]; then fail 'half a file has the name of a whole one'; else pass; fi
+try 'a stick that is full in the middle of a file'
+broken "write:$ENOSPC:new/texts/more/film:1" "$T/new/texts/more/film.bin: not copied: the stick is full"
+try 'a stick that drops out while it is written'
+broken "write:$ENODEV:new/mallet" "$T/new/mallet.3ds: not copied: the stick stopped answering: warm it in the hand, plug it in again"
+try 'a stick that drops out while it is written out'
+broken "fdatasync:$EIO:new/mallet" "$T/new/mallet.3ds: not copied: the stick stopped answering: warm it in the hand, plug it in again"
+try 'a stick that drops out while it is read back'
+rm -rf "$T/new"
+mkdir "$T/new"
+faulty "read:$EIO:new/mallet" --copy "$E" "$T/new"
+status_is 2
+has err "$T/new/mallet.3ds: not checked: the stick stopped answering"
+
+try 'a small stick that is really full'
+mkdir "$T/small"
+if [ "$(id -u)" -eq 0 ] && mount -t tmpfs -o size=1m tmpfs "$T/small" 2>/dev/null; then
+    stick --copy "$E" "$T/small"
+    status_is 2
+    has err 'not copied: the stick is full: take a larger stick'
+    umount "$T/small"
+else
+    skip 'nothing can be mounted here'
+fi
+
+try 'a part of an earlier copy is left alone, and said'
+mkdir "$T/earlier"
+echo half >"$T/earlier/adze.3ds.part"
+stick --copy "$E" "$T/earlier"
+status_is 1
+same 'the figure' "$E/adze.3ds" "$T/earlier/adze.3ds"
+matches out "$T/earlier/adze.3ds.part: not in the master: delete it, .*"
+if [ "$(cat "$T/earlier/adze.3ds.part")" = half ]; then pass; else fail 'it was changed'; fi
+
+try 'stopped by hand: nothing half is left'
+mkdir "$T/stopped"
+if traced 'do' "kill -INT \$PROCESS" "$E/texts/more/film.bin" --copy "$E" "$T/stopped"; then
+    status_is 2
+    last 'DO NOT SEAL: not finished: .*'
+    if find "$T/stopped" -name '*.part*' | grep -q .; then fail 'a part is left'; else pass; fi
+fi
+
+try 'a folder where the edition has a file'
+mkdir -p "$T/folders/adze.3ds"
+stick --copy "$E" "$T/folders"
+status_is 2
+has err "$T/folders/adze.3ds: not checked: it is a folder"
+finish copy_test

@@ -1,0 +1,50 @@
+#!/bin/sh
+# The bench tool reads the stick, not this computer's memory of it.
+# shellcheck source=tests/c/stick_common.sh
+. tests/c/stick_common.sh
+
+try 'what is in memory is written out and dropped before a file is read'
+edition settled
+if traced calls "$T/calls" "$F/adze.3ds" "$F"; then
+    status_is 0
+    head -n 3 "$T/calls" | tr '\n' ',' >"$T/seen"
+    if [ "$(cat "$T/seen")" = 'write out,drop,read,' ]; then pass; else fail "$(cat "$T/seen")"; fi
+fi
+
+try 'where memory cannot be dropped the last line says so'
+faulty "fadvise:$EINVAL:settled/adze" "$F"
+status_is 0
+last "PASS: 6 figures checked, .*; read from this computer's memory, not from the stick: take the stick out, put it in again, check again"
+faulty "fdatasync:$ENOSPC:settled/adze" "$F"
+has out "read from this computer's memory, not from the stick"
+stick "$F"
+lacks out memory
+
+try 'a stick that drops out while memory is written out to it'
+faulty "fdatasync:$EIO:settled/adze" "$F"
+status_is 2
+has err "$F/adze.3ds: not checked: the stick stopped answering"
+
+# What the packer's spring batch had: a bit that turned on the stick, after copying.
+try 'a bit turned on a mounted stick is seen at once'
+trap 'umount "$T/mount" 2>/dev/null; rm -rf "$T"' EXIT
+mounted() {
+    truncate -s 4M "$T/image" && mkdir "$T/mount" && mke2fs -q -F "$T/image" && mount -o loop "$T/image" "$T/mount"
+}
+if [ "$(id -u)" -ne 0 ] || ! mounted >/dev/null 2>&1; then
+    skip 'no image can be mounted here'
+else
+    cp samples/edition/adze.3ds "$T/mount"
+    sync
+    stick "$T/mount"
+    status_is 0
+    passes 1
+    # These words are in the first block of the adze; its length stands at its third byte.
+    place=$(LC_ALL=C grep -abo 'made by another house' "$T/image" | head -n 1 | cut -d : -f 1)
+    turn "$T/image" $((place / 1024 * 1024 + 2))
+    stick "$T/mount"
+    status_is 1
+    has out "$T/mount/adze.3ds: refused: "
+    umount "$T/mount"
+fi
+finish medium_test

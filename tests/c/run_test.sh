@@ -1,0 +1,94 @@
+#!/bin/sh
+# `make run`: the folder is one word whatever is in its name; quiet when nothing has changed; clear without the kit. The
+# kit's part is played by a script that hands out the library which is under test.
+# shellcheck source=tests/c/common.sh
+. tests/c/common.sh
+TDS_LIB=${TDS_LIB:-target/staticlib/libtds.a}
+lib=$(cd "$(dirname "$TDS_LIB")" && pwd)/$(basename "$TDS_LIB")
+tree=$T/tree
+mkdir -p "$tree/crates/tds/src" "$T/kit"
+touch -d '2001-01-01' "$tree/crates/tds/src/lib.rt" "$tree/crates.txt"
+ln -s "$PWD/Makefile" "$PWD/stick" "$PWD/include" "$PWD/samples" "$tree"
+cat >"$T/kit/rt" <<END
+#!/bin/sh
+echo "\$*" >>'$T/asked'
+mkdir -p target/staticlib
+cp '$lib' target/staticlib/libtds.a
+echo 'rt: tds proved'
+END
+chmod +x "$T/kit/rt"
+touch -d '2001-01-01' "$T/kit/rt" "$tree/crates/tds/src" "$tree/crates/tds" "$tree/crates"
+: >"$T/asked"
+mkdir "$T/my stick" "$T/it's"
+for name in 'my stick' "it's"; do triangle >"$T/$name/t.3ds"; done
+
+# The places for commands without the kit that may be on this machine.
+without=$(echo "$PATH" | tr ':' '\n' | while read -r place; do [ -x "$place/rt" ] || printf '%s:' "$place"; done)
+
+# make_run KIT ARGUMENTS...: make run in the tree, with the kit in this place.
+make_run() {
+    kit=$1
+    shift
+    (cd "$tree" && unset MAKEFLAGS MFLAGS MAKEOVERRIDES && PATH=$kit:$without && timeout 120 make --no-print-directory \
+        CFLAGS=-O0 CC="${CC:-cc}" TDS_LINK="${TDS_LINK:-}" TDS_LIB=target/staticlib/libtds.a BUILD=build run "$@") >"$T/out" 2>"$T/err"
+    status=$?
+}
+
+try 'without the kit and the library: one clear line'
+make_run /nowhere
+status_is 2
+lines out 0
+lines err 1
+has err 'The library must be built, and the Rattle kit is not here: install it so that "rt version" answers, then make again'
+
+try 'the first time the kit is asked'
+make_run "$T/kit"
+status_is 0
+has out 'rt: tds proved'
+has out 'PASS: 6 figures checked'
+asked() {
+    seen=$(wc -l <"$T/asked")
+    if [ "$seen" -eq "$1" ]; then pass; else fail "the kit was asked $seen times instead of $1"; fi
+}
+asked 1
+
+try 'nothing has changed: the kit is not asked, nothing is linked, and only the check speaks'
+make_run "$T/kit"
+status_is 0
+lines out 1
+lines err 0
+has out 'PASS: 6 figures checked'
+asked 1
+
+try 'the folder is one word'
+make_run "$T/kit" "STICK=$T/my stick"
+status_is 0
+has out 'PASS: 1 figure checked'
+make_run "$T/kit" "STICK=$T/it's"
+status_is 0
+has out 'PASS: 1 figure checked'
+make_run "$T/kit" 'STICK=x; echo hi'
+status_is 2
+has err 'stick: x; echo hi: not checked: there is no such file or folder'
+lines out 1
+# shellcheck disable=SC2016
+make_run "$T/kit" "STICK=\$(shell touch '$T/ran')\`touch '$T/ran'\`"
+status_is 2
+if [ -e "$T/ran" ]; then fail 'a name was run'; else pass; fi
+make_run "$T/kit" STICK=--help
+status_is 2
+has err 'stick: --help: not checked'
+
+try 'a source has changed'
+touch "$tree/crates/tds/src/lib.rt"
+make_run "$T/kit"
+status_is 0
+asked 2
+try 'a source has gone'
+touch -d '2001-01-01' "$tree/crates/tds/src/lib.rt"
+rm "$tree/crates/tds/src/lib.rt"
+make_run "$T/kit"
+asked 3
+make_run "$T/kit"
+asked 3
+finish run_test
