@@ -44,48 +44,61 @@ module _ (s : List ℕ) where
   pub file-too-long : limit < length s → ShutIs (broken (fileConditions s (lengthField s))) (Shut.Fault TooLong)
   file-too-long h = shut-is (some TooLong) _ (broken-here _ _ _ (lt-leb (length s) limit h)) refl
 
-  module _ (short : length s ≤ limit) where
+  pub file-too-short : length s ≤ limit → length s < 6 → ShutIs (broken (fileConditions s (lengthField s))) (Shut.Fault NotAFigure)
+  file-too-short short h = shut-is (some NotAFigure) _ (broken-later _ _ _ (le-leb (length s) limit short) ∙ broken-here _ _ _ (lt-leb 6 (length s) h)) refl
+
+  pub file-no-figure : length s ≤ limit → 6 ≤ length s → (id : ℕ) → id ≡ wordAt s 0 → (id ≡ 0x4D4D → ⊥) → ShutIs (broken (fileConditions s (lengthField s))) (Shut.Fault NotAFigure)
+  unfolding wordAt
+  file-no-figure short six id i h =
+      shut-is (some NotAFigure) _
+      (broken-later _ _ _ (le-leb (length s) limit short) ∙ broken-later _ _ _ (le-leb 6 (length s) six) ∙ broken-here _ _ _ (ne-eqb (value (take 2 s)) 0x4D4D (λ e. h (i ∙ e)))) refl
+
+  -- it begins with a 4D4D, whose length field is n
+  pub record Begun (n : ℕ) : Type 0 where
+    pub short : length s ≤ limit
+    pub six : 6 ≤ length s
+    pub is : wordAt s 0 ≡ 0x4D4D
+    pub n-is : n ≡ longAt s 2
+
+  module _ (n : ℕ) (b : Begun n) where
     p₁ : leb (length s) limit ≡ true
-    p₁ = le-leb (length s) limit short
+    p₁ = le-leb (length s) limit (b .short)
 
-    pub file-too-short : length s < 6 → ShutIs (broken (fileConditions s (lengthField s))) (Shut.Fault NotAFigure)
-    file-too-short h = shut-is (some NotAFigure) _ (broken-later _ _ _ p₁ ∙ broken-here _ _ _ (lt-leb 6 (length s) h)) refl
+    p₂ : leb 6 (length s) ≡ true
+    p₂ = le-leb 6 (length s) (b .six)
 
-    module _ (six : 6 ≤ length s) (id : ℕ) (i : id ≡ wordAt s 0) where
-      p₂ : leb 6 (length s) ≡ true
-      p₂ = le-leb 6 (length s) six
+    p₃ : eqb (value (take 2 s)) 0x4D4D ≡ true
+    unfolding wordAt
+    p₃ = eq-eqb (value (take 2 s)) 0x4D4D (b .is)
 
-      pub file-no-figure : (id ≡ 0x4D4D → ⊥) → ShutIs (broken (fileConditions s (lengthField s))) (Shut.Fault NotAFigure)
-      unfolding wordAt
-      file-no-figure h = shut-is (some NotAFigure) _ (broken-later _ _ _ p₁ ∙ broken-later _ _ _ p₂ ∙ broken-here _ _ _ (ne-eqb (value (take 2 s)) 0x4D4D (λ e. h (i ∙ e)))) refl
+    field : lengthField s ≡ n
+    unfolding longAt
+    field = sym (b .n-is)
 
-      module _ (is : id ≡ 0x4D4D) (n : ℕ) (e : n ≡ longAt s 2) where
-        p₃ : eqb (value (take 2 s)) 0x4D4D ≡ true
-        unfolding wordAt
-        p₃ = eq-eqb (value (take 2 s)) 0x4D4D (sym i ∙ is)
+    past : broken (fileConditions s (lengthField s)) ≡ broken (drop 3 (fileConditions s (lengthField s)))
+    past = broken-later _ _ _ p₁ ∙ broken-later _ _ _ p₂ ∙ broken-later _ _ _ p₃
 
-        field : lengthField s ≡ n
-        unfolding longAt
-        field = sym e
+    pub file-short : n < 6 → ShutIs (broken (fileConditions s (lengthField s))) (Shut.Fault (Short 0))
+    file-short h = shut-is (some (Short 0)) _ (past ∙ broken-here _ _ _ (rw field (lt-leb 6 n h))) refl
 
-        past : broken (fileConditions s (lengthField s)) ≡ broken (drop 3 (fileConditions s (lengthField s)))
-        past = broken-later _ _ _ p₁ ∙ broken-later _ _ _ p₂ ∙ broken-later _ _ _ p₃
+    module _ (m : 6 ≤ n) where
+      p₄ : leb 6 (lengthField s) ≡ true
+      p₄ = rw field (le-leb 6 n m)
 
-        pub file-short : n < 6 → ShutIs (broken (fileConditions s (lengthField s))) (Shut.Fault (Short 0))
-        file-short h = shut-is (some (Short 0)) _ (past ∙ broken-here _ _ _ (rw field (lt-leb 6 n h))) refl
+      pub file-overrun : length s < n → ShutIs (broken (fileConditions s (lengthField s))) (Shut.Fault (Overrun 0))
+      file-overrun h = shut-is (some (Overrun 0)) _ (past ∙ broken-later _ _ _ p₄ ∙ broken-here _ _ _ (rw field (lt-leb n (length s) h))) refl
 
-        pub file-overrun : 6 ≤ n → length s < n → ShutIs (broken (fileConditions s (lengthField s))) (Shut.Fault (Overrun 0))
-        file-overrun m h = shut-is (some (Overrun 0)) _ (past ∙ broken-later _ _ _ (rw field (le-leb 6 n m)) ∙ broken-here _ _ _ (rw field (lt-leb n (length s) h))) refl
+      module _ (l : n ≤ length s) where
+        p₅ : leb (lengthField s) (length s) ≡ true
+        p₅ = rw field (le-leb n (length s) l)
 
-        pub file-trailing : 6 ≤ n → n ≤ length s → n < length s → ShutIs (broken (fileConditions s (lengthField s))) (Shut.Fault (Trailing n))
-        file-trailing m l h =
+        pub file-trailing : n < length s → ShutIs (broken (fileConditions s (lengthField s))) (Shut.Fault (Trailing n))
+        file-trailing h =
             shut-is (some (Trailing n)) _
-            (past ∙ broken-later _ _ _ (rw field (le-leb 6 n m)) ∙ broken-later _ _ _ (rw field (le-leb n (length s) l)) ∙ broken-here _ _ _ (rw field (lt-leb (length s) n h)) ∙ ap (λ (k : ℕ). some (Trailing k)) field) refl
+            (past ∙ broken-later _ _ _ p₄ ∙ broken-later _ _ _ p₅ ∙ broken-here _ _ _ (rw field (lt-leb (length s) n h)) ∙ ap (λ (k : ℕ). some (Trailing k)) field) refl
 
-        pub file-fine : 6 ≤ n → n ≤ length s → length s ≤ n → ShutIs (broken (fileConditions s (lengthField s))) Shut.Fine
-        file-fine m l h =
-            shut-is none _
-            (unbroken _ (p₁, (p₂, (p₃, (rw field (le-leb 6 n m), (rw field (le-leb n (length s) l), (rw field (le-leb (length s) n h), tt))))))) refl
+        pub file-fine : length s ≤ n → ShutIs (broken (fileConditions s (lengthField s))) Shut.Fine
+        file-fine h = shut-is none _ (unbroken _ (p₁, (p₂, (p₃, (p₄, (p₅, (rw field (le-leb (length s) n h), tt))))))) refl
 
   -- ---- what follows of them
 

@@ -1,16 +1,39 @@
 -- The children of 4D4D were refused, or 4D4D is judged at its end.
-use mathlib.Core.Path.{refl, subst}
+use mathlib.Core.Path.{_≡_, refl, subst}
 use native.Mathlib.Omega.{arith}
 use borrow.Author.Needs.{needs}
-use mathlib.Core.List.{[]}
+use mathlib.Core.List.{List, []}
+use Prim.Native.Nat.{ℕ}
 use lib.ListN.{length}
+use lib.Seq.{slice}
+use Rattle.shared_words.specs.Bytes.{Bytes}
 use Rattle.shared_words.proofs.Bytes.{bytes-all}
-use Rattle.studio_rules.specs.Walk.{top}
+use Rattle.studio_rules.specs.Walk.{top, walk}
 use Rattle.studio_walk.specs.declared.Ran.{Ran}
-use Rattle.studio_walk.specs.Runs.{RunWithin}
-use Rattle.studio_check.proofs.Files.{figure-row, top-context, top-run, figure-refused, figure-shut, figure-accepted}
+use Rattle.studio_walk.specs.Runs.{RunIs, RunWithin}
+use Rattle.studio_marks.specs.Marks.{noMarks}
+use Rattle.studio_check.proofs.Files.{figure-row, told, top-context, top-run, figure-refused, figure-shut, figure-accepted}
 use Rattle.studio_check.proofs.check_figure.Statement.{statement}
 use Rattle.studio_check.proofs.check_figure.Tie as tie
+
+-- ---- the children of 4D4D have been read
+
+-- the file; the marks that they left
+abbrev file : tie.After-run → List ℕ
+file d = d .before .before .before .before .before .args .file .now
+
+abbrev left : tie.After-run → List ℕ
+left d = d .run .last .1 .1 .1 .1 .1 .1 .0
+
+are-bytes : (d : tie.After-run) → Bytes (file d)
+are-bytes d = bytes-all (file d) (λ i. omega (arith, d .before .before .before .before .shared-slice-known .given i))
+
+-- what they came to, said of the walk; and the bounds that it keeps
+came : (d : tie.After-run) {r : Ran} → d .run .result ≡ r → RunIs (length (file d)) 0 0 6 noMarks (walk (told (file d)) [] 6 (slice 6 (length (file d)) (file d))) r (left d)
+came d e = top-run (file d) _ figure-row (d .run .result) (left d) (d .run .ensures .0) e
+
+within : (d : tie.After-run) {r : Ran} → d .run .result ≡ r → RunWithin 6 (length (file d)) r
+within d e = subst (RunWithin 6 (length (file d))) e (d .run .ensures .1 .1)
 
 slots-requires : tie.Need-slots-requires
 slots-requires c κs = search needs
@@ -44,44 +67,40 @@ enum-told c = search needs
 
 add-counts : tie.Need-add-counts
 add-counts c =
-    let x = c .before .before .before .before .before .before .before .before .before .before .before .before .before in
-    let y = c .before .before .before .before .before .before .before .before .run in
-    let h = c .before .before .before .before .before .records .given in
-    let v : RunWithin 6 (length (x .args .file .now)) (Ran.Done (h .0 .0) (h .0 .1 .0) (h .0 .1 .1 .0)) = subst (RunWithin 6 (length (x .args .file .now))) (h .1) (y .ensures .1 .1) in
-    omega (arith, v, x .pre .1)
+    let d = c .before .before .before .before .before .before .before .before in
+    let x = d .before .before .before .before .before in
+    omega (arith, within d (c .before .before .before .before .before .records .given .1), x .pre .1)
 
 counts-requires : tie.Need-counts-requires
 counts-requires c κs =
-    let x = c .before .before .before .before .before .before .before .before .before .before .before .before .before in
-    let y = c .before .before .before .before .before .before .before .before .run in
-    let h = c .before .before .before .before .before .records .given in
-    let v : RunWithin 6 (length (x .args .file .now)) (Ran.Done (h .0 .0) (h .0 .1 .0) (h .0 .1 .1 .0)) = subst (RunWithin 6 (length (x .args .file .now))) (h .1) (y .ensures .1 .1) in
-    omega (arith, v, x .pre .0, x .pre .1)
+    let d = c .before .before .before .before .before .before .before .before in
+    let x = d .before .before .before .before .before in
+    omega (arith, within d (c .before .before .before .before .before .records .given .1), x .pre .0, x .pre .1)
 
 returns : tie.Need-returns
 returns c =
-    let x = c .before .before .before .before .before .before .before .before .before in
-    let y = c .before .before .before .before .run in
-    let b = bytes-all (x .args .file .now) (λ i. omega (arith, c .before .before .before .before .before .before .before .before .shared-slice-known .given i)) in
+    let d = c .before .before .before .before in
+    let x = d .before .before .before .before .before in
     let g = c .before .r .given in
-    figure-refused (x .args .file .now) b (x .pre .0) (x .pre .1) (y .last .1 .1 .1 .1 .1 .1 .0) (g .0 .0) (top-run (x .args .file .now) _ figure-row (y .result) (y .last .1 .1 .1 .1 .1 .1 .0) (y .ensures .0) (g .1))
+    figure-refused (file d) (are-bytes d) (x .pre .0) (x .pre .1) (left d) (g .0 .0) (came d (g .1))
 
 returns-2 : tie.Need-returns-2
 returns-2 c =
-    let x = c .before .before .before .before .before .before .before .before .before .before .before .before .before .before in
-    let y = c .before .before .before .before .before .before .before .before .before .run in
+    let d = c .before .before .before .before .before .before .before .before .before in
+    let x = d .before .before .before .before .before in
     let h = c .before .before .before .before .before .before .records .given in
-    let f = top-run (x .args .file .now) _ figure-row (y .result) (y .last .1 .1 .1 .1 .1 .1 .0) (y .ensures .0) (h .1) in
+    let e = c .before .before .before .at-end in
     let g = c .before .r2 .given in
-    figure-shut (x .args .file .now) (bytes-all (x .args .file .now) (λ i. omega (arith, c .before .before .before .before .before .before .before .before .before .before .before .before .before .shared-slice-known .given i))) (x .pre .0) (x .pre .1) (y .last .1 .1 .1 .1 .1 .1 .0) (h .0 .0) (h .0 .1 .0) (h .0 .1 .1 .0) f (c .before .before .before .at-end .result) (c .before .before .before .at-end .ensures) (g .0 .0) (g .1)
+    figure-shut (file d) (are-bytes d) (x .pre .0) (x .pre .1) (left d) (h .0 .0) (h .0 .1 .0) (h .0 .1 .1 .0) (came d (h .1)) (e .result) (e .ensures) (g .0 .0) (g .1)
 
 returns-3 : tie.Need-returns-3
 returns-3 c =
-    let x = c .before .before .before .before .before .before .before .before .before .before .before .before .before .before in
-    let y = c .before .before .before .before .before .before .before .before .before .run in
+    let d = c .before .before .before .before .before .before .before .before .before in
+    let x = d .before .before .before .before .before in
     let h = c .before .before .before .before .before .before .records .given in
-    let f = top-run (x .args .file .now) _ figure-row (y .result) (y .last .1 .1 .1 .1 .1 .1 .0) (y .ensures .0) (h .1) in
-    figure-accepted (x .args .file .now) (bytes-all (x .args .file .now) (λ i. omega (arith, c .before .before .before .before .before .before .before .before .before .before .before .before .before .shared-slice-known .given i))) (x .pre .0) (x .pre .1) (y .last .1 .1 .1 .1 .1 .1 .0) (h .0 .0) (h .0 .1 .0) (h .0 .1 .1 .0) f (c .before .before .before .at-end .result) (c .before .before .before .at-end .ensures) (c .before .enum-told .given .1) (c .counts .result) (c .counts .ensures)
+    let e = c .before .before .before .at-end in
+    figure-accepted (file d) (are-bytes d) (x .pre .0) (x .pre .1) (left d) (h .0 .0) (h .0 .1 .0) (h .0 .1 .1 .0) (came d (h .1)) (e .result) (e .ensures)
+    (c .before .enum-told .given .1) (c .counts .result) (c .counts .ensures)
 
 pub check-figure-spec : {M : Type 1} → statement M
 check-figure-spec =
