@@ -35,12 +35,23 @@ pub fn long_at(s: &[u8], at: usize) -> u32
         + 16777216 * byte_at(s, at + 3)
 }
 
-// Whether the float of these bits is neither infinite nor not a number: its eight exponent bits, above 23 fraction bits,
-// are not all ones.
+// A 32-bit float, from its highest bit down, in the format's own words (IEEE 754, binary32), in the definition (`exponent`,
+// `finite` of crate shared_words) and here:
+//   1 sign bit
+//   8 exponent bits     bits / 2 ^ 23 % 2 ^ 8     bits / ABOVE_FRACTION % EXPONENTS
+//   23 fraction bits
+// "eight ones": infinite or not a number     0b1111_1111     EIGHT_ONES
+const ABOVE_FRACTION: u32 = 0x80_0000;
+
+const EXPONENTS: u32 = 0x100;
+
+const EIGHT_ONES: u32 = 0xFF;
+
+// Whether the float of these bits is neither infinite nor not a number.
 pub fn is_finite(bits: u32) -> bool
     ensures { λ r. ⌜ r ≡ finite bits ⌝ }
 {
-    bits / 8388608 % 256 != 255
+    bits / ABOVE_FRACTION % EXPONENTS != EIGHT_ONES
 }
 
 // The float at a position, whose bits pass the test.

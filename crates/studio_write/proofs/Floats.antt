@@ -17,6 +17,7 @@ use Rattle.shared_words.proofs.Bools.{both, and-parts}
 use Rattle.studio_write_judge.specs.Judged.{finiteFloat}
 use Rattle.studio_write_bytes.proofs.Floats.{not-nan}
 use Rattle.studio_write.specs.ReadsBack.{Floats32}
+use Rattle.studio_write.specs.Finite.{SameTest}
 
 abbrev bits : Float → ℕ
 bits x = toBits binary32 x
@@ -42,7 +43,7 @@ not-all-ones s zero t h = odd-finite 24 s t 0 149
 not-all-ones s (suc x) t h = rw h (odd-finite 24 s (8388608 + t) x 149)
 
 -- a pattern and its float are finite together
-pub finite-float : (b : ℕ) → finiteFloat (float b) ≡ finite b
+pub finite-float : SameTest
 unfolding finite ofBits
 finite-float b = go (eqb (b / 8388608 % 256) 255) refl
   where
