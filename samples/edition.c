@@ -136,7 +136,8 @@ static void put_material(struct figure *figure, const char *name, const char *co
     close_chunk(figure);
 }
 
-/* A lamp and a camera, as objects of their own; what they are aimed at is 0. */
+/* A lamp and a camera, as objects of their own; what they are aimed at is 0. In the camera stands a
+ * private chunk, as a photographer's program leaves it: its near and its far range. */
 static void put_lights(struct figure *figure) {
     static const uint8_t zeros[32] = {0};
     open_chunk(figure, 0x4000);
@@ -150,7 +151,13 @@ static void put_lights(struct figure *figure) {
     close_chunk(figure);
     open_chunk(figure, 0x4000);
     put_name(figure, "camera");
-    put_chunk(figure, 0x4700, zeros, sizeof zeros);
+    open_chunk(figure, 0x4700);
+    put_bytes(figure, zeros, sizeof zeros);
+    open_chunk(figure, 0x4720);
+    put_float(figure, 0);
+    put_float(figure, 1000);
+    close_chunk(figure);
+    close_chunk(figure);
     close_chunk(figure);
 }
 

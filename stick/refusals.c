@@ -68,8 +68,7 @@ static const struct refusal table[] = {
     {TDS_LENGTH, "LENGTH", "a chunk is too long or too short for what it holds",
      "What a chunk holds says how long the chunk must be: three vertices take 38\n"
      "bytes, not 37 or 50. Mostly the length of this one, or the count inside it,\n"
-     "was damaged; some programs also put more into a camera than the rules allow.\n"
-     "The place is where the chunk begins.\n",
+     "was damaged. The place is where the chunk begins.\n",
      AGAIN, ADVICE},
     {TDS_NUMBER, "NUMBER", "a coordinate is infinite or not a number",
      "The coordinates of a vertex, or of its mapping, must be numbers that can be\n"

@@ -20,6 +20,7 @@ pub mod place {
     pub const H4120: u16 = 1 << 11;
     pub const H4600: u16 = 1 << 12;
     pub const H4610: u16 = 1 << 13;
+    pub const H4700: u16 = 1 << 14;
 
     /// Where a colour may stand.
     pub const COLOURED: u16 = H2100 | HA010 | HA020 | HA030 | H4600;
@@ -127,7 +128,7 @@ pub const fn row(identifier: u16) -> Option<&'static Row> {
         0x4651                                     => const { &under(H4610, Bytes(0)) },
         0x4653                                     => const { &under(H4610, Name) },
         0x4656                                     => const { &under(H4610, Bytes(4)) },
-        0x4700                                     => const { &under(H4000, Bytes(32)).once(1) },
+        0x4700                                     => const { &under(H4000, Bytes(32)).plus(H4700).once(1) },
         _ => return None,
     })
 }

@@ -8,14 +8,19 @@ const POINT: [f32; 3] = [0.0; 3];
 
 #[test]
 fn plus_rows_are_never_too_long() {
-    // Behind a camera's 32 bytes nothing may stand, behind a light's 12 children may.
+    // Behind a light's 12 bytes and a camera's 32 children may stand, in a camera only unlisted ones.
     let light = |body: &[u8]| figure(&[&chunk(0x4000, &[&[0], &chunk(0x4600, &[body])])]);
     assert_eq!(refusal(&light(&[0; 11])), (10, 19));
     assert_eq!(counts(&light(&[0; 12])).1, 13);
     assert_eq!(refusal(&light(&[0; 13])), (6, 37));
     let camera = |body: &[u8]| figure(&[&chunk(0x4000, &[&[0], &chunk(0x4700, &[body])])]);
     assert_eq!(refusal(&camera(&[0; 31])), (10, 19));
-    assert_eq!(refusal(&camera(&[0; 33])), (10, 19));
+    assert_eq!(counts(&camera(&[0; 32])).1, 33);
+    assert_eq!(refusal(&camera(&[0; 33])), (6, 57));
+    let holding = |identifier: u16| camera(&[&[0; 32][..], &chunk(identifier, &[&[1]])].concat());
+    assert_eq!(counts(&holding(0x4710)).2, 7);
+    assert_eq!(counts(&holding(0x4720)).2, 7);
+    assert_eq!(refusal(&holding(0x4620)), (7, 57));
     assert_eq!(refusal(&figure(&[&chunk(0x2100, &[&[0; 3]])])), (6, 18));
 }
 

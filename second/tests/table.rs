@@ -30,7 +30,7 @@ const PAPER: &str = "\
 | 4610 | 4600 | 20 + |
 | 4620 | 4600 | 0 |
 | 4651 / 4653 / 4656 | 4610 | 0 / name / 4 |
-| 4700 | 4000 | 32 |";
+| 4700 | 4000 | 32 + |";
 
 /// A row of the paper: identifier, parents, own data, whether "+".
 type Line = (u16, Vec<u16>, Own, bool);

@@ -1,8 +1,10 @@
--- Worked cases for the places where document 01 leaves room or where others have gone wrong: what is answered, and of
--- several faults which. One list under one statement, like P1 to P12.
+-- Worked cases for the places where document 01 leaves room or where others have gone wrong, and for the requests: what is
+-- answered, and of several faults which. One list under one statement, like P1 to P12. (More cases are run, not proved: the
+-- differ's named cases in second/.)
 use mathlib.Core.Path.{_≡_}
 use Prim.Native.Nat.{ℕ}
 use mathlib.Core.List.{List, [], _∷_, _++_, map}
+use lib.ListN.{replicate}
 use Rattle.shared_words.specs.Bytes.{le}
 use Rattle.studio_rules.specs.Layout.{Run, end, skip, known, figure, bytes}
 use Rattle.studio_rules.specs.Calls.{checkCall}
@@ -42,6 +44,10 @@ face corner kids = known 0x4120 (1 ∷ 0 ∷ corner ∷ 0 ∷ 0 ∷ 0 ∷ 0 ∷ 
 abbrev pub noPairs : Run
 noPairs = plain 0x4140 (0 ∷ 0 ∷ [])
 
+-- 4700 with so many bytes before its children
+abbrev pub camera : ℕ → Run → Run
+camera n kids = known 0x4700 (replicate n 0) kids end
+
 -- ---- the cases, and what is answered
 
 pub record Case : Type 0 where
@@ -55,33 +61,32 @@ abbrev pub cases : List Case
 cases =
     -- 7: a second 4D4D, under a chunk
     gives (scene end then plain 0x4D4D []) (no 7 12) ∷
-    -- 8 comes before 10: a second 0002, of wrong length; a first one is 10
+    -- 8 comes before 10: a second 0002, of wrong length
     gives (plain 0x0002 (0 ∷ 0 ∷ 0 ∷ 0 ∷ []) then plain 0x0002 [] then scene end) (no 8 16) ∷
-    gives (plain 0x0002 [] then scene end) (no 10 6) ∷
     -- 8: a mesh and a light in one object, taken together; two 4150 in one 4120
-    gives (scene (object (plain 0x4100 [] then plain 0x4600 (0 ∷ 0 ∷ 0 ∷ 0 ∷ 0 ∷ 0 ∷ 0 ∷ 0 ∷ 0 ∷ 0 ∷ 0 ∷ 0 ∷ [])))) (no 8 26) ∷
+    gives (scene (object (plain 0x4100 [] then plain 0x4600 (replicate 12 0)))) (no 8 26) ∷
     gives (scene (mesh (known 0x4120 (0 ∷ 0 ∷ []) (plain 0x4150 [] then plain 0x4150 []) end))) (no 8 40) ∷
-    -- 9: an object's name without its zero; a 4130 with an empty body
-    gives (scene (plain 0x4000 (0x41 ∷ []))) (no 9 12) ∷
+    -- 9: a 4130 with an empty body
     gives (scene (mesh (vertex 0 then face 0 (plain 0x4130 [])))) (no 9 62) ∷
     -- 10: a byte left over where no children may follow
     gives (scene (plain 0x1470 (0 ∷ []))) (no 10 12) ∷
-    -- 11: infinite; the largest finite number is accepted
+    -- 11: infinite
     gives (scene (mesh (vertex 0x7F80_0000))) (no 11 26) ∷
-    gives (scene (mesh (vertex 0x7F7F_FFFF))) (yes 30 16 0) ∷
-    -- 12: an entry of a 4130 that is f; it is met before the bad corner of the same 4120
-    gives (scene (mesh (vertex 0 then face 1 (plain 0x4130 (0x6D ∷ 0 ∷ 1 ∷ 0 ∷ 1 ∷ 0 ∷ []))))) (no 12 62) ∷
+    -- 12: the one entry of a 4130 is f, which is 2; it is met before the bad corner of the same 4120
+    gives (scene (mesh (vertex 0 then known 0x4120 (2 ∷ 0 ∷ 1 ∷ replicate 15 0) (plain 0x4130 (0x6D ∷ 0 ∷ 1 ∷ 0 ∷ 2 ∷ 0 ∷ [])) end))) (no 12 70) ∷
     -- 12: a corner in a second mesh; corners are judged at the mesh's end, so that 4110 may come after 4120
     gives (scene (mesh (vertex 0 then face 0 end) then mesh (face 1 end then vertex 0))) (no 12 76) ∷
-    gives (scene (mesh (face 0 end then vertex 0))) (yes 36 26 0) ∷
     -- 12 before 13, wherever the 4140 stands; 13
     gives (scene (mesh (noPairs then vertex 0 then face 1 end))) (no 12 54) ∷
     gives (scene (mesh (noPairs then vertex 0 then face 0 end))) (no 13 26) ∷
-    -- 14: a material without its name, met at its end, after a fault in its children
+    -- 14: a material without its name, met at its end
     gives (scene (known 0xAFFF [] (plain 0xA010 []) end)) (no 14 12) ∷
-    gives (scene (known 0xAFFF [] (known 0xA010 [] (plain 0x0011 []) end) end)) (no 10 24) ∷
     -- an unlisted chunk is skipped, whatever stands inside it
-    gives (skip 0x3E3D (0x4D ∷ 0x4D ∷ 0 ∷ []) end then scene end) (yes 12 0 9) ∷ []
+    gives (skip 0x3E3D (0x4D ∷ 0x4D ∷ 0 ∷ []) end then scene end) (yes 12 0 9) ∷
+    -- Q-1: a camera may hold unlisted chunks behind its 32 bytes; 10 only where it is too short; 6
+    gives (scene (object (camera 32 (skip 0x4720 (0 ∷ []) end)))) (yes 24 34 7) ∷
+    gives (scene (object (camera 31 end))) (no 10 20) ∷
+    gives (scene (object (camera 33 end))) (no 6 58) ∷ []
 
 abbrev pub answered : Case → Shown
 answered c = shown (checkCall (bytes (figure (c .kids))))

@@ -124,7 +124,7 @@ pub record Samples : Type 0 where
   pub p1-to-p12 : showAll answers ≡ papers
   pub p8-list : listIn (verdict triangle) ≡ triangleList
   pub p8-name : nameCall triangle 0 ≡ Named.At record { offset = 18; size = 1 }
-  pub p8-one-mesh : nameCall triangle 1 ≡ Named.Refused (NoSuchMesh 1)
+  pub p8-one-mesh : nameCall triangle 7 ≡ Named.Refused (NoSuchMesh 1)
   pub p8-box : boxCall triangle 0 ≡ Boxed.Around record { low = point 0 0; high = point one one } (point 0x3F00_0000 0x3F00_0000)
   pub p8-tables : tablesIn (verdict triangle) ≡ (0 ∷ 0 ∷ 0 ∷ one ∷ 0 ∷ 0 ∷ 0 ∷ one ∷ 0 ∷ [], 0 ∷ 1 ∷ 2 ∷ []) ∷ []
   pub p12-length : length p12 ≡ 96

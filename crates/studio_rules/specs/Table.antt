@@ -1,5 +1,5 @@
--- Document 01's chunk table, "at most one" and "at least one", as data. All that is said of one identifier is read
--- from here.
+-- The chunk table of document 01, with what document 02 changes in it, "at most one" and "at least one", as data. All that is
+-- said of one identifier is read from here.
 use Prim.Native.Nat.{ℕ}
 use mathlib.Core.Bool.{Bool, true, false, cond}
 use mathlib.Core.List.{List, [], _∷_}
@@ -69,7 +69,7 @@ rows =
     leaf (0x4651 ∷ []) (0x4610 ∷ []) (fixed 0) ∷
     leaf (0x4653 ∷ []) (0x4610 ∷ []) name ∷
     leaf (0x4656 ∷ []) (0x4610 ∷ []) (fixed 4) ∷
-    leaf (0x4700 ∷ []) (0x4000 ∷ []) (fixed 32) ∷ []
+    branch (0x4700 ∷ []) (0x4000 ∷ []) (fixed 32) ∷ []
 
 -- Identifiers taken together, among the children of a container.
 pub record Group : Type 0 where

@@ -184,6 +184,8 @@ fn soup(identifier: u16, depth: usize, random: &mut Random) -> Node {
         let inside = match random.below(20) {
             0 => random.pick(&LISTED),
             1 | 2 => unlisted(random),
+            // a camera may hold children, but none that are listed
+            _ if legal.is_empty() => unlisted(random),
             _ => random.pick(&legal),
         };
         let child = soup(inside, depth + 1, random);
