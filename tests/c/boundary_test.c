@@ -8,6 +8,7 @@
 #include <sys/mman.h>
 
 #include "cases.h"
+#include "mesh_cases.h"
 #include "slices.h"
 #include "tds.h"
 #include "writer_cases.h"
@@ -326,6 +327,7 @@ int main(void) {
     second_arena = arena_make(4096);
     each_case(try_case);
     each_case(try_huge_file);
+    try_meshes();
     try_writer();
     return finish("boundary_test");
 }

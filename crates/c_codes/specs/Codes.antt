@@ -1,4 +1,5 @@
--- An answer as document 01's one number for C. An answer proper is below 2^32, so it is never mistaken for a refusal.
+-- An answer as document 01's one number for C. An answer proper is below 2^32, so it is never mistaken for a refusal: crate
+-- claim_numbers proves it of every call.
 use Prim.Native.Nat.{ℕ, _+_, _-_, _*_, _^_, min}
 use Rattle.shared_words.specs.declared.Refusal.{Refusal}
 use Rattle.studio_rules.specs.declared.Checked.{Checked}

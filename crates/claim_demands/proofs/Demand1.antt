@@ -1,6 +1,6 @@
 -- Demand 1, of the calls. A call is a fold of the walk's answer, and each line of each fold accepts, or refuses and gives
--- back what was lent; every refusal has a number of the table.
-use mathlib.Core.Path.{refl}
+-- back what was lent; every refusal has a number of the table, and an answer is no two refusals.
+use mathlib.Core.Path.{_≡_, refl, sym, ap}
 use mathlib.Core.Bool.{Bool, true, false, cond}
 use mathlib.Core.List.{List}
 use mathlib.Core.Logic.{inl, inr}
@@ -27,16 +27,40 @@ use Rattle.studio_write_judge.specs.declared.Written.{Written}
 use Rattle.studio_write_judge.specs.declared.Written.the-variants.{Size, Refused}
 use Rattle.studio_write_judge.specs.Judged.{judged}
 use Rattle.studio_write.specs.Write.{writing, writeCall}
-use Rattle.claim_demands.specs.Demand1.{Answered, AnsweredOn, around, Demand1}
+use Rattle.shared_words.specs.Refusals.{codeOf}
+use Rattle.claim_demands.specs.Demand1.{RefusedWith, Answered, AnsweredOn, around, Demand1}
 
 -- ---- a refusal
 
-refuses : {X A : Type 0} (accept : X → A) (refuse : Refusal → A) (r : Refusal) → Answered accept refuse (refuse r)
-refuses accept refuse r = inr (r, refl, numbered r)
+-- an answer that is a refusal is no other one
+abbrev Apart : {A : Type 0} → (Refusal → A) → Type 0
+Apart refuse = (r q : Refusal) → refuse r ≡ refuse q → r ≡ q
 
-leaves : {X A R : Type 0} (accept : X → A) (refuse : Refusal → A) (lent : R) (r : Refusal) →
+with-code : {A : Type 0} (refuse : Refusal → A) → Apart refuse → (r : Refusal) → RefusedWith refuse (refuse r) (codeOf r)
+with-code refuse apart r =
+    record { refusal = r; is = refl; number-and-place = refl; no-other = λ q e. ap codeOf (sym (apart r q e)); of-table = numbered r }
+
+refuses : {X A : Type 0} (accept : X → A) (refuse : Refusal → A) → Apart refuse → (r : Refusal) → Answered accept refuse (refuse r)
+refuses accept refuse apart r = inr (codeOf r, with-code refuse apart r)
+
+leaves : {X A R : Type 0} (accept : X → A) (refuse : Refusal → A) → Apart refuse → (lent : R) (r : Refusal) →
     AnsweredOn accept refuse lent (leaving (refuse r) lent)
-leaves accept refuse lent r = inr (r, refl, numbered r)
+leaves accept refuse apart lent r = inr (codeOf r, with-code refuse apart r, refl)
+
+check-apart : Apart Checked.Refused
+check-apart r q e = cc
+
+tables-apart : Apart Tabled.Refused
+tables-apart r q e = cc
+
+name-apart : Apart Named.Refused
+name-apart r q e = cc
+
+box-apart : Apart Boxed.Refused
+box-apart r q e = cc
+
+write-apart : Apart Written.Refused
+write-apart r q e = cc
 
 -- ---- what holds of each line of a fold holds of the fold
 
@@ -56,14 +80,14 @@ by-mesh P refuse use-it of-refusal of-mesh mesh (accepted kids) = go (getElem? (
 -- ---- the folds
 
 checked : (a : Answer Run) → Answered Checked.Accepted Checked.Refused (checkOf a)
-checked (refused r) = refuses Checked.Accepted Checked.Refused r
+checked (refused r) = refuses Checked.Accepted Checked.Refused check-apart r
 checked (accepted kids) = inl (countsOf kids, refl)
 
 listed : {A : Type 0} (e : Encoding Record A) (row : List A) (a : Answer Run) → AnsweredOn Checked.Accepted Checked.Refused row (listOf e row a)
-listed e row (refused r) = leaves Checked.Accepted Checked.Refused row r
+listed e row (refused r) = leaves Checked.Accepted Checked.Refused check-apart row r
 listed e row (accepted kids) =
     by-test (AnsweredOn Checked.Accepted Checked.Refused row) (leb (recordCount (figure kids)) (e .room (length row)))
-    (inl (countsOf kids, refl)) (leaves Checked.Accepted Checked.Refused row (NoRoom (recordCount (figure kids))))
+    (inl (countsOf kids, refl)) (leaves Checked.Accepted Checked.Refused check-apart row (NoRoom (recordCount (figure kids))))
 
 tabled : {A B : Type 0} (e : Encoding ℕ A) (f : Encoding ℕ B) (rows : Rows A B) (m : Mesh) →
     AnsweredOn Tabled.Filled Tabled.Refused rows (tablesOf e f rows m)
@@ -71,14 +95,14 @@ tabled e f rows m =
     by-test (AnsweredOn Tabled.Filled Tabled.Refused rows) (leb (length (m .vertices)) (e .room (length (rows .vertices))))
     (by-test (AnsweredOn Tabled.Filled Tabled.Refused rows) (leb (length (m .corners)) (f .room (length (rows .corners))))
     (inl (record { vertices = m .vertexCount; faces = m .faceCount }, refl))
-    (leaves Tabled.Filled Tabled.Refused rows (NoRoom (length (m .corners)))))
-    (leaves Tabled.Filled Tabled.Refused rows (NoRoom (length (m .vertices))))
+    (leaves Tabled.Filled Tabled.Refused tables-apart rows (NoRoom (length (m .corners)))))
+    (leaves Tabled.Filled Tabled.Refused tables-apart rows (NoRoom (length (m .vertices))))
 
 boxed : (m : Mesh) → Answered around Boxed.Refused (aroundOf m)
-boxed m = by-test (Answered around Boxed.Refused) (eqb (m .vertexCount) 0) (refuses around Boxed.Refused Empty) (inl (_, refl))
+boxed m = by-test (Answered around Boxed.Refused) (eqb (m .vertexCount) 0) (refuses around Boxed.Refused box-apart Empty) (inl (_, refl))
 
 written : (file out : List ℕ) (w : Written) → AnsweredOn Size Refused out (writing file out w)
-written file out (Refused r) = leaves Size Refused out r
+written file out (Refused r) = leaves Size Refused write-apart out r
 written file out (Size size) = inl (size, refl)
 
 -- ---- the demand
@@ -90,10 +114,10 @@ demand1 = record {
   list = λ e s row. listed e row (verdict s);
   tables = λ e f s mesh rows.
       by-mesh (AnsweredOn Tabled.Filled Tabled.Refused rows) (λ r. leaving (Tabled.Refused r) rows) (tablesOf e f rows)
-      (leaves Tabled.Filled Tabled.Refused rows) (tabled e f rows) mesh (verdict s);
+      (leaves Tabled.Filled Tabled.Refused tables-apart rows) (tabled e f rows) mesh (verdict s);
   name = λ s mesh.
-      by-mesh (Answered Named.At Named.Refused) Named.Refused nameOf (refuses Named.At Named.Refused) (λ m. inl (_, refl)) mesh (verdict s);
+      by-mesh (Answered Named.At Named.Refused) Named.Refused nameOf (refuses Named.At Named.Refused name-apart) (λ m. inl (_, refl)) mesh (verdict s);
   box = λ s mesh.
-      by-mesh (Answered around Boxed.Refused) Boxed.Refused aroundOf (refuses around Boxed.Refused) boxed mesh (verdict s);
+      by-mesh (Answered around Boxed.Refused) Boxed.Refused aroundOf (refuses around Boxed.Refused box-apart) boxed mesh (verdict s);
   write = λ name vertices corners out. written _ out (judged name vertices corners (length out));
 }

@@ -14,21 +14,30 @@ use Rattle.studio_rules.specs.declared.Named.{Named}
 use Rattle.studio_rules.specs.declared.Boxed.{Boxed}
 use Rattle.studio_rules.specs.declared.Corner.{Corner}
 use Rattle.studio_rules.specs.declared.BoundingBox.{BoundingBox}
-use Rattle.shared_words.specs.Refusals.{numberOf, Numbered}
+use Rattle.shared_words.specs.Refusals.{Code, codeOf, Numbered}
 use Rattle.shared_words.specs.Encodings.{Encoding}
-use Rattle.shared_words.specs.Effects.{Effect, leaving}
+use Rattle.shared_words.specs.Effects.{Effect}
 use Rattle.studio_rules.specs.Calls.{checkCall, listCall, Rows, tablesCall, nameCall, boxCall}
 use Rattle.studio_write_judge.specs.declared.Written.{Written}
 use Rattle.studio_write.specs.Write.{writeCall}
 
--- an answer is accepted, or a refusal of the table
-abbrev pub Answered : {X A : Type 0} → (X → A) → (Refusal → A) → A → Type 0
-Answered {X} accept refuse a = ((x : X) × (a ≡ accept x)) ⊎ ((r : Refusal) × (a ≡ refuse r) × Numbered r (numberOf r))
+-- A REFUSAL WITH ONE NUMBER AND ONE PLACE: the answer is a refusal, c is its number and place, and the answer has no other;
+-- the number is of the table
+pub record RefusedWith {A : Type 0} (refuse : Refusal → A) (answer : A) (c : Code) : Type 0 where
+  pub refusal : Refusal
+  pub is : answer ≡ refuse refusal
+  pub number-and-place : c ≡ codeOf refusal
+  pub no-other : (r : Refusal) → answer ≡ refuse r → codeOf r ≡ c
+  pub of-table : Numbered refusal (c .number)
 
--- and where it is a refusal, what was lent is as it was
+-- an answer is accepted, or refused with one number and one place
+abbrev pub Answered : {X A : Type 0} → (X → A) → (Refusal → A) → A → Type 0
+Answered {X} accept refuse answer = ((x : X) × (answer ≡ accept x)) ⊎ ((c : Code) × RefusedWith refuse answer c)
+
+-- and where it is refused, what was lent is as it was
 abbrev pub AnsweredOn : {X A R : Type 0} → (X → A) → (Refusal → A) → R → Effect A R → Type 0
-AnsweredOn {X} accept refuse lent c =
-    ((x : X) × (c .answer ≡ accept x)) ⊎ ((r : Refusal) × (c ≡ leaving (refuse r) lent) × Numbered r (numberOf r))
+AnsweredOn {X} accept refuse lent e =
+    ((x : X) × (e .answer ≡ accept x)) ⊎ ((c : Code) × RefusedWith refuse (e .answer) c × (e .rows ≡ lent))
 
 -- a box and its centre, as one
 abbrev pub around : BoundingBox × Corner → Boxed

@@ -3,13 +3,14 @@
 use studio_rules::Checked;
 use studio_rules::Record;
 ghost use mathlib.Core.Path.{_≡_};
-ghost use Prim.Native.Nat.{_+_, _*_, _/_, _≤_};
+ghost use Prim.Native.Nat.{_+_, _*_, _≤_};
 ghost use lib.ListN.{length};
-ghost use Rattle.shared_words.specs.Encodings.{beside, plainRow};
+ghost use Rattle.shared_words.specs.Encodings.{beside};
 ghost use Rattle.studio_rules.specs.Encodings.{flatRecords};
 ghost use Rattle.shared_words.specs.Effects.{leaving};
 ghost use Rattle.studio_rules.specs.Calls.{listCall};
 ghost use Rattle.studio_list_table.specs.Numbers.{recordNo, taken};
+ghost use Rattle.studio_list_table.specs.Listed.{inTable, inRow};
 
 // The list into a flat row of which no more than `room` records are used.
 fn list_beside(file: &[u8], row: &mut [u32], room: usize) -> Checked
@@ -51,9 +52,9 @@ fn record_at(row: &[u32], i: usize) -> Record
 // The list of a figure's known chunks, in file order, into a lent table of records, by way of a lent flat row. Room is
 // what both have room for. A refusal leaves both as they were.
 pub fn list_records(file: &[u8], row: &mut [u32], table: &mut [Record]) -> Checked
-    ensures answer { λ r. ⌜ r ≡ listCall (beside (length (now (row .entry)) / 6) plainRow) (now (file .entry)) (now (table .entry)) .answer ⌝ }
-    ensures table { λ _. ⌜ now (table .exit) ≡ listCall (beside (length (now (row .entry)) / 6) plainRow) (now (file .entry)) (now (table .entry)) .rows ⌝ }
-    ensures row { λ _. ⌜ now (row .exit) ≡ listCall (beside (length (now (table .entry))) flatRecords) (now (file .entry)) (now (row .entry)) .rows ⌝ }
+    ensures answer { λ r. ⌜ r ≡ inTable (now (file .entry)) (now (row .entry)) (now (table .entry)) .answer ⌝ }
+    ensures table { λ _. ⌜ now (table .exit) ≡ inTable (now (file .entry)) (now (row .entry)) (now (table .entry)) .rows ⌝ }
+    ensures row { λ _. ⌜ now (row .exit) ≡ inRow (now (file .entry)) (now (row .entry)) (now (table .entry)) .rows ⌝ }
 {
     let listed = list_beside(file, row, table.len());
     let n = records_in(listed);

@@ -6,3 +6,4 @@ pub mod Box
 pub mod Around
 pub mod Middle
 pub mod FiniteBox
+pub mod Samples

@@ -1,3 +1,4 @@
 pub mod Vertices
 pub mod Around
 pub mod FiniteBox
+pub mod Samples

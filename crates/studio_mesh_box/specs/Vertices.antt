@@ -1,11 +1,19 @@
 -- A vertex in the file, and a box that grows by it.
+use mathlib.Core.Path.{_≡_}
+use mathlib.Core.Bool.{true}
 use mathlib.Core.List.{List}
-use Prim.Native.Nat.{ℕ, _+_}
+use Prim.Native.Nat.{ℕ, _+_, _≤_}
+use lib.ListN.{length}
 use Rattle.studio_rules.specs.declared.Corner.{Corner}
 use Rattle.studio_rules.specs.declared.BoundingBox.{BoundingBox}
-use Rattle.shared_words.specs.Floats.{float}
+use Rattle.shared_words.specs.Floats.{float, finite}
 use Rattle.studio_rules.specs.Box.{lesser, greater}
 use Rattle.shared_numbers.specs.Numbers.{longAt}
+
+-- three finite floats stand at a position
+abbrev pub IsVertex : List ℕ → ℕ → Type 0
+IsVertex s at =
+    (at + 12 ≤ length s) × (finite (longAt s at) ≡ true) × (finite (longAt s (at + 4)) ≡ true) × (finite (longAt s (at + 8)) ≡ true)
 
 -- the vertex whose three floats begin at a position
 unfoldable pub vertexAt : List ℕ → ℕ → Corner

@@ -10,12 +10,11 @@ ghost use Rattle.shared_words.specs.Bytes.{numbers};
 ghost use Rattle.shared_words.specs.Lists.{every};
 ghost use Rattle.shared_words.specs.Floats.{finite};
 ghost use Rattle.studio_rules.specs.Box.{lesser, greater, boxOf, middle, centreOf};
-ghost use Rattle.shared_numbers.specs.Numbers.{longAt};
-ghost use Rattle.studio_mesh_box.specs.Vertices.{vertexAt, widened};
+ghost use Rattle.studio_mesh_box.specs.Vertices.{IsVertex, vertexAt, widened};
 
 // The vertex at a position.
 fn vertex_at(s: &[u8], at: usize) -> Corner
-    requires { ⌜ (at + 12 ≤ length (now s)) × (finite (longAt (now s) at) ≡ true) × (finite (longAt (now s) (at + 4)) ≡ true) × (finite (longAt (now s) (at + 8)) ≡ true) ⌝ }
+    requires { ⌜ IsVertex (now s) at ⌝ }
     ensures { λ r. ⌜ r ≡ vertexAt (now (s .entry)) at ⌝ }
 {
     Corner {

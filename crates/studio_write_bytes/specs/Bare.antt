@@ -5,7 +5,7 @@ use mathlib.Core.List.{List, [], _∷_, _++_, map}
 use lib.ListN.{take, drop}
 use lib.Ieee.{Float, binary32, toBits}
 use Rattle.shared_words.specs.Bytes.{le, packed}
-use Rattle.studio_rules.specs.Layout.{Run, end, known}
+use Rattle.studio_rules.specs.Layout.{Run, end, known, figure, bytes}
 use Rattle.studio_write_judge.specs.Judged.{triples}
 
 -- ---- own data
@@ -41,3 +41,7 @@ sixChunks name vertices faces =
 -- A BARE FIGURE: the children of its 4D4D
 abbrev pub bare : List ℕ → List Float → List ℕ → Run
 bare name vertices corners = sixChunks (nameData name) (vertexData vertices) (faceData corners)
+
+-- its bytes
+abbrev pub bareBytes : List ℕ → List Float → List ℕ → List ℕ
+bareBytes name vertices corners = bytes (figure (bare name vertices corners))

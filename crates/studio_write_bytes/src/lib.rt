@@ -9,11 +9,11 @@ ghost use lib.Ieee.{binary32, toBits};
 ghost use lib.ListN.{length};
 ghost use Rattle.shared_words.specs.Lists.{every};
 ghost use Rattle.shared_words.specs.Bytes.{packed};
-ghost use Rattle.studio_rules.specs.Layout.{end, known, figure, header, bytes};
+ghost use Rattle.studio_rules.specs.Layout.{end, known, header, bytes};
 ghost use Rattle.shared_numbers.specs.Put.{Put};
 ghost use Rattle.studio_write_judge.specs.declared.Written.{Written};
 ghost use Rattle.studio_write_judge.specs.Judged.{triples, finiteFloat, judged};
-ghost use Rattle.studio_write_bytes.specs.Bare.{faceWords, nameData, vertexData, faceData, bare};
+ghost use Rattle.studio_write_bytes.specs.Bare.{faceWords, nameData, vertexData, faceData, bareBytes};
 
 // The header of a chunk.
 fn put_header(id: u16, len: usize, at: usize, out: &mut [u8]) -> usize
@@ -114,7 +114,7 @@ pub fn put_figure(
     out: &mut [u8],
 ) -> usize
     requires { ⌜ judged (now name) (now vertices) (now corners) (length (now out)) ≡ Written.Size size ⌝ }
-    ensures { λ r. ⌜ Put (now (out .entry)) 0 (bytes (figure (bare (now (name .entry)) (now (vertices .entry)) (now (corners .entry))))) (now (out .exit)) r ⌝ }
+    ensures { λ r. ⌜ Put (now (out .entry)) 0 (bareBytes (now (name .entry)) (now (vertices .entry)) (now (corners .entry))) (now (out .exit)) r ⌝ }
 {
     let scene = put_header(0x4D4D, size, 0, out);
     let object = put_header(0x3D3D, size - scene, scene, out);

@@ -32,12 +32,28 @@ put-byte-requires-4 c κs = search needs
 same-length : tie.Need-same-length
 same-length c = search needs
 
+-- ---- the places: from the last digit that is put back to each
+
+abbrev third : tie.After-put-byte4 → tie.After-put-byte3
+third c = c .before .before .before .before .before
+
+abbrev second : tie.After-put-byte4 → tie.After-put-byte2
+second c = third c .before .before .before .before .before
+
+abbrev first : tie.After-put-byte4 → tie.After-put-byte
+first c = second c .before .before .before .before .before
+
 returns : tie.Need-returns
 returns c =
-    rw (← (c .before .before .before .before .before .before .before .before .before .before .before .before .before .before .before .before .before .before .before .digit .ensures), ← (c .before .before .before .before .before .before .before .before .before .before .before .before .before .before .digit2 .ensures), ← (c .before .before .before .before .before .before .before .before .before .digit3 .ensures), ← (c .before .before .before .before .digit4 .ensures))
-    (put-then (omega arith) (c .before .before .before .before .before .before .before .before .before .before .before .before .before .before .before .before .before .put-byte .ensures)
-    (put-then (omega arith) (c .before .before .before .before .before .before .before .before .before .before .before .before .put-byte2 .ensures)
-    (put-then (omega arith) (c .before .before .before .before .before .before .before .put-byte3 .ensures) (c .before .before .put-byte4 .ensures))))
+    rw (
+      ← (first (c .before .before) .before .before .digit .ensures),
+      ← (second (c .before .before) .before .before .digit2 .ensures),
+      ← (third (c .before .before) .before .before .digit3 .ensures),
+      ← (c .before .before .before .before .digit4 .ensures),
+    )
+    (put-then (omega arith) (first (c .before .before) .put-byte .ensures)
+    (put-then (omega arith) (second (c .before .before) .put-byte2 .ensures)
+    (put-then (omega arith) (third (c .before .before) .put-byte3 .ensures) (c .before .before .put-byte4 .ensures))))
 
 pub put-four-digits-spec : {M : Type 1} → statement M
 put-four-digits-spec =

@@ -17,31 +17,51 @@ use Rattle.studio_write_judge.proofs.Judged.{met-more, whole-row, refus
 use Rattle.studio_write_judge.proofs.judge.Statement.{statement}
 use Rattle.studio_write_judge.proofs.judge.Tie as tie
 
+-- ---- the places: past each test, from the function's start
+
+abbrev start-1 : tie.Else1 → tie.Start
+start-1 c = c .before .before .before .before .before
+
+abbrev start-2 : tie.Else2 → tie.Start
+start-2 c = start-1 (c .before .before)
+
+abbrev start-3 : tie.Else3 → tie.Start
+start-3 c = start-2 (c .before .before)
+
+abbrev start-4 : tie.Else4 → tie.Start
+start-4 c = start-3 (c .before .before)
+
+abbrev start-5 : tie.Else5 → tie.Start
+start-5 c = start-4 (c .before .before)
+
+abbrev start-6 : tie.Else6 → tie.Start
+start-6 c = start-5 (c .before)
+
 -- ---- past each test, one condition more holds
 
 abbrev conditions : tie.Start → List Condition
 conditions s = writeConditions (s .args .name .now) (s .args .vertices .now) (s .args .corners .now) (s .args .room)
 
-held-1 : (c : tie.Else1) → Met (take 1 (conditions (c .before .before .before .before .before)))
+held-1 : (c : tie.Else1) → Met (take 1 (conditions (start-1 c)))
 held-1 c = (every-good notZero _ (omega arith), tt)
 
-held-2 : (c : tie.Else2) → Met (take 2 (conditions (c .before .before .before .before .before .before .before)))
-held-2 c = met-more 1 (conditions (c .before .before .before .before .before .before .before)) (held-1 (c .before .before)) refl (sym (c .before .whole-row .ensures) ∙ not-false _ (c .if2 .left))
+held-2 : (c : tie.Else2) → Met (take 2 (conditions (start-2 c)))
+held-2 c = met-more 1 (conditions (start-2 c)) (held-1 (c .before .before)) refl (sym (c .before .whole-row .ensures) ∙ not-false _ (c .if2 .left))
 
-held-3 : (c : tie.Else3) → Met (take 3 (conditions (c .before .before .before .before .before .before .before .before .before)))
-held-3 c = met-more 2 (conditions (c .before .before .before .before .before .before .before .before .before)) (held-2 (c .before .before)) refl (sym (c .before .whole-row2 .ensures) ∙ not-false _ (c .if3 .left))
+held-3 : (c : tie.Else3) → Met (take 3 (conditions (start-3 c)))
+held-3 c = met-more 2 (conditions (start-3 c)) (held-2 (c .before .before)) refl (sym (c .before .whole-row2 .ensures) ∙ not-false _ (c .if3 .left))
 
-held-4 : (c : tie.Else4) → Met (take 4 (conditions (c .before .before .before .before .before .before .before .before .before .before .before)))
-held-4 c = met-more 3 (conditions (c .before .before .before .before .before .before .before .before .before .before .before)) (held-3 (c .before .before)) refl (sym (c .before .all-finite .ensures) ∙ not-false _ (c .if4 .left))
+held-4 : (c : tie.Else4) → Met (take 4 (conditions (start-4 c)))
+held-4 c = met-more 3 (conditions (start-4 c)) (held-3 (c .before .before)) refl (sym (c .before .all-finite .ensures) ∙ not-false _ (c .if4 .left))
 
-held-5 : (c : tie.Else5) → Met (take 5 (conditions (c .before .before .before .before .before .before .before .before .before .before .before .before .before)))
-held-5 c = met-more 4 (conditions (c .before .before .before .before .before .before .before .before .before .before .before .before .before)) (held-4 (c .before .before)) refl (sym (c .before .all-below .ensures) ∙ not-false _ (c .if5 .left))
+held-5 : (c : tie.Else5) → Met (take 5 (conditions (start-5 c)))
+held-5 c = met-more 4 (conditions (start-5 c)) (held-4 (c .before .before)) refl (sym (c .before .all-below .ensures) ∙ not-false _ (c .if5 .left))
 
-held-6 : (c : tie.Else6) → Met (take 6 (conditions (c .before .before .before .before .before .before .before .before .before .before .before .before .before .before)))
-held-6 c = met-more 5 (conditions (c .before .before .before .before .before .before .before .before .before .before .before .before .before .before)) (held-5 (c .before)) refl (le-leb _ _ (c .if6 .left))
+held-6 : (c : tie.Else6) → Met (take 6 (conditions (start-6 c)))
+held-6 c = met-more 5 (conditions (start-6 c)) (held-5 (c .before)) refl (le-leb _ _ (c .if6 .left))
 
 -- the lengths of the rows, where the size is summed up
-short : (c : tie.Else5) → (length (c .before .before .before .before .before .before .before .before .before .before .before .before .before .args .vertices .now) ≤ 196_605) × (length (c .before .before .before .before .before .before .before .before .before .before .before .before .before .args .corners .now) ≤ 196_605)
+short : (c : tie.Else5) → (length (start-5 c .args .vertices .now) ≤ 196_605) × (length (start-5 c .args .corners .now) ≤ 196_605)
 short c =
     let m = held-5 c in
     (whole-row _ (m .1 .0) .1, whole-row _ (m .1 .1 .0) .1)
@@ -82,7 +102,7 @@ returns-4 c =
 
 cast-all-below : tie.Need-cast-all-below
 cast-all-below c =
-    let n = length (c .before .before .before .before .before .before .before .before .before .before .before .args .vertices .now) in
+    let n = length (start-4 c .args .vertices .now) in
     let s : n ≤ 196_605 = whole-row n (held-4 c .1 .0) .1 in
     let d : n / 3 < 65_536 = omega arith in
     record { fits = d }
@@ -121,8 +141,7 @@ returns-7 c = refused-at _ _ _ _ 6 (held-6 (c .before)) refl (lt-leb _ _ (c .if7
 
 returns-8 : tie.Need-returns-8
 returns-8 c =
-    let s = c .before .before .before .before .before .before .before .before .before .before .before .before .before .before .before in
-    sized _ _ _ _ (met-more 6 (conditions s) (held-6 (c .before)) refl (le-leb _ _ (c .if7 .left)))
+    sized _ _ _ _ (met-more 6 (conditions (start-6 (c .before))) (held-6 (c .before)) refl (le-leb _ _ (c .if7 .left)))
 
 pub judge-spec : {M : Type 1} → statement M
 judge-spec =

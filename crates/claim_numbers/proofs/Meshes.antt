@@ -1,0 +1,122 @@
+-- The numbers of a layout: its records and meshes are few, and of a mesh the counts are two bytes long.
+use mathlib.Core.Path.{_≡_, refl}
+use Prim.Native.Nat.{ℕ, zero, suc, _+_, _-_, _*_, _≤_, _<_}
+use native.Mathlib.Omega.{arith}
+use mathlib.Core.Bool.{Bool, true, false, cond}
+use mathlib.Core.List.{List, [], _∷_, _++_}
+use mathlib.Core.Option.{Option, none, some}
+use lib.Dec.{eqb}
+use lib.ListN.{length, length-append, drop, getElem?}
+use Rattle.shared_words.specs.Bytes.{Bytes}
+use Rattle.shared_words.proofs.Bytes.{word-small}
+use Rattle.shared_words.proofs.Numbers.{length-numbers}
+use Rattle.studio_rules.specs.Layout.{Run, end, skip, known, size, header, bytes, child}
+use Rattle.studio_rules.specs.OwnData.{count}
+use Rattle.studio_rules.specs.Gives.{recordCount, Mesh, meshOf, oneMesh, meshesOf}
+use Rattle.studio_rules.proofs.Corners.{length-corners}
+
+-- ---- how many
+
+pub records-few : (t : Run) → 6 * recordCount t ≤ size t
+records-few end = omega arith
+records-few (skip id body rest) = omega (arith, records-few rest)
+records-few (known id own kids rest) = omega (arith, records-few kids, records-few rest)
+
+one-few : (b : Bool) (m : Mesh) → length (oneMesh b m) ≤ 1
+one-few true m = omega arith
+one-few false m = omega arith
+
+pub meshes-few : (o at l : ℕ) (t : Run) → length (meshesOf o at l t) ≤ recordCount t
+meshes-few o at l end = omega arith
+meshes-few o at l (skip id body rest) = meshes-few (o + (6 + length body)) at l rest
+meshes-few o at l (known id own kids rest) =
+    let one = oneMesh (eqb id 0x4100) (meshOf at l kids) in
+    let below = meshesOf (o + (6 + length own)) (o + 6) (length own - 1) kids in
+    let behind = meshesOf (o + (6 + length own + size kids)) at l rest in
+    omega (
+      arith,
+      length-append one (below ++ behind),
+      length-append below behind,
+      one-few (eqb id 0x4100) (meshOf at l kids),
+      meshes-few (o + (6 + length own)) (o + 6) (length own - 1) kids,
+      meshes-few (o + (6 + length own + size kids)) at l rest,
+    )
+
+-- ---- the counts of a mesh
+
+pub record Small (m : Mesh) : Type 0 where
+  pub vertices : m .vertexCount < 65_536
+  pub faces : m .faceCount < 65_536
+  pub vertex-numbers : length (m .vertices) ≡ 3 * m .vertexCount
+  pub corner-numbers : length (m .corners) ≡ 3 * m .faceCount
+
+abbrev pub AllSmall : List Mesh → Type 0
+AllSmall [] = Unit
+AllSmall (m ∷ ms) = Small m × AllSmall ms
+
+small-append : (ms ns : List Mesh) → AllSmall ms → AllSmall ns → AllSmall (ms ++ ns)
+small-append [] ns h k = k
+small-append (m ∷ ms) ns h k = (h .0, small-append ms ns (h .1) k)
+
+abbrev pub SmallAt : Option Mesh → Type 0
+SmallAt none = Unit
+SmallAt (some m) = Small m
+
+pub small-at : (ms : List Mesh) (k : ℕ) → AllSmall ms → SmallAt (getElem? ms k)
+small-at [] k h = tt
+small-at (m ∷ ms) zero h = h .0
+small-at (m ∷ ms) (suc k) h = small-at ms k (h .1)
+
+bytes-first : (xs ys : List ℕ) → Bytes (xs ++ ys) → Bytes xs
+bytes-first [] ys h = tt
+bytes-first (x ∷ xs) ys h = (h .0, bytes-first xs ys (h .1))
+
+bytes-behind : (xs ys : List ℕ) → Bytes (xs ++ ys) → Bytes ys
+bytes-behind [] ys h = h
+bytes-behind (x ∷ xs) ys h = bytes-behind xs ys (h .1)
+
+-- the three parts of a known chunk's bytes
+record Parts (own : List ℕ) (kids rest : Run) : Type 0 where
+  own-bytes : Bytes own
+  kids-bytes : Bytes (bytes kids)
+  rest-bytes : Bytes (bytes rest)
+
+parts : (id : ℕ) (own : List ℕ) (kids rest : Run) → Bytes (bytes (known id own kids rest)) → Parts own kids rest
+parts id own kids rest b =
+    let c = bytes-behind (header id (6 + length own + size kids)) (own ++ (bytes kids ++ bytes rest)) b in
+    let d = bytes-behind own (bytes kids ++ bytes rest) c in
+    record { own-bytes = bytes-first own (bytes kids ++ bytes rest) c; kids-bytes = bytes-first (bytes kids) (bytes rest) d; rest-bytes = bytes-behind (bytes kids) (bytes rest) d }
+
+child-bytes : (x : ℕ) (t : Run) → Bytes (bytes t) → Bytes (child x t)
+child-bytes x end b = tt
+child-bytes x (skip id body rest) b =
+    child-bytes x rest (bytes-behind body (bytes rest) (bytes-behind (header id (6 + length body)) (body ++ bytes rest) b))
+child-bytes x (known id own kids rest) b = go (eqb id x) own (child x rest) (parts id own kids rest b .own-bytes) (child-bytes x rest (parts id own kids rest b .rest-bytes))
+  where
+    go : (e : Bool) (xs ys : List ℕ) → Bytes xs → Bytes ys → Bytes (cond e xs ys)
+    go true xs ys h k = h
+    go false xs ys h k = k
+
+mesh-small : (at l : ℕ) (kids : Run) → Bytes (bytes kids) → Small (meshOf at l kids)
+mesh-small at l kids b =
+    record {
+      vertices = word-small (child 0x4110 kids) (child-bytes 0x4110 kids b);
+      faces = word-small (child 0x4120 kids) (child-bytes 0x4120 kids b);
+      vertex-numbers = length-numbers 4 (3 * count (child 0x4110 kids)) (drop 2 (child 0x4110 kids));
+      corner-numbers = length-corners (count (child 0x4120 kids)) (drop 2 (child 0x4120 kids));
+    }
+
+one-small : (b : Bool) (m : Mesh) → Small m → AllSmall (oneMesh b m)
+one-small true m h = (h, tt)
+one-small false m h = tt
+
+pub meshes-small : (o at l : ℕ) (t : Run) → Bytes (bytes t) → AllSmall (meshesOf o at l t)
+meshes-small o at l end b = tt
+meshes-small o at l (skip id body rest) b =
+    meshes-small (o + (6 + length body)) at l rest (bytes-behind body (bytes rest) (bytes-behind (header id (6 + length body)) (body ++ bytes rest) b))
+meshes-small o at l (known id own kids rest) b =
+    let p = parts id own kids rest b in
+    small-append (oneMesh (eqb id 0x4100) (meshOf at l kids)) _ (one-small (eqb id 0x4100) _ (mesh-small at l kids (p .kids-bytes)))
+    (small-append (meshesOf (o + (6 + length own)) (o + 6) (length own - 1) kids) _
+    (meshes-small (o + (6 + length own)) (o + 6) (length own - 1) kids (p .kids-bytes))
+    (meshes-small (o + (6 + length own + size kids)) at l rest (p .rest-bytes)))

@@ -1,0 +1,160 @@
+-- What C is told: the bounds on what is accepted make an answer proper, and those on places let a refusal be read off.
+use mathlib.Core.Path.{_≡_, refl, sym, subst, _∙_}
+use mathlib.Core.Logic.{inl, inr}
+use mathlib.Core.Bool.{Bool, true, false, cond}
+use mathlib.Core.List.{List, [], _∷_, map}
+use mathlib.Core.Option.{Option, none, some}
+use Prim.Native.Nat.{ℕ, _+_, _-_, _*_, _/_, _%_, _≤_, _<_, _^_, min}
+use native.Mathlib.Omega.{arith}
+use lib.Dec.{eqb, leb}
+use lib.Ieee.{Float, binary32, toBits}
+use lib.ListN.{length, getElem?}
+use borrow.Author.Tests.{leb-true}
+use Rattle.shared_words.specs.declared.Refusal.{Refusal}
+use Rattle.shared_words.specs.declared.Refusal.the-variants.{NoRoom, NoSuchMesh, Empty}
+use Rattle.shared_words.specs.Refusals.{numberOf, placeOf}
+use Rattle.shared_words.specs.Bytes.{Bytes}
+use Rattle.shared_words.specs.Conditions.{Answer, refused, accepted, broken}
+use Rattle.shared_words.specs.Effects.{Effect, leaving}
+use Rattle.shared_words.specs.Encodings.{Encoding}
+use Rattle.shared_words.proofs.Conditions.{met}
+use Rattle.studio_rules.specs.declared.Record.{Record}
+use Rattle.studio_rules.specs.declared.Checked.{Checked}
+use Rattle.studio_rules.specs.declared.Tabled.{Tabled}
+use Rattle.studio_rules.specs.declared.Named.{Named}
+use Rattle.studio_rules.specs.declared.Boxed.{Boxed}
+use Rattle.studio_rules.specs.Layout.{Run, figure}
+use Rattle.studio_rules.specs.Rules.{limit}
+use Rattle.studio_rules.specs.Walk.{verdict}
+use Rattle.studio_rules.specs.Gives.{recordCount, headers, owned, skipped, Mesh, meshes}
+use Rattle.studio_rules.specs.Box.{boxOf, centreOf}
+use Rattle.studio_rules.specs.Calls.{checkOf, checkCall, listOf, listCall, pickMesh, ofMesh, Rows, tablesOf, tablesCall, nameOf, nameCall, aroundOf, boxCall}
+use Rattle.studio_rules.proofs.Verdict.{accepted-exactly}
+use Rattle.studio_write_judge.specs.declared.Written.{Written}
+use Rattle.studio_write_judge.specs.Judged.{figureSize, writeConditions, answerOf, judged}
+use Rattle.studio_write.specs.Write.{writing, writeCall}
+use Rattle.c_codes.specs.Codes.{refusalCode, recordsOr, sizesOr, sizeOr}
+use Rattle.c_answers.specs.Given.{given, nine, countsGiven, nameGiven, boxGiven}
+use Rattle.claim_numbers.specs.Told.{Proper, Tells, TellsCapped, CheckTold, TablesTold, WriteTold, Gives, CountsTold, NameTold, BoxTold, Told}
+use Rattle.claim_numbers.proofs.Places.{Within, verdict-within}
+use Rattle.claim_numbers.proofs.Meshes.{records-few, meshes-few, Small, SmallAt, small-at, meshes-small}
+
+-- ---- a refusal
+
+number-off : (a p : ℕ) → p < 2 ^ 32 → (a * 2 ^ 32 + p) / 2 ^ 32 ≡ a
+number-off a p h = omega arith
+
+place-off : (a p : ℕ) → p < 2 ^ 32 → (a * 2 ^ 32 + p) % 2 ^ 32 ≡ p
+place-off a p h = omega arith
+
+capped : (r : Refusal) → TellsCapped r (refusalCode r)
+capped r =
+    record {
+      number = number-off (numberOf r) (min (placeOf r) (2 ^ 32 - 1)) (omega arith);
+      place = place-off (numberOf r) (min (placeOf r) (2 ^ 32 - 1)) (omega arith);
+    }
+
+tells : (r : Refusal) → placeOf r ≤ limit → Tells r (refusalCode r)
+tells r h =
+    let m : min (placeOf r) (2 ^ 32 - 1) ≡ placeOf r = omega arith in
+    record { number = capped r .number; place = capped r .place ∙ m }
+
+-- ---- what holds of both branches of a test
+
+by-test : {A : Type 0} (P : A → Type 0) (b : Bool) {x y : A} → P x → P y → P (cond b x y)
+by-test P true p q = p
+by-test P false p q = q
+
+-- ---- the check and the list
+
+records-told : (a : Answer Run) → Within a → CheckTold (checkOf a) (recordsOr (checkOf a))
+records-told (refused r) h = tells r h
+records-told (accepted kids) h = omega (arith, records-few (figure kids))
+
+list-told : {A : Type 0} (e : Encoding Record A) (row : List A) (a : Answer Run) → Within a →
+    CheckTold (listOf e row a .answer) (recordsOr (listOf e row a .answer))
+list-told e row (refused r) h = tells r h
+list-told {A} e row (accepted kids) h =
+    by-test (λ (x : Effect Checked (List A)). CheckTold (x .answer) (recordsOr (x .answer))) (leb (recordCount (figure kids)) (e .room (length row)))
+    (omega (arith, records-few (figure kids))) (tells (NoRoom (recordCount (figure kids))) (omega (arith, records-few (figure kids))))
+
+-- ---- one mesh
+
+-- the mesh that is asked for, or its number refused
+mesh-told : {A : Type 0} (P : A → Type 0) (refuse : Refusal → A) (use-it : Mesh → A) → ((r : Refusal) → placeOf r ≤ limit → P (refuse r)) →
+    (mesh : ℕ) (a : Answer Run) → Within a →
+    ((kids : Run) → a ≡ accepted kids → (m : Mesh) → getElem? (meshes kids) mesh ≡ some m → P (use-it m)) → P (ofMesh refuse use-it mesh a)
+mesh-told P refuse use-it of-refusal mesh (refused r) h of-mesh = of-refusal r h
+mesh-told P refuse use-it of-refusal mesh (accepted kids) h of-mesh = go (getElem? (meshes kids) mesh) refl
+  where
+    go : (x : Option Mesh) → getElem? (meshes kids) mesh ≡ x → P (pickMesh refuse use-it (length (meshes kids)) x)
+    go none e = of-refusal (NoSuchMesh (length (meshes kids))) (omega (arith, meshes-few 0 0 0 (figure kids), records-few (figure kids)))
+    go (some m) e = of-mesh kids refl m e
+
+small-mesh : (s : List ℕ) → Bytes s → (mesh : ℕ) (kids : Run) → verdict s ≡ accepted kids → (m : Mesh) → getElem? (meshes kids) mesh ≡ some m → Small m
+small-mesh s b mesh kids v m e =
+    let w = accepted-exactly s b kids .0 v in
+    let all = small-at (meshes kids) mesh (meshes-small 0 0 0 (figure kids) (subst Bytes (sym (w .is)) b)) in
+    rw e at all
+
+tables-told : {A B : Type 0} (e : Encoding ℕ A) (f : Encoding ℕ B) (rows : Rows A B) (m : Mesh) → Small m →
+    TablesTold (tablesOf e f rows m .answer) (sizesOr (tablesOf e f rows m .answer))
+tables-told {A} {B} e f rows m h =
+    let v = h .vertex-numbers in
+    let c = h .corner-numbers in
+    by-test (λ (x : Effect Tabled (Rows A B)). TablesTold (x .answer) (sizesOr (x .answer))) (leb (length (m .vertices)) (e .room (length (rows .vertices))))
+    (by-test (λ (x : Effect Tabled (Rows A B)). TablesTold (x .answer) (sizesOr (x .answer))) (leb (length (m .corners)) (f .room (length (rows .corners))))
+    (omega arith) (tells (NoRoom (length (m .corners))) (omega arith)))
+    (tells (NoRoom (length (m .vertices))) (omega arith))
+
+-- ---- a few numbers given out
+
+few-told : (out ns : List ℕ) → length ns ≤ 9 → Gives (length ns) (given out ns .answer)
+few-told out ns h =
+    by-test (λ (x : Effect ℕ (List ℕ)). Gives (length ns) (x .answer)) (leb (length ns) (length out / 4)) (inl refl) (inr (tells (NoRoom (length ns)) (omega arith)))
+
+counts-told : (out : List ℕ) (a : Answer Run) → Within a → CountsTold (checkOf a) (countsGiven out (checkOf a) .answer)
+counts-told out (refused r) h = tells r h
+counts-told out (accepted kids) h =
+    few-told out (headers (figure kids) ∷ owned (figure kids) ∷ skipped (figure kids) ∷ []) (omega arith)
+
+box-told : (out : List ℕ) (m : Mesh) → BoxTold (aroundOf m) (boxGiven out (aroundOf m) .answer)
+box-told out m =
+    let b = boxOf (m .vertexCount) (m .vertices) in
+    by-test (λ (x : Boxed). BoxTold x (boxGiven out x .answer)) (eqb (m .vertexCount) 0) (tells Empty (omega arith))
+    (few-told out (map (toBits binary32) (nine (b .low) (b .high) (centreOf b))) (omega arith))
+
+-- ---- the writer
+
+write-told : (name : List ℕ) (vertices : List Float) (corners out file : List ℕ) →
+    WriteTold (writing file out (judged name vertices corners (length out)) .answer) (sizeOr (writing file out (judged name vertices corners (length out)) .answer))
+unfolding judged
+write-told name vertices corners out file = go (broken (writeConditions name vertices corners (length out))) refl
+  where
+    go : (r : Option Refusal) → broken (writeConditions name vertices corners (length out)) ≡ r →
+        WriteTold (writing file out (answerOf (figureSize name vertices corners) r) .answer) (sizeOr (writing file out (answerOf (figureSize name vertices corners) r) .answer))
+    go (some r) e = capped r
+    go none e =
+        let t = met _ e in
+        let l : figureSize name vertices corners ≤ limit = leb-true _ _ (t .1 .1 .1 .1 .1 .0) in
+        omega arith
+
+-- ---- THE THEOREM
+
+pub told : Told
+unfolding checkCall listCall tablesCall nameCall boxCall writeCall
+told = record {
+  check = λ s. records-told (verdict s) (verdict-within s);
+  list = λ e s row. list-told e row (verdict s) (verdict-within s);
+  tables = λ {A} {B} e f s b mesh rows.
+      mesh-told (λ (x : Effect Tabled (Rows A B)). TablesTold (x .answer) (sizesOr (x .answer))) (λ r. leaving (Tabled.Refused r) rows) (tablesOf e f rows) tells mesh (verdict s) (verdict-within s)
+      (λ kids v m g. tables-told e f rows m (small-mesh s b mesh kids v m g));
+  counts = λ s out. counts-told out (verdict s) (verdict-within s);
+  name = λ s mesh out.
+      mesh-told (λ (x : Named). NameTold x (nameGiven out x .answer)) Named.Refused nameOf tells mesh (verdict s) (verdict-within s)
+      (λ kids v m g. few-told out (m .nameAt ∷ m .nameLength ∷ []) (omega arith));
+  box = λ s mesh out.
+      mesh-told (λ (x : Boxed). BoxTold x (boxGiven out x .answer)) Boxed.Refused aroundOf tells mesh (verdict s) (verdict-within s)
+      (λ kids v m g. box-told out m);
+  write = λ name vertices corners out. write-told name vertices corners out _;
+}
