@@ -5,7 +5,7 @@ use Rattle.shared_words.specs.declared.Refusal.{Refusal}
 use Rattle.studio_rules.specs.declared.Checked.{Checked}
 use Rattle.studio_rules.specs.declared.Tabled.{Tabled}
 use Rattle.shared_words.specs.Refusals.{numberOf, placeOf}
-use Rattle.studio_write_judge.specs.declared.Written.{Written}
+use Rattle.shared_words.specs.declared.Written.{Written}
 
 -- for a refusal its number times 2^32 plus its place, which is capped where it needs more than 32 bits
 abbrev pub refusalCode : Refusal → ℕ

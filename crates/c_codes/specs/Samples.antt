@@ -3,7 +3,7 @@ use mathlib.Core.Path.{_≡_}
 use Rattle.shared_words.specs.declared.Refusal.the-variants.{TooLong, Trailing, Name, Index, NoRoom, NoMaterial}
 use Rattle.studio_rules.specs.declared.Checked.{Checked}
 use Rattle.studio_rules.specs.declared.Tabled.{Tabled}
-use Rattle.studio_write_judge.specs.declared.Written.{Written}
+use Rattle.shared_words.specs.declared.Written.{Written}
 use Rattle.c_codes.specs.Codes.{refusalCode, recordsOr, sizesOr, sizeOr}
 
 pub record Worked : Type 0 where

@@ -1,8 +1,8 @@
 // An answer as one number, for C.
 use shared_words::Refusal;
+use shared_words::Written;
 use studio_rules::Checked;
 use studio_rules::Tabled;
-use studio_write_judge::Written;
 ghost use mathlib.Core.Path.{_≡_};
 ghost use Rattle.studio_rules.specs.Within.{SizesWithin};
 ghost use Rattle.c_codes.specs.Codes.{refusalCode, recordsOr, sizesOr, sizeOr};

@@ -23,8 +23,8 @@ use Rattle.shared_words.specs.Encodings.{Encoding}
 use Rattle.shared_words.specs.Effects.{leaving}
 use Rattle.studio_rules.specs.Calls.{countsOf, checkOf, checkCall, listOf, listCall, pickMesh, ofMesh, Rows, tablesOf, tablesCall, nameOf, nameCall, aroundOf, boxCall}
 use Rattle.shared_words.proofs.Refusals.{numbered}
-use Rattle.studio_write_judge.specs.declared.Written.{Written}
-use Rattle.studio_write_judge.specs.declared.Written.the-variants.{Size, Refused}
+use Rattle.shared_words.specs.declared.Written.{Written}
+use Rattle.shared_words.specs.declared.Written.the-variants.{Size, Refused}
 use Rattle.studio_write_judge.specs.Judged.{judged}
 use Rattle.studio_write.specs.Write.{writing, writeCall}
 use Rattle.shared_words.specs.Refusals.{codeOf}

@@ -18,7 +18,7 @@ use Rattle.shared_words.specs.Refusals.{Code, codeOf, Numbered}
 use Rattle.shared_words.specs.Encodings.{Encoding}
 use Rattle.shared_words.specs.Effects.{Effect}
 use Rattle.studio_rules.specs.Calls.{checkCall, listCall, Rows, tablesCall, nameCall, boxCall}
-use Rattle.studio_write_judge.specs.declared.Written.{Written}
+use Rattle.shared_words.specs.declared.Written.{Written}
 use Rattle.studio_write.specs.Write.{writeCall}
 
 -- A REFUSAL WITH ONE NUMBER AND ONE PLACE: the answer is a refusal, c is its number and place, and the answer has no other;

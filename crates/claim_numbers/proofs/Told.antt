@@ -30,7 +30,7 @@ use Rattle.studio_rules.specs.Gives.{recordCount, headers, owned, skipped, Mesh
 use Rattle.studio_rules.specs.Box.{boxOf, centreOf}
 use Rattle.studio_rules.specs.Calls.{checkOf, checkCall, listOf, listCall, pickMesh, ofMesh, Rows, tablesOf, tablesCall, nameOf, nameCall, aroundOf, boxCall}
 use Rattle.studio_rules.proofs.Verdict.{accepted-exactly}
-use Rattle.studio_write_judge.specs.declared.Written.{Written}
+use Rattle.shared_words.specs.declared.Written.{Written}
 use Rattle.studio_write_judge.specs.Judged.{figureSize, writeConditions, answerOf, judged}
 use Rattle.studio_write.specs.Write.{writing, writeCall}
 use Rattle.c_codes.specs.Codes.{refusalCode, recordsOr, sizesOr, sizeOr}

@@ -17,7 +17,7 @@ use Rattle.studio_rules.specs.declared.Tabled.{Tabled}
 use Rattle.studio_rules.specs.declared.Named.{Named}
 use Rattle.studio_rules.specs.declared.Boxed.{Boxed}
 use Rattle.studio_rules.specs.Calls.{checkCall, listCall, Rows, tablesCall, nameCall, boxCall}
-use Rattle.studio_write_judge.specs.declared.Written.{Written}
+use Rattle.shared_words.specs.declared.Written.{Written}
 use Rattle.studio_write.specs.Write.{writeCall}
 use Rattle.c_codes.specs.Codes.{recordsOr, sizesOr, sizeOr}
 use Rattle.c_answers.specs.Given.{countsGiven, nameGiven, boxGiven}

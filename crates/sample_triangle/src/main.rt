@@ -1,7 +1,7 @@
 // Writes the triangle of document 01 and prints its bytes, in hexadecimal: a line for each chunk, and one for each vertex.
 use libc::STDOUT_FILENO;
 use shared_words::Refusal;
-use studio_write_judge::Written;
+use shared_words::Written;
 ghost use mathlib.Core.Path.{_≡_};
 ghost use lib.ListN.{length};
 

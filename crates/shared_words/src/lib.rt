@@ -1,5 +1,5 @@
-// The words that every format shares. The definitions in specs/ speak of this type, and every crate that reads or
-// writes anything answers with it.
+// The words that every format shares. The definitions in specs/ speak of these types, and every crate that reads or
+// writes anything answers with them.
 
 // The table of refusals of documents 01 and 02, by its names. The number that a case holds is its place; a case that
 // holds none has place 0.
@@ -34,4 +34,10 @@ pub enum Refusal {
     Material(usize),
     SameName(usize),
     NoMaterial(usize),
+}
+
+// What a writer answers: the size of what was written, or a refusal.
+pub enum Written {
+    Size(usize),
+    Refused(Refusal),
 }

@@ -13,7 +13,7 @@ use Rattle.shared_words.proofs.Bytes.{bytes-drop, packed-append}
 use Rattle.shared_words.proofs.Numbers.{front, numbers-bytes}
 use Rattle.shared_numbers.specs.Numbers.{wordAt, longAt}
 use Rattle.studio_scan.proofs.Lists.{faces-more}
-use Rattle.studio_mesh_rows.proofs.Fill.{fill-at}
+use Rattle.shared_words.proofs.Effects.{fill-at}
 
 -- one byte more in a row
 pub byte-more : (s : List ℕ) (at i : ℕ) (row : List ℕ) → at + i < length s → i < length row →

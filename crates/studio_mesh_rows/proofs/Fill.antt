@@ -1,4 +1,4 @@
--- A row that a loop fills from the front: one law, for a row of any elements.
+-- Rows of floats and corners that a loop fills from the front.
 use mathlib.Core.Path.{_≡_, refl, ap, _∙_}
 use mathlib.Core.List.{List, [], _∷_, _++_, map, append-assoc}
 use Prim.Native.Nat.{ℕ, _+_, _*_, _<_}
@@ -6,6 +6,7 @@ use native.Mathlib.Omega.{arith}
 use lib.Ieee.{Float}
 use lib.Seq.{drop-drop}
 use lib.ListN.{length, set, drop, length-append, length-map}
+use Rattle.shared_words.proofs.Effects.{fill-at}
 use Rattle.shared_words.proofs.Numbers.{length-numbers}
 use Rattle.studio_rules.proofs.Corners.{length-corners}
 use Rattle.shared_words.specs.Bytes.{numbers}
@@ -14,16 +15,6 @@ use Rattle.shared_words.specs.Floats.{float}
 use Rattle.shared_words.specs.Effects.{filled}
 use Rattle.shared_numbers.specs.Numbers.{wordAt, longAt}
 use Rattle.studio_scan.proofs.Lists.{longs-more, faces-more}
-
-module _ {A : Type 0} where
-  -- a store behind what is filled
-  fill-one : (new row : List A) (x : A) → length new < length row → set (filled new row) (length new) x ≡ filled (new ++ (x ∷ [])) row
-  fill-one new [] x l = absurd (omega arith)
-  fill-one [] (r ∷ row) x l = refl
-  fill-one (y ∷ new) (r ∷ row) x l = ap (λ (l : List A). y ∷ l) (fill-one new row x (omega arith))
-
-  pub fill-at : (new row : List A) (x : A) (k : ℕ) → length new ≡ k → k < length row → set (filled new row) k x ≡ filled (new ++ (x ∷ [])) row
-  fill-at new row x k e l = rw (← e) (fill-one new row x (omega arith))
 
 map-snoc : {A B : Type 0} (f : A → B) (xs : List A) (x : A) → map f (xs ++ (x ∷ [])) ≡ map f xs ++ (f x ∷ [])
 map-snoc f [] x = refl

@@ -21,8 +21,8 @@ use Rattle.shared_words.proofs.Bytes.{value-le}
 use Rattle.studio_rules.proofs.Verdict.{verdict-good}
 use Rattle.studio_write_judge.specs.Judged.{triples, judged}
 use Rattle.studio_write_bytes.specs.Bare.{nameData, vertexData, faceData, bare}
-use Rattle.studio_write_judge.specs.declared.Written.{Written}
-use Rattle.studio_write_judge.specs.declared.Written.the-variants.{Size}
+use Rattle.shared_words.specs.declared.Written.{Written}
+use Rattle.shared_words.specs.declared.Written.the-variants.{Size}
 use Rattle.studio_write.specs.Write.{writeCall}
 use Rattle.studio_write.specs.ReadsBack.{Floats32, ReadsBack, WrittenReadsBack}
 use Rattle.studio_write_bytes.proofs.Bare.{behind, name-place, length-vertex-data, length-face-data, length-bare}

@@ -34,7 +34,7 @@ use Rattle.shared_words.proofs.Bools.{both}
 use Rattle.shared_words.proofs.Bytes.{bytes-drop, word-small}
 use Rattle.shared_words.proofs.Conditions.{Met}
 use Rattle.studio_rules.proofs.Verdict.{accepted-exactly}
-use Rattle.studio_write_judge.specs.declared.Written.the-variants.{Size}
+use Rattle.shared_words.specs.declared.Written.the-variants.{Size}
 use Rattle.studio_write_judge.specs.Judged.{triples, wholeRow, figureSize, writeConditions, judged}
 use Rattle.studio_write_bytes.specs.Bare.{nameData, vertexData, faceData, sixChunks, bare}
 use Rattle.studio_write.specs.Write.{writeCall}

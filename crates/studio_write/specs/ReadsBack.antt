@@ -18,7 +18,7 @@ use Rattle.shared_words.specs.Encodings.{floatRow, plainRow}
 use Rattle.studio_rules.specs.Encodings.{flatRecords}
 use Rattle.shared_words.specs.Effects.{leaving, filled}
 use Rattle.studio_rules.specs.Calls.{listCall, Rows, tablesCall, nameCall}
-use Rattle.studio_write_judge.specs.declared.Written.the-variants.{Size}
+use Rattle.shared_words.specs.declared.Written.the-variants.{Size}
 use Rattle.studio_write_judge.specs.Judged.{triples, figureSize}
 use Rattle.studio_write_bytes.specs.Bare.{bare}
 use Rattle.studio_write.specs.Write.{writeCall}

@@ -8,8 +8,8 @@ use Rattle.shared_words.specs.Refusals.{numberOf, placeOf}
 use Rattle.shared_words.specs.Floats.{float}
 use Rattle.shared_words.specs.Effects.{leaving}
 use Rattle.studio_rules.specs.Samples.{triangle, one}
-use Rattle.studio_write_judge.specs.declared.Written.{Written}
-use Rattle.studio_write_judge.specs.declared.Written.the-variants.{Size, Refused}
+use Rattle.shared_words.specs.declared.Written.{Written}
+use Rattle.shared_words.specs.declared.Written.the-variants.{Size, Refused}
 use Rattle.studio_write.specs.Write.{writeCall}
 
 -- an answer as the paper writes it: a refusal's number and place, or the size

@@ -6,8 +6,8 @@ use lib.Ieee.{Float}
 use lib.ListN.{length}
 use Rattle.studio_rules.specs.Layout.{figure, bytes}
 use Rattle.shared_words.specs.Effects.{Effect, leaving, filled}
-use Rattle.studio_write_judge.specs.declared.Written.{Written}
-use Rattle.studio_write_judge.specs.declared.Written.the-variants.{Size, Refused}
+use Rattle.shared_words.specs.declared.Written.{Written}
+use Rattle.shared_words.specs.declared.Written.the-variants.{Size, Refused}
 use Rattle.studio_write_judge.specs.Judged.{judged}
 use Rattle.studio_write_bytes.specs.Bare.{bare}
 

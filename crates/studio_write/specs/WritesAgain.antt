@@ -22,7 +22,7 @@ use Rattle.studio_rules.specs.Gives.{list, skipped}
 use Rattle.shared_words.specs.Encodings.{floatRow, plainRow}
 use Rattle.shared_words.specs.Effects.{leaving, filled}
 use Rattle.studio_rules.specs.Calls.{Rows, tablesCall, nameCall}
-use Rattle.studio_write_judge.specs.declared.Written.the-variants.{Size}
+use Rattle.shared_words.specs.declared.Written.the-variants.{Size}
 use Rattle.studio_write_bytes.specs.Bare.{sixChunks}
 use Rattle.studio_write.specs.Write.{writeCall}
 

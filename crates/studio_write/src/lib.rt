@@ -1,6 +1,6 @@
 // The writer of a bare figure. All is judged before the first byte is written.
+use shared_words::Written;
 use studio_write_bytes::put_figure;
-use studio_write_judge::Written;
 use studio_write_judge::judge;
 ghost use mathlib.Core.Path.{_≡_};
 ghost use Rattle.studio_write.specs.Write.{writeCall};

@@ -11,7 +11,7 @@ ghost use Rattle.shared_words.specs.Lists.{every};
 ghost use Rattle.shared_words.specs.Bytes.{packed};
 ghost use Rattle.studio_rules.specs.Layout.{end, known, header, bytes};
 ghost use Rattle.shared_numbers.specs.Put.{Put};
-ghost use Rattle.studio_write_judge.specs.declared.Written.{Written};
+ghost use Rattle.shared_words.specs.declared.Written.{Written};
 ghost use Rattle.studio_write_judge.specs.Judged.{triples, finiteFloat, judged};
 ghost use Rattle.studio_write_bytes.specs.Bare.{faceWords, nameData, vertexData, faceData, bareBytes};
 

@@ -16,7 +16,7 @@ use Rattle.studio_rules.specs.Rules.{limit}
 use Rattle.shared_words.specs.Conditions.{Condition, must, broken}
 use Rattle.shared_words.proofs.Bools.{and-parts}
 use Rattle.shared_words.proofs.Conditions.{Met, met, unbroken}
-use Rattle.studio_write_judge.specs.declared.Written.the-variants.{Size, Refused}
+use Rattle.shared_words.specs.declared.Written.the-variants.{Size, Refused}
 use Rattle.studio_write_judge.specs.Judged.{triples, notZero, wholeRow, finiteFloat, figureSize, writeConditions, answerOf, judged}
 
 -- the first k hold, and the next does not

@@ -12,8 +12,8 @@ use Rattle.shared_words.specs.declared.Refusal.the-variants.{TooLong, Name, Num
 use Rattle.shared_words.specs.Lists.{every}
 use Rattle.studio_rules.specs.Rules.{limit}
 use Rattle.shared_words.specs.Conditions.{Condition, must, broken}
-use Rattle.studio_write_judge.specs.declared.Written.{Written}
-use Rattle.studio_write_judge.specs.declared.Written.the-variants.{Size, Refused}
+use Rattle.shared_words.specs.declared.Written.{Written}
+use Rattle.shared_words.specs.declared.Written.the-variants.{Size, Refused}
 
 -- how many vertices, or faces, a row has: three numbers to each
 abbrev pub triples : {A : Type 0} → List A → ℕ

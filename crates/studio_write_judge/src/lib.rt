@@ -1,15 +1,10 @@
 // Whether a bare figure can be written: the first fault of what is given, or the size of the file.
 use shared_words::Refusal;
+use shared_words::Written;
 ghost use mathlib.Core.Path.{_≡_};
 ghost use lib.Dec.{ltb};
 ghost use Rattle.shared_words.specs.Lists.{every};
 ghost use Rattle.studio_write_judge.specs.Judged.{firstFault, notZero, wholeRow, finiteFloat, judged};
-
-// The size of what was written, or a refusal.
-pub enum Written {
-    Size(usize),
-    Refused(Refusal),
-}
 
 // The longest file, and the longest row: three numbers for each of 65,535 vertices or faces.
 const LIMIT: usize = 1048576;

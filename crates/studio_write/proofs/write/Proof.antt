@@ -5,8 +5,8 @@ use native.Mathlib.Omega.{arith}
 use mathlib.Core.List.{List}
 use lib.ListN.{length}
 use Rattle.shared_words.specs.Effects.{Effect}
-use Rattle.studio_write_judge.specs.declared.Written.{Written}
-use Rattle.studio_write_judge.specs.declared.Written.the-variants.{Size}
+use Rattle.shared_words.specs.declared.Written.{Written}
+use Rattle.shared_words.specs.declared.Written.the-variants.{Size}
 use Rattle.studio_write_bytes.proofs.Bare.{length-bare}
 use Rattle.studio_write_judge.proofs.Judged.{ready}
 use Rattle.studio_write.proofs.Called.{called}

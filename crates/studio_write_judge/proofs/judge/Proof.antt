@@ -10,7 +10,7 @@ use borrow.Author.Tests.{not-true, not-false, le-leb, lt-leb}
 use Rattle.shared_words.specs.declared.Refusal.the-variants.{Name, Number, Index}
 use Rattle.shared_words.specs.Conditions.{Condition}
 use Rattle.shared_words.proofs.Conditions.{Met}
-use Rattle.studio_write_judge.specs.declared.Written.the-variants.{Refused}
+use Rattle.shared_words.specs.declared.Written.the-variants.{Refused}
 use Rattle.studio_write_judge.specs.Judged.{notZero, writeConditions}
 use Rattle.studio_write_judge.proofs.FirstFault.{every-good, some-bad}
 use Rattle.studio_write_judge.proofs.Judged.{met-more, whole-row, refused-at, sized}
