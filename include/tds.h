@@ -277,6 +277,36 @@ uint64_t tds_sum_join(uint64_t first, uint64_t second);
 /* As tds_matches, of all that was added: the same answer, however the file was cut. */
 uint64_t tds_sum_matches(uint64_t sum, uint32_t length, uint32_t sums);
 
+/*
+ * An ENTRY is four numbers, 16 bytes, in the order of enum tds_entry; tds_get_entry reads one of
+ * them. The name stands elsewhere: an entry says where it begins, and how long it is. Names have 1
+ * to 255 bytes, of any value, and no two entries of a slip have the same. A slip has at most
+ * TDS_MOST_ENTRIES entries, so at most TDS_LONGEST_SLIP bytes.
+ */
+#define TDS_ENTRY_NUMBERS 4
+#define TDS_ENTRY_BYTES (4 * TDS_ENTRY_NUMBERS)
+#define TDS_MOST_ENTRIES 1000
+#define TDS_LONGEST_SLIP 262007
+
+enum tds_entry {
+    TDS_ENTRY_NAME = 0,        /* where the name begins: an offset in the slip, or in `names` */
+    TDS_ENTRY_NAME_LENGTH = 1, /* how many bytes it has */
+    TDS_ENTRY_LENGTH = 2,      /* the length of the file */
+    TDS_ENTRY_SUMS = 3         /* its sums */
+};
+
+/*
+ * The entries of a slip, in order; a name's offset is one in the slip.
+ *
+ * Answers the count of entries, which may be 0, and fills as many, from the start of the slice; or
+ * refuses with 18, or 15 with the entries needed (place). Room is entries_len / TDS_ENTRY_BYTES
+ * entries. The place of 18 is 0 for the first 7 bytes of the slip (fewer than those, another
+ * version than 1, a length that is not that of the rest, a count over 1,000); else the offset of
+ * the first bad entry (one that passes the slip's end, has no name, a sum byte 255, or the name of
+ * an earlier one; a missing entry is bad where it would begin), or of the first byte left over.
+ */
+uint64_t tds_slip_read(const uint8_t *slip, size_t slip_len, uint8_t *entries, size_t entries_len);
+
 /* The words below are what C89, C99 and C++ call a function that lives in a header. */
 #if defined(__cplusplus) || (defined(__STDC_VERSION__) && __STDC_VERSION__ >= 199901L)
 #define TDS_INLINE static inline
@@ -302,6 +332,11 @@ TDS_INLINE float tds_get_float(const uint8_t *at) {
     float number;
     memcpy(&number, &bits, sizeof number);
     return number;
+}
+
+/* One number of one entry of a slip. */
+TDS_INLINE uint32_t tds_get_entry(const uint8_t *entries, size_t entry, enum tds_entry number) {
+    return tds_get4(entries + entry * TDS_ENTRY_BYTES + 4 * (size_t)number);
 }
 
 /* One number of one record of a filled list. */

@@ -3,4 +3,5 @@ pub mod Refusals
 pub mod Conditions
 pub mod Bytes
 pub mod Numbers
+pub mod BigEndian
 pub mod Samples
