@@ -15,8 +15,8 @@
  *
  * SLICES. Each pointer is followed by the length of what it points to. It may have any alignment
  * where it points to bytes, and (NULL, 0) is an empty slice. The slices of a call must not overlap:
- * neither two slices lent to be filled, nor one of them and the file (or, for tds_write, its name
- * and rows). The slices that are only read may overlap one another.
+ * neither two slices lent to be filled, nor one of them and the file (or, for the calls that write,
+ * what is to be written). The slices that are only read may overlap one another.
  *
  * ANSWERS. Each call answers one 64-bit number. Below 2^32 it is the answer proper, as each call
  * says; from 2^32 on it is a refusal: its number (enum tds_refusal) times 2^32, plus its place. The
@@ -306,6 +306,26 @@ enum tds_entry {
  * an earlier one; a missing entry is bad where it would begin), or of the first byte left over.
  */
 uint64_t tds_slip_read(const uint8_t *slip, size_t slip_len, uint8_t *entries, size_t entries_len);
+
+/*
+ * Writes a slip of entries_len / TDS_ENTRY_BYTES entries, in their order.
+ *
+ * A name's offset is one in `names`, which may hold other bytes too, and names may overlap there.
+ * So what tds_slip_read filled in can be written again with the slip itself as `names`: the same
+ * bytes come out. Fills the slip from the start of `out` and answers its size in bytes, 7 for the
+ * slip and 7 + the name's length for each entry; the bytes behind keep their contents. Or it
+ * refuses, changing nothing, with the first of these that holds:
+ *
+ *   18  an entry is bad (place: its number, from 0, of the first such): it is number 1,000, so one
+ *       too many; its name does not lie in `names`, or has not 1 to 255 bytes; its sums have a byte
+ *       255, or are over 65,535; an earlier entry has the same name; or it is a part of an entry,
+ *       at the end of the slice
+ *   15  out_len is below the size (place: the size)
+ *
+ * What it writes is accepted by tds_slip_read, with the same names, lengths and sums.
+ */
+uint64_t tds_slip_write(const uint8_t *names, size_t names_len, const uint8_t *entries,
+                        size_t entries_len, uint8_t *out, size_t out_len);
 
 /* The words below are what C89, C99 and C++ call a function that lives in a header. */
 #if defined(__cplusplus) || (defined(__STDC_VERSION__) && __STDC_VERSION__ >= 199901L)

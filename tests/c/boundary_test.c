@@ -9,6 +9,7 @@
 
 #include "cases.h"
 #include "slices.h"
+#include "slip_cases.h"
 #include "tds.h"
 #include "writer_cases.h"
 
@@ -327,5 +328,6 @@ int main(void) {
     each_case(try_case);
     each_case(try_huge_file);
     try_writer();
+    try_slips();
     return finish("boundary_test");
 }

@@ -5,7 +5,8 @@ use Prim.Native.Nat.{ℕ, _^_, _<_}
 use Rattle.shared_words.specs.Bytes.{Bytes}
 use Rattle.c_codes.specs.Codes.{refusalCode}
 use Rattle.slip_rules.specs.declared.Found.{Found}
-use Rattle.slip_rules.specs.Calls.{byteRow, readCall}
+use Rattle.slip_rules.specs.declared.Written.{Written}
+use Rattle.slip_rules.specs.Calls.{byteRow, slipReadCall, givenBytes, slipWriteCall}
 
 -- for the reader the count of entries
 abbrev pub entriesOr : Found → ℕ
@@ -13,5 +14,14 @@ entriesOr (Found.Entries n) = n
 entriesOr (Found.Refused r) = refusalCode r
 
 abbrev pub EntriesProper : Type 0
-EntriesProper = (slip row : List ℕ) (n : ℕ) → Bytes slip → readCall byteRow slip row .answer ≡ Found.Entries n →
-    entriesOr (readCall byteRow slip row .answer) < 2 ^ 32
+EntriesProper = (slip row : List ℕ) (n : ℕ) → Bytes slip → slipReadCall byteRow slip row .answer ≡ Found.Entries n →
+    entriesOr (slipReadCall byteRow slip row .answer) < 2 ^ 32
+
+-- for the writer the size
+abbrev pub slipSizeOr : Written → ℕ
+slipSizeOr (Written.Size n) = n
+slipSizeOr (Written.Refused r) = refusalCode r
+
+abbrev pub SizeProper : Type 0
+SizeProper = (names entries out : List ℕ) (size : ℕ) → Bytes entries → slipWriteCall names (givenBytes entries) out .answer ≡ Written.Size size →
+    slipSizeOr (slipWriteCall names (givenBytes entries) out .answer) < 2 ^ 32

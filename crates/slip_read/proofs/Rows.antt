@@ -18,7 +18,7 @@ use Rattle.shared_words.specs.Effects.{leaving, filled}
 use Rattle.slip_rules.specs.Slip.{Entry}
 use Rattle.slip_rules.specs.Rules.{limit}
 use Rattle.slip_rules.specs.Walk.{entryAt, behind, verdict}
-use Rattle.slip_rules.specs.Calls.{numbersOf, allNumbers, flat, byteRow, readCall}
+use Rattle.slip_rules.specs.Calls.{numbersOf, allNumbers, flat, byteRow, slipReadCall}
 use Rattle.slip_check.specs.Entries.{entryIn, nextAt, entriesIn, Whole}
 use Rattle.slip_check.proofs.Names.{head-is, name-length, whole-first, whole-on}
 use Rattle.slip_check.proofs.Good.{first-is, second-is}
@@ -109,17 +109,17 @@ length-rows o [] = refl
 length-rows o (e ∷ es) = omega (arith, length-rows (behind o e) es)
 
 module _ (s row : List ℕ) where
-  pub read-refused : (r : Refusal) → verdict s ≡ refused r → readCall byteRow s row ≡ leaving (Found.Refused r) row
-  unfolding readCall
+  pub read-refused : (r : Refusal) → verdict s ≡ refused r → slipReadCall byteRow s row ≡ leaving (Found.Refused r) row
+  unfolding slipReadCall
   read-refused r e = rw e
 
   module _ (n : ℕ) (e : verdict s ≡ accepted (entriesIn n s 7)) where
-    pub read-small : length row / 16 < n → readCall byteRow s row ≡ leaving (Found.Refused (NoRoom n)) row
-    unfolding readCall
+    pub read-small : length row / 16 < n → slipReadCall byteRow s row ≡ leaving (Found.Refused (NoRoom n)) row
+    unfolding slipReadCall
     read-small l = rw (e, length-entries n s 7, lt-leb n (length row / 16) l)
 
-    pub read-filled : n ≤ length row / 16 → readCall byteRow s row ≡ leaving (Found.Entries n) (sets row 0 (packed 4 (flat (allNumbers 7 (entriesIn n s 7)))))
-    unfolding readCall
+    pub read-filled : n ≤ length row / 16 → slipReadCall byteRow s row ≡ leaving (Found.Entries n) (sets row 0 (packed 4 (flat (allNumbers 7 (entriesIn n s 7)))))
+    unfolding slipReadCall
     read-filled l =
         let new = packed 4 (flat (allNumbers 7 (entriesIn n s 7))) in
         let k : length new ≡ 16 * n = length-rows 7 (entriesIn n s 7) ∙ ap (λ (x : ℕ). 16 * x) (length-entries n s 7) in

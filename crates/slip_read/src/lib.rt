@@ -12,7 +12,7 @@ ghost use lib.ListN.{length};
 ghost use lib.Seq.{sets};
 ghost use Rattle.shared_numbers.specs.Put.{Put};
 ghost use Rattle.slip_rules.specs.Rules.{limit};
-ghost use Rattle.slip_rules.specs.Calls.{numbersOf, allNumbers, byteRow, readCall};
+ghost use Rattle.slip_rules.specs.Calls.{numbersOf, allNumbers, byteRow, slipReadCall};
 ghost use Rattle.slip_check.specs.Entries.{entryIn, nextAt, entriesIn, Whole};
 
 // Puts the four numbers of the entry at an offset, and answers the position behind them.
@@ -48,8 +48,8 @@ fn fill(s: &[u8], count: usize, row: &mut [u8])
 // The entries of a slip, in order, into a lent row whose room is counted in whole entries. Answers how many there are, or
 // the refusal; a refusal leaves the row as it was.
 pub fn read(slip: &[u8], row: &mut [u8]) -> Found
-    ensures answer { λ r. ⌜ r ≡ readCall byteRow (now (slip .entry)) (now (row .entry)) .answer ⌝ }
-    ensures row { λ _. ⌜ now (row .exit) ≡ readCall byteRow (now (slip .entry)) (now (row .entry)) .rows ⌝ }
+    ensures answer { λ r. ⌜ r ≡ slipReadCall byteRow (now (slip .entry)) (now (row .entry)) .answer ⌝ }
+    ensures row { λ _. ⌜ now (row .exit) ≡ slipReadCall byteRow (now (slip .entry)) (now (row .entry)) .rows ⌝ }
 {
     match check(slip) {
         Found::Refused(r) => Found::Refused(r),

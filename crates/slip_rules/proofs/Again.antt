@@ -25,7 +25,7 @@ use Rattle.slip_rules.specs.Slip.{Entry, behindName, entryBytes, allByte
 use Rattle.slip_rules.specs.Rules.{sumsProper, remember, limit, AllLawful, Meets}
 use Rattle.slip_rules.specs.Conditions.{entryConditions}
 use Rattle.slip_rules.specs.Walk.{behind, verdict}
-use Rattle.slip_rules.specs.Calls.{numbersOf, allNumbers, entryFrom, entriesFrom, Given, whole, givenBytes, within, rowConditions, writeConditions, writeOf, writeCall}
+use Rattle.slip_rules.specs.Calls.{numbersOf, allNumbers, entryFrom, entriesFrom, Given, whole, givenBytes, within, rowConditions, writeConditions, writeOf, slipWriteCall}
 use Rattle.slip_rules.specs.Theorems.{ReadsBack, WritesBack}
 use Rattle.slip_rules.proofs.Verdict.{verdict-good, accepted-exactly}
 use Rattle.slip_rules.proofs.Given.{FileFits, given-back, given-fit, all-small}
@@ -57,7 +57,7 @@ written-meets names g room f h =
     record { is = refl; few = omega (arith, t .few); lawful = t .lawful }
 
 pub reads-back : ReadsBack
-unfolding writeCall
+unfolding slipWriteCall
 reads-back names entries out b size = test (broken (writeConditions names g (length out))) refl
   where
     g : Given
@@ -148,8 +148,8 @@ module _ (es : List Entry) (m : Meets (bytes es) es) (out : List ℕ) (l : lengt
       rows-back es [] 0 (seven es) _ (m .lawful) (omega arith)
       (refl, rw entries-are (le-leb (length (bytes es)) (length out) l, tt))
 
-  good-back : writeCall (bytes es) (whole (allNumbers 7 es)) out ≡ leaving (Written.Size (length (bytes es))) (filled (bytes es) out)
-  unfolding writeCall
+  good-back : slipWriteCall (bytes es) (whole (allNumbers 7 es)) out ≡ leaving (Written.Size (length (bytes es))) (filled (bytes es) out)
+  unfolding slipWriteCall
   good-back =
       let q : broken (writeConditions (bytes es) (whole (allNumbers 7 es)) (length out)) ≡ none = unbroken _ conditions-back in
       rw q (ap (λ (x : List Entry). leaving (Written.Size (length (bytes x))) (filled (bytes x) out)) entries-are)
@@ -161,5 +161,5 @@ writes-back s h es a out l =
     let f = m .few in
     let n = given-back (allNumbers 7 es) (all-small es [] 7 (m .lawful) (omega arith)) in
     let g = good-back es record { is = refl; few = m .few; lawful = m .lawful } out (omega (arith, ap length e)) in
-    ap (λ (x : Given). writeCall s x out) n ∙
-    subst (λ (x : List ℕ). writeCall x (whole (allNumbers 7 es)) out ≡ leaving (Written.Size (length x)) (filled x out)) e g
+    ap (λ (x : Given). slipWriteCall s x out) n ∙
+    subst (λ (x : List ℕ). slipWriteCall x (whole (allNumbers 7 es)) out ≡ leaving (Written.Size (length x)) (filled x out)) e g

@@ -2,11 +2,11 @@
 use mathlib.Core.Path.{refl}
 use Rattle.shared_words.specs.Conditions.{broken}
 use Rattle.slip_rules.specs.Walk.{entryAt, verdict}
-use Rattle.slip_rules.specs.Calls.{readCall, writeCall}
+use Rattle.slip_rules.specs.Calls.{slipReadCall, slipWriteCall}
 use Rattle.slip_rules.specs.Samples.{Samples}
 
 pub samples : Samples
-unfolding broken entryAt verdict readCall writeCall
+unfolding broken entryAt verdict slipReadCall slipWriteCall
 samples = record {
   empty-read = refl;
   two-read = refl;

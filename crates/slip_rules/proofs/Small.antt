@@ -20,7 +20,7 @@ use Rattle.slip_rules.specs.declared.Written.{Written}
 use Rattle.slip_rules.specs.Slip.{Entry, bytes}
 use Rattle.slip_rules.specs.Rules.{limit, Meets}
 use Rattle.slip_rules.specs.Walk.{Entries, verdict}
-use Rattle.slip_rules.specs.Calls.{allNumbers, readOf, readCall, entriesFrom, givenBytes, writeConditions, writeOf, writeCall}
+use Rattle.slip_rules.specs.Calls.{allNumbers, readOf, slipReadCall, entriesFrom, givenBytes, writeConditions, writeOf, slipWriteCall}
 use Rattle.slip_rules.specs.Theorems.{FewEntries, SmallSize}
 use Rattle.slip_rules.proofs.Verdict.{accepted-exactly, all-short}
 use Rattle.slip_rules.proofs.Given.{given-fit}
@@ -32,8 +32,8 @@ abbrev Few : Found → Type 0
 Few (Found.Entries n) = n ≤ limit
 Few (Found.Refused r) = Unit
 
-read-few : (c : Encoding Numbers ℕ) (s row : List ℕ) → Bytes s → Few (readCall c s row .answer)
-unfolding readCall
+read-few : (c : Encoding Numbers ℕ) (s row : List ℕ) → Bytes s → Few (slipReadCall c s row .answer)
+unfolding slipReadCall
 read-few c s row b = go (verdict s) refl
   where
     room : (es : List Entry) → length es ≤ limit → (t : Bool) →
@@ -57,8 +57,8 @@ Short (Written.Refused r) = Unit
 pub meets-short : (es : List Entry) → Meets (bytes es) es → length (bytes es) ≤ 7 + 262 * limit
 meets-short es m = let f = m .few in omega (arith, all-short es [] (m .lawful))
 
-write-short : (names entries out : List ℕ) → Bytes entries → Short (writeCall names (givenBytes entries) out .answer)
-unfolding writeCall
+write-short : (names entries out : List ℕ) → Bytes entries → Short (slipWriteCall names (givenBytes entries) out .answer)
+unfolding slipWriteCall
 write-short names entries out b = go (broken (writeConditions names (givenBytes entries) (length out))) refl
   where
     es : List Entry

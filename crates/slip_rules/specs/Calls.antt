@@ -55,8 +55,8 @@ readOf c row (accepted es) =
     (leaving (Found.Entries (length es)) (filled (c .encode (allNumbers 7 es)) row))
     (leaving (Found.Refused (NoRoom (length es))) row)
 
-unfoldable pub readCall : Encoding Numbers ℕ → List ℕ → List ℕ → Effect Found (List ℕ)
-readCall c s row = readOf c row (verdict s)
+unfoldable pub slipReadCall : Encoding Numbers ℕ → List ℕ → List ℕ → Effect Found (List ℕ)
+slipReadCall c s row = readOf c row (verdict s)
 
 -- ---- what the writer is given: the numbers of entries, and whether a part of one more stands behind them
 
@@ -103,5 +103,5 @@ abbrev pub writeOf : List ℕ → List ℕ → Option Refusal → Effect Written
 writeOf new out (some r) = leaving (Written.Refused r) out
 writeOf new out none = leaving (Written.Size (length new)) (filled new out)
 
-unfoldable pub writeCall : List ℕ → Given → List ℕ → Effect Written (List ℕ)
-writeCall names g out = writeOf (bytes (entriesFrom names (g .rows))) out (broken (writeConditions names g (length out)))
+unfoldable pub slipWriteCall : List ℕ → Given → List ℕ → Effect Written (List ℕ)
+slipWriteCall names g out = writeOf (bytes (entriesFrom names (g .rows))) out (broken (writeConditions names g (length out)))

@@ -10,7 +10,7 @@ use Rattle.shared_words.specs.Bytes.{packed}
 use Rattle.shared_words.specs.Effects.{leaving}
 use Rattle.slip_rules.specs.declared.Found.{Found}
 use Rattle.slip_rules.specs.declared.Written.{Written}
-use Rattle.slip_rules.specs.Calls.{byteRow, readCall, givenBytes, writeCall}
+use Rattle.slip_rules.specs.Calls.{byteRow, slipReadCall, givenBytes, slipWriteCall}
 
 -- the smallest slip
 abbrev pub empty : List ℕ
@@ -51,15 +51,15 @@ writtenShown (Written.Refused r) = shownCode (codeOf r)
 
 -- a slip read into a row with room for three entries, and names and numbers written into a buffer of 30 bytes
 abbrev pub read : List ℕ → Shown
-read s = foundShown (readCall byteRow s (replicate 48 0) .answer)
+read s = foundShown (slipReadCall byteRow s (replicate 48 0) .answer)
 
 abbrev pub write : List ℕ → List ℕ → Shown
-write names ns = writtenShown (writeCall names (givenBytes (packed 4 ns)) (replicate 30 0) .answer)
+write names ns = writtenShown (slipWriteCall names (givenBytes (packed 4 ns)) (replicate 30 0) .answer)
 
 pub record Samples : Type 0 where
   -- reading
   pub empty-read : read empty ≡ yes 0
-  pub two-read : readCall byteRow two (replicate 33 7) ≡ leaving (Found.Entries 2) (packed 4 twoNumbers ++ (7 ∷ []))
+  pub two-read : slipReadCall byteRow two (replicate 33 7) ≡ leaving (Found.Entries 2) (packed 4 twoNumbers ++ (7 ∷ []))
   pub short : read (take 6 empty) ≡ no 18 0
   pub version : read (set two 0 2) ≡ no 18 0
   pub length-field : read (set two 4 18) ≡ no 18 0
@@ -70,13 +70,13 @@ pub record Samples : Type 0 where
   pub entry-cut : read (set two 15 3) ≡ no 18 15
   pub sum-255 : read (set two 14 255) ≡ no 18 7
   pub name-twice : read (1 ∷ 0 ∷ 0 ∷ 0 ∷ 18 ∷ 0 ∷ 2 ∷ 1 ∷ 0x61 ∷ 0 ∷ 0 ∷ 0 ∷ 0 ∷ 0 ∷ 0 ∷ 1 ∷ 0x61 ∷ 0 ∷ 0 ∷ 0 ∷ 0 ∷ 0 ∷ 0 ∷ []) ≡ no 18 15
-  pub room-last : readCall byteRow two (replicate 31 0) ≡ leaving (Found.Refused (NoRoom 2)) (replicate 31 0)
+  pub room-last : slipReadCall byteRow two (replicate 31 0) ≡ leaving (Found.Refused (NoRoom 2)) (replicate 31 0)
   -- writing
-  pub two-written : writeCall names (givenBytes (packed 4 given)) (replicate 30 7) ≡ leaving (Written.Size 24) (two ++ replicate 6 7)
-  pub two-again : writeCall two (givenBytes (packed 4 twoNumbers)) (replicate 24 7) ≡ leaving (Written.Size 24) two
+  pub two-written : slipWriteCall names (givenBytes (packed 4 given)) (replicate 30 7) ≡ leaving (Written.Size 24) (two ++ replicate 6 7)
+  pub two-again : slipWriteCall two (givenBytes (packed 4 twoNumbers)) (replicate 24 7) ≡ leaving (Written.Size 24) two
   pub outside-names : write names (set given 5 3) ≡ no 18 1
   pub sums-255 : write names (set given 3 255) ≡ no 18 0
   pub sums-large : write names (set given 3 65536) ≡ no 18 0
   pub part-of-one : write names (take 7 given) ≡ no 18 1
   pub twice-written : write (0x61 ∷ 0x61 ∷ []) (set given 5 1) ≡ no 18 1
-  pub room-written : writeCall names (givenBytes (packed 4 given)) (replicate 23 7) ≡ leaving (Written.Refused (NoRoom 24)) (replicate 23 7)
+  pub room-written : slipWriteCall names (givenBytes (packed 4 given)) (replicate 23 7) ≡ leaving (Written.Refused (NoRoom 24)) (replicate 23 7)

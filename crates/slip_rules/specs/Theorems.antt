@@ -14,7 +14,7 @@ use Rattle.slip_rules.specs.declared.Written.{Written}
 use Rattle.slip_rules.specs.Slip.{Entry}
 use Rattle.slip_rules.specs.Rules.{limit, Meets}
 use Rattle.slip_rules.specs.Walk.{verdict}
-use Rattle.slip_rules.specs.Calls.{allNumbers, byteRow, readCall, entriesFrom, givenBytes, writeCall}
+use Rattle.slip_rules.specs.Calls.{allNumbers, byteRow, slipReadCall, entriesFrom, givenBytes, slipWriteCall}
 
 -- A SLIP IS ACCEPTED, with its entries, EXACTLY when it meets the rules with them.
 abbrev pub AcceptedExactly : Type 0
@@ -26,19 +26,19 @@ OneReading = (s : List ℕ) (es es′ : List Entry) → Meets s es → Meets s e
 
 -- WRITTEN, IT READS BACK: what stands in the first bytes of the buffer is accepted, with the entries that were given.
 abbrev pub ReadsBack : Type 0
-ReadsBack = (names entries out : List ℕ) → Bytes entries → (size : ℕ) → writeCall names (givenBytes entries) out .answer ≡ Written.Size size →
-    verdict (take size (writeCall names (givenBytes entries) out .rows)) ≡ accepted (entriesFrom names (givenBytes entries .rows))
+ReadsBack = (names entries out : List ℕ) → Bytes entries → (size : ℕ) → slipWriteCall names (givenBytes entries) out .answer ≡ Written.Size size →
+    verdict (take size (slipWriteCall names (givenBytes entries) out .rows)) ≡ accepted (entriesFrom names (givenBytes entries .rows))
 
 -- READ, IT WRITES BACK: the entries that the reader filled in, written again with the slip itself as the names, are the same
 -- bytes.
 abbrev pub WritesBack : Type 0
 WritesBack = (s : List ℕ) → Bytes s → (es : List Entry) → verdict s ≡ accepted es → (out : List ℕ) → length s ≤ length out →
-    writeCall s (givenBytes (byteRow .encode (allNumbers 7 es))) out ≡ leaving (Written.Size (length s)) (filled s out)
+    slipWriteCall s (givenBytes (byteRow .encode (allNumbers 7 es))) out ≡ leaving (Written.Size (length s)) (filled s out)
 
 -- THE ANSWERS ARE SMALL: at most 1,000 entries, and a slip of at most 262,007 bytes.
 abbrev pub FewEntries : Type 0
-FewEntries = (c : Encoding Numbers ℕ) (s row : List ℕ) (n : ℕ) → Bytes s → readCall c s row .answer ≡ Found.Entries n → n ≤ limit
+FewEntries = (c : Encoding Numbers ℕ) (s row : List ℕ) (n : ℕ) → Bytes s → slipReadCall c s row .answer ≡ Found.Entries n → n ≤ limit
 
 abbrev pub SmallSize : Type 0
-SmallSize = (names entries out : List ℕ) (size : ℕ) → Bytes entries → writeCall names (givenBytes entries) out .answer ≡ Written.Size size →
+SmallSize = (names entries out : List ℕ) (size : ℕ) → Bytes entries → slipWriteCall names (givenBytes entries) out .answer ≡ Written.Size size →
     size ≤ 7 + 262 * limit
