@@ -15,8 +15,8 @@
  *
  * SLICES. Each pointer is followed by the length of what it points to. It may have any alignment
  * where it points to bytes, and (NULL, 0) is an empty slice. The slices of a call must not overlap:
- * neither two slices lent to be filled, nor one of them and the file (or, for tds_write, its name
- * and rows). The slices that are only read may overlap one another.
+ * neither two slices lent to be filled, nor one of them and the file (or, for the calls that write,
+ * what is to be written). The slices that are only read may overlap one another.
  *
  * ANSWERS. Each call answers one 64-bit number. Below 2^32 it is the answer proper, as each call
  * says; from 2^32 on it is a refusal: its number (enum tds_refusal) times 2^32, plus its place. The
@@ -277,6 +277,56 @@ uint64_t tds_sum_join(uint64_t first, uint64_t second);
 /* As tds_matches, of all that was added: the same answer, however the file was cut. */
 uint64_t tds_sum_matches(uint64_t sum, uint32_t length, uint32_t sums);
 
+/*
+ * An ENTRY is four numbers, 16 bytes, in the order of enum tds_entry; tds_get_entry reads one of
+ * them. The name stands elsewhere: an entry says where it begins, and how long it is. Names have 1
+ * to 255 bytes, of any value, and no two entries of a slip have the same. A slip has at most
+ * TDS_MOST_ENTRIES entries, so at most TDS_LONGEST_SLIP bytes.
+ */
+#define TDS_ENTRY_NUMBERS 4
+#define TDS_ENTRY_BYTES (4 * TDS_ENTRY_NUMBERS)
+#define TDS_MOST_ENTRIES 1000
+#define TDS_LONGEST_SLIP 262007
+
+enum tds_entry {
+    TDS_ENTRY_NAME = 0,        /* where the name begins: an offset in the slip, or in `names` */
+    TDS_ENTRY_NAME_LENGTH = 1, /* how many bytes it has */
+    TDS_ENTRY_LENGTH = 2,      /* the length of the file */
+    TDS_ENTRY_SUMS = 3         /* its sums */
+};
+
+/*
+ * The entries of a slip, in order; a name's offset is one in the slip.
+ *
+ * Answers the count of entries, which may be 0, and fills as many, from the start of the slice; or
+ * refuses with 18, or 15 with the entries needed (place). Room is entries_len / TDS_ENTRY_BYTES
+ * entries. The place of 18 is 0 for the first 7 bytes of the slip (fewer than those, another
+ * version than 1, a length that is not that of the rest, a count over 1,000); else the offset of
+ * the first bad entry (one that passes the slip's end, has no name, a sum byte 255, or the name of
+ * an earlier one; a missing entry is bad where it would begin), or of the first byte left over.
+ */
+uint64_t tds_slip_read(const uint8_t *slip, size_t slip_len, uint8_t *entries, size_t entries_len);
+
+/*
+ * Writes a slip of entries_len / TDS_ENTRY_BYTES entries, in their order.
+ *
+ * A name's offset is one in `names`, which may hold other bytes too, and names may overlap there.
+ * So what tds_slip_read filled in can be written again with the slip itself as `names`: the same
+ * bytes come out. Fills the slip from the start of `out` and answers its size in bytes, 7 for the
+ * slip and 7 + the name's length for each entry; the bytes behind keep their contents. Or it
+ * refuses, changing nothing, with the first of these that holds:
+ *
+ *   18  an entry is bad (place: its number, from 0, of the first such): it is number 1,000, so one
+ *       too many; its name does not lie in `names`, or has not 1 to 255 bytes; its sums have a byte
+ *       255, or are over 65,535; an earlier entry has the same name; or it is a part of an entry,
+ *       at the end of the slice
+ *   15  out_len is below the size (place: the size)
+ *
+ * What it writes is accepted by tds_slip_read, with the same names, lengths and sums.
+ */
+uint64_t tds_slip_write(const uint8_t *names, size_t names_len, const uint8_t *entries,
+                        size_t entries_len, uint8_t *out, size_t out_len);
+
 /* The words below are what C89, C99 and C++ call a function that lives in a header. */
 #if defined(__cplusplus) || (defined(__STDC_VERSION__) && __STDC_VERSION__ >= 199901L)
 #define TDS_INLINE static inline
@@ -302,6 +352,11 @@ TDS_INLINE float tds_get_float(const uint8_t *at) {
     float number;
     memcpy(&number, &bits, sizeof number);
     return number;
+}
+
+/* One number of one entry of a slip. */
+TDS_INLINE uint32_t tds_get_entry(const uint8_t *entries, size_t entry, enum tds_entry number) {
+    return tds_get4(entries + entry * TDS_ENTRY_BYTES + 4 * (size_t)number);
 }
 
 /* One number of one record of a filled list. */

@@ -10,6 +10,7 @@
 #include "cases.h"
 #include "mesh_cases.h"
 #include "slices.h"
+#include "slip_cases.h"
 #include "tds.h"
 #include "writer_cases.h"
 
@@ -329,5 +330,6 @@ int main(void) {
     each_case(try_huge_file);
     try_meshes();
     try_writer();
+    try_slips();
     return finish("boundary_test");
 }

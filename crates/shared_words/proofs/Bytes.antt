@@ -58,3 +58,10 @@ pub word-small : (s : List ℕ) → Bytes s → value (take 2 s) < 0x1_0000
 word-small [] h = omega arith
 word-small (a ∷ []) h = omega (arith, h .0)
 word-small (a ∷ b ∷ s) h = omega (arith, h .0, h .1 .0)
+
+pub long-small : (s : List ℕ) → Bytes s → value (take 4 s) < 256 ^ 4
+long-small [] h = omega arith
+long-small (a ∷ []) h = omega (arith, h .0)
+long-small (a ∷ b ∷ []) h = omega (arith, h .0, h .1 .0)
+long-small (a ∷ b ∷ c ∷ []) h = omega (arith, h .0, h .1 .0, h .1 .1 .0)
+long-small (a ∷ b ∷ c ∷ d ∷ s) h = omega (arith, h .0, h .1 .0, h .1 .1 .0, h .1 .1 .1 .0)

@@ -4,4 +4,5 @@ pub mod Conditions
 pub mod Bytes
 pub mod Numbers
 pub mod Effects
+pub mod BigEndian
 pub mod Samples

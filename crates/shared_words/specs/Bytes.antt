@@ -31,6 +31,10 @@ valueBe s = value (reverse s)
 abbrev pub be : ℕ → ℕ → List ℕ
 be w n = reverse (le w n)
 
+-- the number of w bytes that stands at an offset
+abbrev pub beAt : ℕ → ℕ → List ℕ → ℕ
+beAt o w s = valueBe (take w (drop o s))
+
 -- each element of a list is a byte
 abbrev pub Bytes : List ℕ → Type 0
 Bytes [] = Unit

@@ -13,6 +13,8 @@ ghost use Rattle.c_codes.specs.Codes.{recordsOr, sizesOr, sizeOr};
 ghost use Rattle.c_answers.specs.Given.{countsGiven, nameGiven, boxGiven};
 ghost use Rattle.slip_sums.specs.Fletcher.{sumOf};
 ghost use Rattle.slip_sums.specs.Passes.{sumsCall, matchOf};
+ghost use Rattle.slip_rules.specs.Calls.{byteRow, slipReadCall, givenBytes, slipWriteCall};
+ghost use Rattle.c_slip.specs.Codes.{entriesOr};
 ghost use Rattle.c_sums.specs.Numbers.{sumsOr, zeroOr, sumIn, withPartNumber, joinNumbers};
 
 // The count of records, or a refusal.
@@ -127,4 +129,24 @@ pub extern "C" fn tds_sum_matches(sum: u64, length: u32, sums: u32) -> u64
     ensures { λ n. ⌜ n ≡ zeroOr (matchOf (sumIn sum) length (sums % 256) (sums / 256)) ⌝ }
 {
     c_sums::sum_matches(sum, length, sums)
+}
+
+// ---- the slip itself
+
+// The count of entries that now stand in the front of the slice, 16 bytes each, or a refusal.
+#[no_mangle]
+pub extern "C" fn tds_slip_read(slip: &[u8], entries: &mut [u8]) -> u64
+    ensures answer { λ n. ⌜ n ≡ entriesOr (slipReadCall byteRow (now (slip .entry)) (now (entries .entry)) .answer) ⌝ }
+    ensures entries { λ _. ⌜ now (entries .exit) ≡ slipReadCall byteRow (now (slip .entry)) (now (entries .entry)) .rows ⌝ }
+{
+    c_slip::found_code(slip_read::read(slip, entries))
+}
+
+// The size of the slip that now stands in the front of out, or a refusal.
+#[no_mangle]
+pub extern "C" fn tds_slip_write(names: &[u8], entries: &[u8], out: &mut [u8]) -> u64
+    ensures answer { λ n. ⌜ n ≡ sizeOr (slipWriteCall (now (names .entry)) (givenBytes (now (entries .entry))) (now (out .entry)) .answer) ⌝ }
+    ensures out { λ _. ⌜ now (out .exit) ≡ slipWriteCall (now (names .entry)) (givenBytes (now (entries .entry))) (now (out .entry)) .rows ⌝ }
+{
+    c_codes::written_code(slip_write::write(names, entries, out))
 }

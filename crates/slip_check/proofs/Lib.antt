@@ -1,0 +1,4 @@
+pub mod Names
+pub mod Good
+pub mod Walks
+pub mod Head

@@ -1,0 +1,92 @@
+-- The parts of the verdict, one after another.
+use mathlib.Core.Path.{_≡_, sym, ap, _∙_, subst}
+use Prim.Native.Nat.{ℕ}
+use native.Mathlib.Omega.{arith}
+use borrow.Author.Tests.{not-true, not-false}
+use Rattle.shared_words.specs.declared.Refusal.{Refusal}
+use Rattle.shared_words.specs.declared.Refusal.the-variants.{Slip}
+use Rattle.slip_rules.specs.declared.Found.{Found}
+use Rattle.slip_check.specs.declared.Walked.{Walked}
+use Rattle.slip_check.specs.Entries.{Whole, walkedAs}
+use Rattle.slip_check.proofs.Head.{verdict-off, verdict-bad, verdict-good, head-few}
+use borrow.Author.Needs.{needs}
+use Rattle.slip_check.proofs.check.Statement.{statement}
+use Rattle.slip_check.proofs.check.Tie as tie
+
+never : (r : Refusal) (n : ℕ) → Found.Refused r ≡ Found.Entries n → ⊥
+never r n e = let z : _≡_ {A = ℕ} 0 1 = cc in omega arith
+
+same : (n k : ℕ) → Found.Entries n ≡ Found.Entries k → n ≡ k
+same n k e = cc
+
+is-headed-requires : tie.Need-is-headed-requires
+is-headed-requires c κs = search needs
+
+returns : tie.Need-returns
+returns c =
+    let s = c .before .before .before .args .s .now in
+    record {
+      is = verdict-off s (sym (c .before .is-headed .ensures .0) ∙ not-true _ (c .if1 .taken));
+      whole = λ n e. absurd (never (Slip 0) n e);
+      few = λ n e. absurd (never (Slip 0) n e);
+    }
+
+word-at-requires : tie.Need-word-at-requires
+word-at-requires c κs =
+    let g = c .before .is-headed .ensures .1 (not-false _ (c .if1 .left)) in
+    omega arith
+
+walk-entries-requires : tie.Need-walk-entries-requires
+walk-entries-requires c κs = c .before .before .is-headed .ensures .1 (not-false _ (c .before .if1 .left))
+
+enum-known-place : tie.Need-enum-known-place
+enum-known-place c = search needs
+
+enum-told : tie.Need-enum-told
+enum-told c = search needs
+
+returns-2 : tie.Need-returns-2
+returns-2 c =
+    let walked = c .before .before .before in
+    let counted = walked .before in
+    let headed = counted .before in
+    let s = headed .before .before .before .args .s .now in
+    let n = counted .word-at .result in
+    let g = c .before .place .given in
+    let h = sym (headed .before .is-headed .ensures .0) ∙ not-false _ (headed .if1 .left) in
+    record {
+      is = verdict-bad s n h (counted .word-at .ensures .is) (g .0 .0) (walked .walk-entries .ensures .is ∙ ap (λ (r : Walked). walkedAs r s n) (g .1));
+      whole = λ k e. absurd (never (Slip (g .0 .0)) k e);
+      few = λ k e. absurd (never (Slip (g .0 .0)) k e);
+    }
+
+returns-3 : tie.Need-returns-3
+returns-3 c =
+    let walked = c .before .before in
+    let counted = walked .before in
+    let headed = counted .before in
+    let s = headed .before .before .before .args .s .now in
+    let n = counted .word-at .result in
+    let h = sym (headed .before .is-headed .ensures .0) ∙ not-false _ (headed .if1 .left) in
+    let q = counted .word-at .ensures .is in
+    let w = walked .walk-entries .ensures in
+    let g = c .enum-told .given .1 in
+    let f = head-few s h in
+    record {
+      is = verdict-good s n h q (w .is ∙ ap (λ (r : Walked). walkedAs r s n) g);
+      whole = λ k e. subst (λ (x : ℕ). Whole x s 7) (same n k e) (w .whole g);
+      few = λ k e. omega (arith, same n k e);
+    }
+
+pub check-spec : {M : Type 1} → statement M
+check-spec =
+    tie.close
+    (tie.spec
+    is-headed-requires
+    returns
+    word-at-requires
+    walk-entries-requires
+    enum-known-place
+    enum-told
+    returns-2
+    returns-3)

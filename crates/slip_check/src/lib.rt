@@ -1,0 +1,128 @@
+// The check pass over a slip: whether it meets the rules. No entry is kept, so a repeated name is found by stepping over
+// the earlier entries again.
+use shared_big_endian::byte_at;
+use shared_big_endian::long_at;
+use shared_big_endian::word_at;
+use shared_words::Refusal;
+use slip_names::same_bytes;
+use slip_rules::Found;
+ghost use mathlib.Core.Path.{_≡_};
+ghost use mathlib.Core.Bool.{true};
+ghost use Prim.Native.Nat.{_+_, _≤_};
+ghost use lib.ListN.{length, drop};
+ghost use Rattle.shared_words.specs.Lists.{same};
+ghost use Rattle.slip_rules.specs.Rules.{namedBefore};
+ghost use Rattle.slip_check.specs.Entries.{entryIn, nextAt, namesIn, Reached, Walks, goodAt, headGood, Checks};
+
+// What the walk over the entries answers: the place of refusal 18, or that there is none.
+enum Walked {
+    Bad(usize),
+    Good,
+}
+
+// Whether the entries at two offsets have the same name.
+fn same_name(s: &[u8], o: usize, at: usize) -> bool
+    requires { ⌜ (nextAt (now s) o ≤ length (now s)) × (nextAt (now s) at ≤ length (now s)) ⌝ }
+    ensures { λ r. ⌜ r ≡ same (entryIn (now (s .entry)) o .name) (entryIn (now (s .entry)) at .name) ⌝ }
+{
+    let len = byte_at(s, o);
+    if byte_at(s, at) != len {
+        return false;
+    }
+    same_bytes(s, o + 1, at + 1, len)
+}
+
+// Whether one of the first n entries has the name of the entry behind them.
+fn is_repeated(s: &[u8], n: usize, at: usize) -> bool
+    requires { ⌜ Reached (now s) n at × (nextAt (now s) at ≤ length (now s)) ⌝ }
+    ensures { λ r. ⌜ r ≡ namedBefore (entryIn (now (s .entry)) at .name) (namesIn n (now (s .entry)) 7) ⌝ }
+{
+    let mut left = n;
+    let mut o = 7usize;
+    while 0 < left {
+        if same_name(s, o, at) {
+            return true;
+        }
+        o += 7 + byte_at(s, o);
+        left -= 1;
+    }
+    false
+}
+
+// Whether the entry behind the first n is whole and meets the rules of refusal 18.
+fn is_good(s: &[u8], n: usize, at: usize) -> bool
+    requires { ⌜ Reached (now s) n at ⌝ }
+    ensures { λ r. ⌜ (r ≡ goodAt (namesIn n (now (s .entry)) 7) (drop at (now (s .entry)))) × (r ≡ true → nextAt (now (s .entry)) at ≤ length (now (s .entry))) ⌝ }
+{
+    let left = s.len() - at;
+    if left < 7 {
+        return false;
+    }
+    let len = byte_at(s, at);
+    if left < 7 + len {
+        return false;
+    }
+    if len == 0 {
+        return false;
+    }
+    let sums = at + 5 + len;
+    if byte_at(s, sums) == 255 {
+        return false;
+    }
+    if byte_at(s, sums + 1) == 255 {
+        return false;
+    }
+    !is_repeated(s, n, at)
+}
+
+// The walk over the entries.
+fn walk_entries(s: &[u8], count: usize) -> Walked
+    requires { ⌜ 7 ≤ length (now s) ⌝ }
+    ensures { λ r. ⌜ Walks (now (s .entry)) count r ⌝ }
+{
+    let mut n = 0usize;
+    let mut at = 7usize;
+    while n < count {
+        if !is_good(s, n, at) {
+            return Walked::Bad(at);
+        }
+        at += 7 + byte_at(s, at);
+        n += 1;
+    }
+    if at < s.len() {
+        return Walked::Bad(at);
+    }
+    Walked::Good
+}
+
+// ---- the slip
+
+// Whether the first seven bytes are as they should be.
+fn is_headed(s: &[u8]) -> bool
+    ensures { λ r. ⌜ (r ≡ headGood (now (s .entry))) × (r ≡ true → 7 ≤ length (now (s .entry))) ⌝ }
+{
+    if s.len() < 7 {
+        return false;
+    }
+    if byte_at(s, 0) != 1 {
+        return false;
+    }
+    if 5 + long_at(s, 1) != s.len() {
+        return false;
+    }
+    word_at(s, 5) <= 1000
+}
+
+// The check of a slip.
+pub fn check(s: &[u8]) -> Found
+    ensures { λ r. ⌜ Checks (now (s .entry)) r ⌝ }
+{
+    if !is_headed(s) {
+        return Found::Refused(Refusal::Slip(0));
+    }
+    let count = word_at(s, 5);
+    match walk_entries(s, count) {
+        Walked::Bad(place) => Found::Refused(Refusal::Slip(place)),
+        Walked::Good => Found::Entries(count),
+    }
+}

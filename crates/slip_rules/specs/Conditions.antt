@@ -1,0 +1,15 @@
+-- The conditions of one entry, in order, as the reader and the writer judge them.
+use mathlib.Core.List.{List, _∷_}
+use Prim.Native.Nat.{ℕ}
+use Rattle.shared_words.specs.declared.Refusal.the-variants.{Slip}
+use Rattle.shared_words.specs.Conditions.{Condition, must}
+use Rattle.slip_rules.specs.Slip.{Entry}
+use Rattle.slip_rules.specs.Rules.{isNamed, sumsProper, notTwice}
+
+-- "18 SLIP for any broken layout, a sum byte 255 and a repeated name included": an entry with this place, after entries
+-- with the names `seen`; then what comes later
+abbrev pub entryConditions : List (List ℕ) → ℕ → Entry → List Condition → List Condition
+entryConditions seen place e later =
+    must (isNamed e) (Slip place) ∷
+    must (sumsProper e) (Slip place) ∷
+    must (notTwice seen e) (Slip place) ∷ later

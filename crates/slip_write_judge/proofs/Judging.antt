@@ -1,0 +1,137 @@
+-- The rows' conditions as the loop meets them: after i good rows, what is left of the conditions answers for all, and what is
+-- left of the bytes is what the size still lacks.
+use mathlib.Core.Path.{_≡_, refl, sym, ap, _∙_}
+use Prim.Native.Nat.{ℕ, zero, suc, _+_, _-_, _*_, _/_, _<_, _≤_}
+use native.Mathlib.Numerals.{add-one}
+use native.Mathlib.Omega.{arith}
+use mathlib.Core.Bool.{Bool, true, false, _&&_, true≢false, false≢true}
+use mathlib.Core.List.{List, [], _∷_, _++_}
+use mathlib.Core.Option.{some}
+use lib.Dec.{ltb}
+use lib.ListN.{length, drop, length-append}
+use lib.Seq.{drop-drop}
+use borrow.Author.Count.{below-more}
+use Rattle.shared_words.specs.declared.Refusal.{Refusal}
+use Rattle.shared_words.specs.declared.Refusal.the-variants.{Slip}
+use Rattle.shared_words.specs.Conditions.{Condition, must, broken}
+use Rattle.slip_rules.specs.declared.Numbers.{Numbers}
+use Rattle.slip_rules.specs.Slip.{behindName, entryBytes, allBytes, bytes}
+use Rattle.slip_rules.specs.Rules.{isNamed, sumsProper, notTwice, remember, limit}
+use Rattle.slip_rules.specs.Calls.{entriesFrom, rowsIn, givenBytes, within, rowConditions}
+use Rattle.slip_write_judge.specs.Rows.{rowNo, entryNo, rowsFrom, namesFrom, Inside, AllInside, goodRow}
+use Rattle.slip_write_judge.proofs.Rows.{name-long}
+
+-- ---- rows by their numbers are the rows given
+
+rows-are : (k : ℕ) (s : List ℕ) (i : ℕ) → rowsIn k (drop (16 * i) s) ≡ rowsFrom k s i
+rows-are zero s i = refl
+rows-are (suc k) s i =
+    let q : 16 * i + 16 ≡ 16 * suc i = omega arith in
+    ap (λ (ns : List Numbers). rowNo s i ∷ ns)
+    (ap (rowsIn k) (drop-drop 16 (16 * i) s ∙ ap (λ (j : ℕ). drop j s) q) ∙ rows-are k s (suc i))
+
+pub given-rows : (s : List ℕ) → givenBytes s .rows ≡ rowsFrom (length s / 16) s 0
+given-rows s = rows-are (length s / 16) s 0
+
+-- ---- the conditions of one row
+
+all-hold : (a b c d e : Bool) (r : Refusal) (later : List Condition) → (a && (b && (c && (d && e)))) ≡ true →
+    broken (must a r ∷ must b r ∷ must c r ∷ must d r ∷ must e r ∷ later) ≡ broken later
+unfolding broken
+all-hold true true true true true r later h = refl
+all-hold true true true true false r later h = absurd (false≢true h)
+all-hold true true true false e r later h = absurd (false≢true h)
+all-hold true true false d e r later h = absurd (false≢true h)
+all-hold true false c d e r later h = absurd (false≢true h)
+all-hold false b c d e r later h = absurd (false≢true h)
+
+one-fails : (a b c d e : Bool) (r : Refusal) (later : List Condition) → (a && (b && (c && (d && e)))) ≡ false →
+    broken (must a r ∷ must b r ∷ must c r ∷ must d r ∷ must e r ∷ later) ≡ some r
+unfolding broken
+one-fails true true true true true r later h = absurd (true≢false h)
+one-fails true true true true false r later h = refl
+one-fails true true true false e r later h = refl
+one-fails true true false d e r later h = refl
+one-fails true false c d e r later h = refl
+one-fails false b c d e r later h = refl
+
+-- the names of the first rows, and of one more
+names-more : (names : List ℕ) (k : ℕ) (s : List ℕ) (i : ℕ) → namesFrom names k s i ++ (entryNo names s (i + k) .name ∷ []) ≡ namesFrom names (suc k) s i
+names-more names zero s i =
+    let q : i + 0 ≡ i = omega arith in
+    rw q
+names-more names (suc k) s i =
+    let q : i + suc k ≡ suc i + k = omega arith in
+    ap (λ (x : List (List ℕ)). entryNo names s i .name ∷ x) (rw q (names-more names k s (suc i)))
+
+names-then : (names : List ℕ) (i : ℕ) (s : List ℕ) → remember (namesFrom names i s 0) (entryNo names s i) ≡ namesFrom names (suc i) s 0
+names-then names i s =
+    let q : 0 + i ≡ i = omega arith in
+    rw q at (names-more names i s 0)
+
+module _ (names s : List ℕ) (i : ℕ) (later : List Condition) where
+  row-bad : (k : ℕ) → 0 < k → goodRow names s i ≡ false → broken (rowConditions names (namesFrom names i s 0) i (rowsFrom k s i) later) ≡ some (Slip i)
+  unfolding goodRow
+  row-bad zero p e = absurd (omega arith)
+  row-bad (suc k) p e =
+      one-fails (ltb i limit) (within names (rowNo s i)) (isNamed (entryNo names s i)) (sumsProper (entryNo names s i))
+      (notTwice (namesFrom names i s 0) (entryNo names s i)) (Slip i) _ e
+
+  row-good : (k : ℕ) → 0 < k → goodRow names s i ≡ true →
+      broken (rowConditions names (namesFrom names i s 0) i (rowsFrom k s i) later) ≡
+      broken (rowConditions names (namesFrom names (suc i) s 0) (suc i) (rowsFrom (k - 1) s (suc i)) later)
+  unfolding goodRow
+  row-good zero p e = absurd (omega arith)
+  row-good (suc k) p e =
+      let q : suc k - 1 ≡ k = omega arith in
+      all-hold (ltb i limit) (within names (rowNo s i)) (isNamed (entryNo names s i)) (sumsProper (entryNo names s i))
+      (notTwice (namesFrom names i s 0) (entryNo names s i)) (Slip i) _ e ∙
+      rw (q, names-then names i s)
+
+-- the bytes of one row
+pub row-size : (names s : List ℕ) (i k : ℕ) → 0 < k → Inside names s i →
+    length (allBytes (entriesFrom names (rowsFrom k s i))) ≡ 7 + rowNo s i .len + length (allBytes (entriesFrom names (rowsFrom (k - 1) s (suc i))))
+row-size names s i zero p h = absurd (omega arith)
+row-size names s i (suc k) p h =
+    let q : suc k - 1 ≡ k = omega arith in
+    let e = entryNo names s i in
+    rw q (omega (arith, name-long names (rowNo s i) h, length-append (entryBytes e) (allBytes (entriesFrom names (rowsFrom k s (suc i)))), length-append (e .name) (behindName e)))
+
+-- ---- the loop
+
+pub record On (names s : List ℕ) (n size i : ℕ) : Type 0 where
+  pub few : i ≤ n
+  pub under : i ≤ limit
+  pub inside : AllInside names s i
+  pub small : size ≤ 7 + 262 * i
+  pub goes : (later : List Condition) →
+      broken (rowConditions names [] 0 (rowsFrom n s 0) later) ≡ broken (rowConditions names (namesFrom names i s 0) i (rowsFrom (n - i) s i) later)
+  pub sized : length (bytes (entriesFrom names (rowsFrom n s 0))) ≡ size + length (allBytes (entriesFrom names (rowsFrom (n - i) s i)))
+
+pub on-start : (names s : List ℕ) (n : ℕ) → On names s n 7 0
+on-start names s n =
+    let q : n - 0 ≡ n = omega arith in
+    record { few = omega arith; under = omega arith; inside = λ j l. absurd (omega arith); small = omega arith; goes = λ later. rw q; sized = rw q (omega arith) }
+
+module _ (names s : List ℕ) (n size i : ℕ) (on : On names s n size i) where
+  pub on-bad : i < n → goodRow names s i ≡ false → (later : List Condition) → broken (rowConditions names [] 0 (rowsFrom n s 0) later) ≡ some (Slip i)
+  on-bad l e later = on .goes later ∙ row-bad names s i later (n - i) (omega arith) e
+
+  pub on-more : i < n → goodRow names s i ≡ true → Inside names s i → rowNo s i .len ≤ 255 → i < limit → On names s n (size + (7 + rowNo s i .len)) (i + 1)
+  on-more l e h k u =
+      let q : n - i - 1 ≡ n - suc i = omega arith in
+      let z = row-size names s i (n - i) (omega arith) h in
+      rw (add-one i) record {
+        few = omega arith;
+        under = omega arith;
+        inside = rw (add-one i) at (below-more (Inside names s) i (on .inside) h);
+        small = omega (arith, on .small);
+        goes = λ later. on .goes later ∙ row-good names s i later (n - i) (omega arith) e ∙ rw q;
+        sized = rw (← q) (omega (arith, on .sized));
+      }
+
+  pub on-end : i ≡ n →
+      ((later : List Condition) → broken (rowConditions names [] 0 (rowsFrom n s 0) later) ≡ broken later) × (length (bytes (entriesFrom names (rowsFrom n s 0))) ≡ size)
+  on-end e =
+      let q : n - i ≡ 0 = omega arith in
+      (λ later. on .goes later ∙ rw q, on .sized ∙ rw q (omega arith))

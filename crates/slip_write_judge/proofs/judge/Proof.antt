@@ -1,0 +1,57 @@
+-- The rows' answer first, then a part of an entry, then the room.
+use mathlib.Core.Path.{sym, subst}
+use borrow.Author.Needs.{needs}
+use Rattle.slip_rules.specs.Calls.{givenBytes}
+use Rattle.slip_write_judge.specs.Judged.{JudgesRows}
+use Rattle.slip_write_judge.proofs.Answers.{judged-bad, judged-part, judged-small, judged-size}
+use Rattle.slip_write_judge.proofs.judge.Statement.{statement}
+use Rattle.slip_write_judge.proofs.judge.Tie as tie
+
+judge-rows-requires : tie.Need-judge-rows-requires
+judge-rows-requires c κs = search needs
+
+enum-known-i : tie.Need-enum-known-i
+enum-known-i c = search needs
+
+enum-known-size : tie.Need-enum-known-size
+enum-known-size c = search needs
+
+returns : tie.Need-returns
+returns c =
+    let a = c .before .before .before .before .before .before .before .args in
+    let g = c .before .before .size .given in
+    let h = subst (JudgesRows (a .names .now) (givenBytes (a .entries .now) .rows)) (g .1) (c .before .before .before .before .judge-rows .ensures) in
+    sym (judged-part (a .names .now) (a .entries .now) (a .room) (g .0 .0) h (c .if1 .taken))
+
+returns-2 : tie.Need-returns-2
+returns-2 c =
+    let a = c .before .before .before .before .before .before .before .before .args in
+    let g = c .before .before .before .size .given in
+    let h = subst (JudgesRows (a .names .now) (givenBytes (a .entries .now) .rows)) (g .1) (c .before .before .before .before .before .judge-rows .ensures) in
+    sym (judged-small (a .names .now) (a .entries .now) (a .room) (g .0 .0) h (c .before .if1 .left) (c .if2 .taken))
+
+returns-3 : tie.Need-returns-3
+returns-3 c =
+    let a = c .before .before .before .before .before .before .args in
+    let g = c .before .i .given in
+    let h = subst (JudgesRows (a .names .now) (givenBytes (a .entries .now) .rows)) (g .1) (c .before .before .before .judge-rows .ensures) in
+    sym (judged-bad (a .names .now) (a .entries .now) (a .room) (g .0 .0) h)
+
+returns-4 : tie.Need-returns-4
+returns-4 c =
+    let a = c .before .before .before .before .before .before .before .before .args in
+    let g = c .before .before .before .size .given in
+    let h = subst (JudgesRows (a .names .now) (givenBytes (a .entries .now) .rows)) (g .1) (c .before .before .before .before .before .judge-rows .ensures) in
+    sym (judged-size (a .names .now) (a .entries .now) (a .room) (g .0 .0) h (c .before .if1 .left) (c .if2 .left))
+
+pub judge-spec : {M : Type 1} → statement M
+judge-spec =
+    tie.close
+    (tie.spec
+    judge-rows-requires
+    enum-known-i
+    enum-known-size
+    returns
+    returns-2
+    returns-3
+    returns-4)

@@ -1,0 +1,124 @@
+// The judgement of the slip that is to be written: the first entry that is bad, or that there is too little room, or how
+// long the slip is. Nothing is written before all is judged.
+use shared_numbers::long_at;
+use shared_words::Refusal;
+use shared_words::Written;
+use slip_names::same_bytes;
+use slip_rules::Numbers;
+ghost use mathlib.Core.Path.{_≡_};
+ghost use mathlib.Core.Bool.{true};
+ghost use Prim.Native.Nat.{_+_, _*_, _≤_};
+ghost use lib.ListN.{length};
+ghost use Rattle.shared_words.specs.Lists.{same};
+ghost use Rattle.slip_rules.specs.Rules.{namedBefore};
+ghost use Rattle.slip_rules.specs.Calls.{entryFrom, givenBytes};
+ghost use Rattle.slip_write_judge.specs.Rows.{rowNo, namesFrom, Inside, AllInside, GoodRow};
+ghost use Rattle.slip_write_judge.specs.Judged.{judged, JudgesRows};
+
+// What the judgement of the rows alone answers: the number of the first bad one, or the size of the slip.
+enum Judged {
+    Bad(usize),
+    Good(usize),
+}
+
+// The row of number i.
+pub fn row(entries: &[u8], i: usize) -> Numbers
+    requires { ⌜ 16 * i + 16 ≤ length (now entries) ⌝ }
+    ensures { λ r. ⌜ r ≡ rowNo (now (entries .entry)) i ⌝ }
+{
+    let at = 16 * i;
+    Numbers {
+        name: long_at(entries, at),
+        len: long_at(entries, at + 4),
+        file: long_at(entries, at + 8),
+        sums: long_at(entries, at + 12),
+    }
+}
+
+// Whether two rows have the same name.
+fn same_name(names: &[u8], a: Numbers, b: Numbers) -> bool
+    requires { ⌜ (a .name + a .len ≤ length (now names)) × (b .name + b .len ≤ length (now names)) ⌝ }
+    ensures { λ r. ⌜ r ≡ same (entryFrom (now (names .entry)) a .name) (entryFrom (now (names .entry)) b .name) ⌝ }
+{
+    if a.len != b.len {
+        return false;
+    }
+    same_bytes(names, a.name as usize, b.name as usize, a.len as usize)
+}
+
+// Whether one of the first n rows has the name of this one.
+fn is_repeated(names: &[u8], entries: &[u8], n: usize, it: Numbers) -> bool
+    requires { ⌜ (16 * n ≤ length (now entries)) × AllInside (now names) (now entries) n × (it .name + it .len ≤ length (now names)) ⌝ }
+    ensures { λ r. ⌜ r ≡ namedBefore (entryFrom (now (names .entry)) it .name) (namesFrom (now (names .entry)) n (now (entries .entry)) 0) ⌝ }
+{
+    let mut i = 0usize;
+    while i < n {
+        if same_name(names, row(entries, i), it) {
+            return true;
+        }
+        i += 1;
+    }
+    false
+}
+
+// Whether the row of number i is one entry too many, or breaks a rule.
+fn is_good(names: &[u8], entries: &[u8], i: usize) -> bool
+    requires { ⌜ (16 * i + 16 ≤ length (now entries)) × AllInside (now names) (now entries) i ⌝ }
+    ensures { λ r. ⌜ GoodRow (now (names .entry)) (now (entries .entry)) i r ⌝ }
+{
+    if 1000 <= i {
+        return false;
+    }
+    let it = row(entries, i);
+    if names.len() < it.name as usize + it.len as usize {
+        return false;
+    }
+    if it.len == 0 {
+        return false;
+    }
+    if 255 < it.len {
+        return false;
+    }
+    if it.sums % 256 == 255 {
+        return false;
+    }
+    if 254 < it.sums / 256 {
+        return false;
+    }
+    !is_repeated(names, entries, i, it)
+}
+
+// The judgement of the rows.
+fn judge_rows(names: &[u8], entries: &[u8]) -> Judged
+    ensures { λ r. ⌜ JudgesRows (now (names .entry)) (givenBytes (now (entries .entry)) .rows) r ⌝ }
+{
+    let n = entries.len() / 16;
+    let mut size = 7usize;
+    let mut i = 0usize;
+    while i < n {
+        if !is_good(names, entries, i) {
+            return Judged::Bad(i);
+        }
+        size += 7 + row(entries, i).len as usize;
+        i += 1;
+    }
+    Judged::Good(size)
+}
+
+// The judgement of all, for a buffer of `room` bytes.
+pub fn judge(names: &[u8], entries: &[u8], room: usize) -> Written
+    ensures { λ r. ⌜ r ≡ judged (now (names .entry)) (givenBytes (now (entries .entry))) room ⌝ }
+{
+    match judge_rows(names, entries) {
+        Judged::Bad(i) => Written::Refused(Refusal::Slip(i)),
+        Judged::Good(size) => {
+            if entries.len() % 16 != 0 {
+                return Written::Refused(Refusal::Slip(entries.len() / 16));
+            }
+            if room < size {
+                return Written::Refused(Refusal::NoRoom(size));
+            }
+            Written::Size(size)
+        }
+    }
+}
