@@ -62,8 +62,9 @@ fn check_figure(file: &[u8]) -> Checked
     ensures { λ r. ⌜ r ≡ checkOf (figureAnswer (now (file .entry))) ⌝ }
 {
     let size = file.len();
+    let slots = studio_lookup::slots();
     let mut marks = [0u32; 5];
-    match studio_walk::run(file, studio_lookup::FIGURE, 0, 6, size, &mut marks) {
+    match studio_walk::run(file, &slots, studio_lookup::FIGURE, 0, 6, size, &mut marks) {
         Ran::Refused(r) => Checked::Refused(r),
         Ran::Done {
             next: _,

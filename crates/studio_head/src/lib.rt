@@ -14,6 +14,7 @@ ghost use Rattle.studio_rules.specs.Rules.{Parent};
 ghost use Rattle.shared_words.specs.Conditions.{broken};
 ghost use Rattle.studio_rules.specs.Walk.{headerConditions, lengthField, step};
 ghost use Rattle.studio_row.specs.Packed.{rowOf};
+ghost use Rattle.studio_lookup.specs.Slots.{slots};
 ghost use Rattle.studio_own_size.specs.Own.{CountIs};
 ghost use Rattle.studio_head.specs.Heads.{HeaderIs, HeaderWithin, HeadIs, openedBy, MarksAre, HeadWithin};
 ghost use Rattle.studio_head.specs.Contexts.{Room, Context};
@@ -89,8 +90,16 @@ fn look_listed(file: &[u8], id: usize, row: u64, count: u32, at: usize, stop: us
 }
 
 // The chunk at at, in a run that ends at end; parent and count are the row and the count word of the chunk around.
-pub fn look(file: &[u8], parent: u64, count: u32, at: usize, end: usize, marks: &mut [u32]) -> Head
-    requires { ⌜ (at < end) × Room end count (now file) (now marks) ⌝ }
+pub fn look(
+    file: &[u8],
+    table: &[u64; 128],
+    parent: u64,
+    count: u32,
+    at: usize,
+    end: usize,
+    marks: &mut [u32],
+) -> Head
+    requires { ⌜ (at < end) × Room end count (now file) (now marks) × (now table ≡ slots) ⌝ }
     ensures is { λ r. ⌜ ((p : Parent) (seen : List ℕ) → Context p seen parent count (now (marks .entry)) → HeadIs at (step p seen at (slice at end (now (file .entry)))) r) ⌝ }
     ensures marks { λ r. ⌜ ((p : Parent) (seen : List ℕ) → Context p seen parent count (now (marks .entry)) → MarksAre at (step p seen at (slice at end (now (file .entry)))) (now (marks .entry)) (now (marks .exit))) ⌝ }
     ensures five { λ r. ⌜ length (now (marks .exit)) ≡ 5 ⌝ }
@@ -99,7 +108,7 @@ pub fn look(file: &[u8], parent: u64, count: u32, at: usize, end: usize, marks: 
     match read_header(file, at, end) {
         Header::Fault(r) => Head::Fault(r),
         Header::Is { id, stop } => {
-            let row = studio_lookup::row(id);
+            let row = studio_lookup::row(table, id);
             if row == 0 {
                 return Head::Skip { stop };
             }

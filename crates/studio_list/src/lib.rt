@@ -20,7 +20,8 @@ fn list_rows(file: &[u8], records: &mut [u32], bytes: &mut [u8], room: usize) ->
             if room < counts.records {
                 return Checked::Refused(Refusal::NoRoom(counts.records));
             }
-            studio_list_walk::list_run(file, records, bytes, 0, file.len(), 0, 0, 0);
+            let slots = studio_lookup::slots();
+            studio_list_walk::list_run(file, &slots, records, bytes, 0, file.len(), 0, 0, 0);
             Checked::Accepted(counts)
         }
     }

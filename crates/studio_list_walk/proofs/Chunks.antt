@@ -19,9 +19,8 @@ use Rattle.shared_words.proofs.Bools.{and-parts, or-second}
 use Rattle.shared_numbers.specs.Numbers.{wordAt}
 use Rattle.shared_numbers.proofs.Slices.{drop-slice}
 use Rattle.studio_stands.proofs.Chunks.{fits-listed, skip-header, known-header, kids-here}
-use Rattle.studio_row.specs.Packed.{rowOf, outlineIn}
+use Rattle.studio_row.specs.Packed.{rowOf}
 use Rattle.studio_row.proofs.Facts.{row-of-listed, row-of-unlisted, plus-is, shape-is}
-use Rattle.studio_lookup.proofs.Outlines.{outline-zero, outline-no-row, outline-plus, outline-whole}
 use Rattle.studio_list_rows.specs.Lent.{Lent, written}
 use Rattle.studio_list_walk.specs.Laid.{first, Laid, Bounds, Listed, Begins}
 use Rattle.studio_list_rows.proofs.Rows.{written-on}
@@ -33,12 +32,12 @@ no-children (skip id body rest) h = absurd (true≢false (sym h))
 no-children (known id own kids rest) h = absurd (true≢false (sym h))
 
 -- own data of a lawful chunk, before its children's bytes
-lawful-begins : (p : Place) (id : ℕ) (own : List ℕ) (kids : Run) → Fits p id own kids → Begins (outlineIn (rowOf id)) (p .own) own (bytes kids ++ [])
+lawful-begins : (p : Place) (id : ℕ) (own : List ℕ) (kids : Run) → Fits p id own kids → Begins (rowOf id) (p .own) own (bytes kids ++ [])
 lawful-begins p id own kids l =
     let i = fits-listed p id own kids l in
     record {
-      exact = λ h. rw (outline-whole (rowOf id) (sym (outline-plus (rowOf id)) ∙ h), shape-is id i) (eqb-true (ownSize (shape id) (p .own) own) (length own) (l .own-data-exact));
-      whole = λ e. append-nil (bytes kids) ∙ no-children kids (or-second (plus id) (noChild kids) (l .in-plus) (sym (plus-is id i) ∙ sym (outline-plus (rowOf id)) ∙ e));
+      exact = λ h. rw (shape-is id i) (eqb-true (ownSize (shape id) (p .own) own) (length own) (l .own-data-exact));
+      whole = λ e. append-nil (bytes kids) ∙ no-children kids (or-second (plus id) (noChild kids) (l .in-plus) (sym (plus-is id i) ∙ e));
     }
 
 -- A chunk of this identifier from `at` to stop, with so many bytes of own data: what it is around its children, and its
@@ -52,7 +51,7 @@ pub record Entered (s : List ℕ) (at stop id own : ℕ) (t : Run) : Type 0 wher
   pub lists : (depth parent next : ℕ) → recordsOf at depth parent next t ≡
       record { identifier = id; offset = at; len = stop - at; depth = depth; parent = parent; own = own } ∷ recordsOf (at + 6 + own) (depth + 1) next (next + 1) kids
 
-module _ {s : List ℕ} {at stop depth parent next : ℕ} (order : at + 6 ≤ stop) (bounds : Bounds s at stop depth parent next) {id row : ℕ} (id-is : id ≡ wordAt s at) (row-is : row ≡ outlineIn (rowOf id)) where
+module _ {s : List ℕ} {at stop depth parent next : ℕ} (order : at + 6 ≤ stop) (bounds : Bounds s at stop depth parent next) {id row : ℕ} (id-is : id ≡ wordAt s at) (row-is : row ≡ rowOf id) where
   -- a chunk without a row
   pub skipped-listed : (records : Lent) → row ≡ 0 → (p : Place) (t : Run) → Laid s at stop p (first t) → Listed records at depth parent next (first t) records next
   skipped-listed records e p end l = absurd (omega (arith, laid-size l))
@@ -61,7 +60,7 @@ module _ {s : List ℕ} {at stop depth parent next : ℕ} (order : at + 6 ≤ st
       let z = laid-size l in
       let w = l .parses .0 in
       let j = known-header s at stop p id₁ own kids end (l .stands) (l .parses) .id-is in
-      absurd (eqb-false (rowOf id₁) 0 (row-of-listed id₁ (fits-listed p id₁ own kids w)) (ap rowOf (sym j ∙ sym id-is) ∙ outline-zero (rowOf id) (sym row-is ∙ e)))
+      absurd (eqb-false (rowOf id₁) 0 (row-of-listed id₁ (fits-listed p id₁ own kids w)) (ap rowOf (sym j ∙ sym id-is) ∙ sym row-is ∙ e))
 
   -- a chunk with one; k is what own data comes to
   module _ {k : ℕ} (found : (around own more : List ℕ) → Begins row around own more → own ++ more ≡ slice (at + 6) stop s → k ≡ length own) where
@@ -71,7 +70,7 @@ module _ {s : List ℕ} {at stop depth parent next : ℕ} (order : at + 6 ≤ st
         let z = laid-size l in
         let u = l .parses .0 in
         let j = skip-header s at stop p id₁ body end (l .stands) (l .parses) .id-is in
-        absurd (e (row-is ∙ outline-no-row (rowOf id) (ap rowOf (id-is ∙ j) ∙ row-of-unlisted id₁ (not-true (listed id₁) (and-parts (ltb id₁ 0x1_0000) (not (listed id₁)) u .1)))))
+        absurd (e (row-is ∙ (ap rowOf (id-is ∙ j) ∙ row-of-unlisted id₁ (not-true (listed id₁) (and-parts (ltb id₁ 0x1_0000) (not (listed id₁)) u .1)))))
     entered e p (known id₁ own kids rest) l =
         let z = laid-size l in
         let w = l .parses .0 in

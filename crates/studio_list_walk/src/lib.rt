@@ -15,6 +15,7 @@ ghost use Rattle.studio_rules.specs.Layout.{Run};
 ghost use Rattle.studio_rules.specs.Parses.{Place};
 ghost use Rattle.studio_rules.specs.Gives.{recordCount};
 ghost use Rattle.studio_row.specs.Packed.{plusIn, kindIn};
+ghost use Rattle.studio_lookup.specs.Slots.{slots};
 ghost use Rattle.studio_list_rows.specs.Lent.{lent, Room};
 ghost use Rattle.studio_list_walk.specs.Laid.{first, Laid, Bounds, Listed, Begins, sizeOf};
 
@@ -51,6 +52,7 @@ fn own_length(file: &[u8], row: u64, at: usize, stop: usize) -> usize
 // its last.
 fn list_chunk(
     file: &[u8],
+    table: &[u64; 128],
     records: &mut [u32],
     bytes: &mut [u8],
     at: usize,
@@ -59,11 +61,11 @@ fn list_chunk(
     parent: usize,
     next: usize,
 ) -> usize
-    requires { ⌜ (at + 6 ≤ stop) × Bounds (now file) at stop depth parent next × ((p : Place) × (t : Run) × Laid (now file) at stop p (first t) × Room (lent (now records) (now bytes)) (next + recordCount (first t))) ⌝ }
+    requires { ⌜ (at + 6 ≤ stop) × Bounds (now file) at stop depth parent next × ((p : Place) × (t : Run) × Laid (now file) at stop p (first t) × Room (lent (now records) (now bytes)) (next + recordCount (first t))) × (now table ≡ slots) ⌝ }
     ensures { λ r. ⌜ ((p : Place) (t : Run) → Laid (now (file .entry)) at stop p (first t) → Listed (lent (now (records .entry)) (now (bytes .entry))) at depth parent next (first t) (lent (now (records .exit)) (now (bytes .exit))) r) ⌝ }
 {
     let id = word_at(file, at);
-    let row = studio_lookup::outline(id as usize);
+    let row = studio_lookup::row(table, id as usize);
     if row == 0 {
         return next;
     }
@@ -82,12 +84,23 @@ fn list_chunk(
     if from == stop {
         return after;
     }
-    list_run(file, records, bytes, from, stop, depth + 1, next, after)
+    list_run(
+        file,
+        table,
+        records,
+        bytes,
+        from,
+        stop,
+        depth + 1,
+        next,
+        after,
+    )
 }
 
 // The run of chunks from at to end.
 pub fn list_run(
     file: &[u8],
+    table: &[u64; 128],
     records: &mut [u32],
     bytes: &mut [u8],
     at: usize,
@@ -96,14 +109,24 @@ pub fn list_run(
     parent: usize,
     next: usize,
 ) -> usize
-    requires { ⌜ (at ≤ end) × Bounds (now file) at end depth parent next × ((p : Place) × (t : Run) × Laid (now file) at end p t × Room (lent (now records) (now bytes)) (next + recordCount t)) ⌝ }
+    requires { ⌜ (at ≤ end) × Bounds (now file) at end depth parent next × ((p : Place) × (t : Run) × Laid (now file) at end p t × Room (lent (now records) (now bytes)) (next + recordCount t)) × (now table ≡ slots) ⌝ }
     ensures { λ r. ⌜ ((p : Place) (t : Run) → Laid (now (file .entry)) at end p t → Listed (lent (now (records .entry)) (now (bytes .entry))) at depth parent next t (lent (now (records .exit)) (now (bytes .exit))) r) ⌝ }
 {
     let mut from = at;
     let mut number = next;
     while from < end {
         let stop = from + (long_at(file, from + 2) as usize);
-        number = list_chunk(file, records, bytes, from, stop, depth, parent, number);
+        number = list_chunk(
+            file,
+            table,
+            records,
+            bytes,
+            from,
+            stop,
+            depth,
+            parent,
+            number,
+        );
         from = stop;
     }
     number

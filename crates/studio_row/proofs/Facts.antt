@@ -1,12 +1,11 @@
 -- What a packed row says, in the words of crate studio_rules: one test for each field, computed over the whole table.
 use mathlib.Core.Path.{_≡_, refl, sym, ap, _∙_}
-use Prim.Native.Nat.{ℕ, _≤_}
+use Prim.Native.Nat.{ℕ, _≤_, _<_}
 use mathlib.Core.Bool.{Bool, true, false, not, _&&_, _||_, false≢true}
 use mathlib.Core.List.{List, [], _∷_}
 use lib.Dec.{eqb, ltb, leb}
-use borrow.Author.Tests.{eqb-true, not-true, leb-true}
-use Rattle.shared_words.specs.Lists.{every}
-use Rattle.shared_words.specs.Lists.{among}
+use borrow.Author.Tests.{eqb-true, not-true, ltb-true, leb-true}
+use Rattle.shared_words.specs.Lists.{every, among}
 use Rattle.studio_rules.specs.Table.{Shape, fixed, name, counted, each, named-words, rows, atMostOne, atLeastOne, listed, under, shape, plus, limits, needs}
 use Rattle.shared_words.proofs.Bools.{and-parts, or-second}
 use Rattle.studio_rules.proofs.Rows.{everyId, listed-every, under-listed}
@@ -72,6 +71,18 @@ unfolding shapeIn
 shape-is x l =
     let h = and-parts _ _ (listed-every (λ x. eqb (kindIn (rowOf x)) (kindOf (shape x)) && eqb (sizeIn (rowOf x)) (sizeOf (shape x))) shape-test x l) in
     rw (eqb-true (kindIn (rowOf x)) (kindOf (shape x)) (h .0), eqb-true (sizeIn (rowOf x)) (sizeOf (shape x)) (h .1)) (shape-back (shape x))
+
+-- own data before children: so many bytes, a name or counted elements
+kind-test : everyId (λ x. not (plusIn (rowOf x)) || ltb (kindIn (rowOf x)) 3) rows ≡ true
+unfolding rows every places limits atMostOne rowOf
+kind-test = refl
+
+pub holder-kind : (x : ℕ) → plusIn (rowOf x) ≡ true → kindIn (rowOf x) < 3
+holder-kind x p = go (listed x) refl
+  where
+    go : (b : Bool) → listed x ≡ b → kindIn (rowOf x) < 3
+    go true l = ltb-true _ _ (or-second (not (plusIn (rowOf x))) _ (listed-every (λ x. not (plusIn (rowOf x)) || ltb (kindIn (rowOf x)) 3) kind-test x l) (rw p))
+    go false l = absurd (false≢true (ap plusIn (sym (row-of-unlisted x l)) ∙ p))
 
 -- ---- plain rows
 

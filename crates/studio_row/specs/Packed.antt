@@ -102,18 +102,6 @@ plainIn row = eqb (row / 2 ^ 24 % 256) 0
 abbrev pub sizeIn : ℕ → ℕ
 sizeIn row = row / 2 ^ 32 % 256
 
--- a row that may have children; 0 for any other
-unfoldable pub holderIn : ℕ → ℕ
-holderIn row = cond (plusIn row) row 0
-
--- a row, and no children
-unfoldable pub leafIn : ℕ → Bool
-leafIn row = not (plusIn row) && not (eqb row 0)
-
--- what the list asks of a row: all of it where children may follow, else only whether there is one
-unfoldable pub outlineIn : ℕ → ℕ
-outlineIn row = cond (plusIn row) row (cond (eqb row 0) 0 1)
-
 -- the slot of an identifier
 abbrev pub slotOf : ℕ → ℕ
 slotOf x = slotIn (rowOf x)

@@ -11,6 +11,7 @@ ghost use lib.ListN.{length};
 ghost use lib.Seq.{slice};
 ghost use Rattle.studio_rules.specs.Rules.{Parent};
 ghost use Rattle.studio_rules.specs.Walk.{step, walk};
+ghost use Rattle.studio_lookup.specs.Slots.{slots};
 ghost use Rattle.studio_head.specs.Contexts.{Room, Context};
 ghost use Rattle.studio_walk.specs.Runs.{SomeContext, ChunkIs, ChunkWithin, RunIs, RunWithin};
 
@@ -25,13 +26,21 @@ pub enum Ran {
 }
 
 // The chunk at at. Its children leave marks of their own, by which it is judged at its end.
-fn chunk(file: &[u8], parent: u64, count: u32, at: usize, end: usize, marks: &mut [u32]) -> Ran
-    requires { ⌜ (at < end) × (1 ≤ at) × Room end count (now file) (now marks) × SomeContext parent count (now marks) ⌝ }
+fn chunk(
+    file: &[u8],
+    table: &[u64; 128],
+    parent: u64,
+    count: u32,
+    at: usize,
+    end: usize,
+    marks: &mut [u32],
+) -> Ran
+    requires { ⌜ (at < end) × (1 ≤ at) × Room end count (now file) (now marks) × SomeContext parent count (now marks) × (now table ≡ slots) ⌝ }
     ensures is { λ r. ⌜ ((p : Parent) (seen : List ℕ) → Context p seen parent count (now (marks .entry)) → ChunkIs p seen at (step p seen at (slice at end (now (file .entry)))) r (now (marks .entry)) (now (marks .exit))) ⌝ }
     ensures five { λ r. ⌜ length (now (marks .exit)) ≡ 5 ⌝ }
     ensures within { λ r. ⌜ ChunkWithin at end r ⌝ }
 {
-    match studio_head::look(file, parent, count, at, end, marks) {
+    match studio_head::look(file, table, parent, count, at, end, marks) {
         Head::Fault(r) => Ran::Refused(r),
         Head::Skip { stop } => Ran::Done {
             next: stop,
@@ -51,7 +60,7 @@ fn chunk(file: &[u8], parent: u64, count: u32, at: usize, end: usize, marks: &mu
             stop,
         } => {
             let mut inner = [0u32; 5];
-            match run(file, row, word, from, stop, &mut inner) {
+            match run(file, table, row, word, from, stop, &mut inner) {
                 Ran::Refused(r) => Ran::Refused(r),
                 Ran::Done {
                     next: _,
@@ -71,8 +80,16 @@ fn chunk(file: &[u8], parent: u64, count: u32, at: usize, end: usize, marks: &mu
 }
 
 // The run of chunks from at to end.
-pub fn run(file: &[u8], parent: u64, count: u32, at: usize, end: usize, marks: &mut [u32]) -> Ran
-    requires { ⌜ (at ≤ end) × (1 ≤ at) × Room end count (now file) (now marks) × SomeContext parent count (now marks) ⌝ }
+pub fn run(
+    file: &[u8],
+    table: &[u64; 128],
+    parent: u64,
+    count: u32,
+    at: usize,
+    end: usize,
+    marks: &mut [u32],
+) -> Ran
+    requires { ⌜ (at ≤ end) × (1 ≤ at) × Room end count (now file) (now marks) × SomeContext parent count (now marks) × (now table ≡ slots) ⌝ }
     ensures is { λ r. ⌜ ((p : Parent) (seen : List ℕ) → Context p seen parent count (now (marks .entry)) → RunIs end 0 0 at (now (marks .entry)) (walk p seen at (slice at end (now (file .entry)))) r (now (marks .exit))) ⌝ }
     ensures five { λ r. ⌜ length (now (marks .exit)) ≡ 5 ⌝ }
     ensures within { λ r. ⌜ RunWithin at end r ⌝ }
@@ -81,7 +98,7 @@ pub fn run(file: &[u8], parent: u64, count: u32, at: usize, end: usize, marks: &
     let mut records = 0usize;
     let mut skipped = 0usize;
     while p < end {
-        match chunk(file, parent, count, p, end, marks) {
+        match chunk(file, table, parent, count, p, end, marks) {
             Ran::Refused(r) => return Ran::Refused(r),
             Ran::Done {
                 next,

@@ -27,13 +27,20 @@ returns c =
     let a = accepted-by (x .file .now) (g .0 .0) (sym (c .before .before .before .before .before .check .ensures) ∙ g .1) in
     rows-no-room a (lent (x .records .now) (x .bytes .now)) (c .if1 .taken)
 
+slots-requires : tie.Need-slots-requires
+slots-requires c κs = search needs
+
 list-run-requires : tie.Need-list-run-requires
 list-run-requires c κs =
-    let x = c .before .before .before .before .before .before .before .before .before .before .before in
-    let g = c .before .before .before .before .before .counts .given in
-    let a = accepted-by (x .args .file .now) (g .0 .0) (sym (c .before .before .before .before .before .before .before .check .ensures) ∙ g .1) in
-    let b = bytes-all (x .args .file .now) (λ i. omega (arith, c .before .before .before .before .before .before .before .before .before .before .shared-slice-known .given i)) in
-    (omega arith, whole-bounds a b, (inFile, figure (a .kids), whole-laid a b, whole-room a (lent (x .args .records .now) (x .args .bytes .now)) (c .before .before .if1 .left) (x .pre)))
+    let x = c .before .before .before .before .before .before .before .before .before .before .before .before .before in
+    let g = c .before .before .before .before .before .before .before .counts .given in
+    let a = accepted-by (x .args .file .now) (g .0 .0) (sym (c .before .before .before .before .before .before .before .before .before .check .ensures) ∙ g .1) in
+    let b = bytes-all (x .args .file .now) (λ i. omega (arith, c .before .before .before .before .before .before .before .before .before .before .before .before .shared-slice-known .given i)) in (
+      omega arith,
+      whole-bounds a b,
+      (inFile, figure (a .kids), whole-laid a b, whole-room a (lent (x .args .records .now) (x .args .bytes .now)) (c .before .before .before .before .if1 .left) (x .pre)),
+      c .before .before .before .slots .ensures,
+    )
 
 returns-2 : tie.Need-returns-2
 returns-2 c =
@@ -49,11 +56,11 @@ same-length-2 c = search needs
 
 returns-3 : tie.Need-returns-3
 returns-3 c =
-    let x = c .before .before .before .before .before .before .before .before .before .before .before .before .before .before .before .before .args in
-    let g = c .before .before .before .before .before .before .before .before .before .before .counts .given in
-    let a = accepted-by (x .file .now) (g .0 .0) (sym (c .before .before .before .before .before .before .before .before .before .before .before .before .check .ensures) ∙ g .1) in
-    let b = bytes-all (x .file .now) (λ i. omega (arith, c .before .before .before .before .before .before .before .before .before .before .before .before .before .before .before .shared-slice-known .given i)) in
-    rows-filled a (lent (x .records .now) (x .bytes .now)) (c .before .before .before .before .before .before .before .if1 .left) (c .before .before .before .before .list-run .ensures inFile (figure (a .kids)) (whole-laid a b))
+    let x = c .before .before .before .before .before .before .before .before .before .before .before .before .before .before .before .before .before .before .args in
+    let g = c .before .before .before .before .before .before .before .before .before .before .before .before .counts .given in
+    let a = accepted-by (x .file .now) (g .0 .0) (sym (c .before .before .before .before .before .before .before .before .before .before .before .before .before .before .check .ensures) ∙ g .1) in
+    let b = bytes-all (x .file .now) (λ i. omega (arith, c .before .before .before .before .before .before .before .before .before .before .before .before .before .before .before .before .before .shared-slice-known .given i)) in
+    rows-filled a (lent (x .records .now) (x .bytes .now)) (c .before .before .before .before .before .before .before .before .before .if1 .left) (c .before .before .before .before .list-run .ensures inFile (figure (a .kids)) (whole-laid a b))
 
 pub list-rows-spec : {M : Type 1} → statement M
 list-rows-spec =
@@ -63,6 +70,7 @@ list-rows-spec =
     enum-known-r
     enum-known-counts
     returns
+    slots-requires
     list-run-requires
     returns-2
     same-length

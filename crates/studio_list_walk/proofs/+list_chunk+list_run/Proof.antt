@@ -9,7 +9,7 @@ use borrow.Fn.Kinds.{In}
 use borrow.Fn.PlainCycle.{Measures, is, falls, and}
 use Rattle.studio_rules.specs.Layout.{Run}
 use Rattle.studio_rules.specs.Parses.{Place}
-use Rattle.studio_lookup.proofs.Outlines.{outline-kind}
+use Rattle.studio_row.proofs.Facts.{holder-kind}
 use Rattle.studio_list_rows.specs.Lent.{lent}
 use Rattle.studio_list_walk.specs.Laid.{first, Laid}
 use Rattle.studio_list_rows.proofs.Rows.{room-less}
@@ -27,35 +27,35 @@ use Rattle.studio_list_walk.proofs.own_length.Reads as own-length-reads
 use Rattle.studio_list_rows.proofs.put_record.Reads as put-record-reads
 use Rattle.shared_numbers.proofs.long_at.Reads as long-at-reads
 use Rattle.shared_numbers.proofs.word_at.Reads as word-at-reads
-use Rattle.studio_lookup.proofs.outline.Reads as outline-reads
+use Rattle.studio_lookup.proofs.row.Reads as row-reads
 use Rattle.studio_list_walk.proofs.+list_chunk+list_run.{statement}
 use Rattle.studio_list_walk.proofs.+list_chunk+list_run.Tie.{close}
 
-abbrev μ-list-chunk : Measures 3 list-chunk-kinds.ps ℕ
-μ-list-chunk κs a = (a .1 .1 .1 .1 .0 - a .1 .1 .1 .0) * 2
+abbrev μ-list-chunk : Measures 4 list-chunk-kinds.ps ℕ
+μ-list-chunk κs a = (a .1 .1 .1 .1 .1 .0 - a .1 .1 .1 .1 .0) * 2
 
-abbrev μ-list-run : Measures 3 list-run-kinds.ps ℕ
-μ-list-run κs a = (a .1 .1 .1 .1 .0 - a .1 .1 .1 .0) * 2 + 1
+abbrev μ-list-run : Measures 4 list-run-kinds.ps ℕ
+μ-list-run κs a = (a .1 .1 .1 .1 .1 .0 - a .1 .1 .1 .1 .0) * 2 + 1
 
-abbrev list-chunk-at : ℕ → In 3 list-chunk-kinds.ps
-list-chunk-at t = and 3 list-chunk-kinds.ps (is 3 list-chunk-kinds.ps μ-list-chunk t) list-chunk.Pre
+abbrev list-chunk-at : ℕ → In 4 list-chunk-kinds.ps
+list-chunk-at t = and 4 list-chunk-kinds.ps (is 4 list-chunk-kinds.ps μ-list-chunk t) list-chunk.Pre
 
-abbrev list-chunk-below : ℕ → In 3 list-chunk-kinds.ps
-list-chunk-below t = and 3 list-chunk-kinds.ps (falls 3 list-chunk-kinds.ps _<_ μ-list-chunk t) list-chunk.Pre
+abbrev list-chunk-below : ℕ → In 4 list-chunk-kinds.ps
+list-chunk-below t = and 4 list-chunk-kinds.ps (falls 4 list-chunk-kinds.ps _<_ μ-list-chunk t) list-chunk.Pre
 
-abbrev list-run-at : ℕ → In 3 list-run-kinds.ps
-list-run-at t = and 3 list-run-kinds.ps (is 3 list-run-kinds.ps μ-list-run t) list-run.Pre
+abbrev list-run-at : ℕ → In 4 list-run-kinds.ps
+list-run-at t = and 4 list-run-kinds.ps (is 4 list-run-kinds.ps μ-list-run t) list-run.Pre
 
-abbrev list-run-below : ℕ → In 3 list-run-kinds.ps
-list-run-below t = and 3 list-run-kinds.ps (falls 3 list-run-kinds.ps _<_ μ-list-run t) list-run.Pre
+abbrev list-run-below : ℕ → In 4 list-run-kinds.ps
+list-run-below t = and 4 list-run-kinds.ps (falls 4 list-run-kinds.ps _<_ μ-list-run t) list-run.Pre
 
 -- what is known of the functions that each of the two calls
 abbrev chunk-calls : ℕ → list-chunk-lts.Claims
 chunk-calls t = (
   word-at-reads.Asked,
   word-at-reads.Learnt,
-  outline-reads.Asked,
-  outline-reads.Learnt,
+  row-reads.Asked,
+  row-reads.Learnt,
   own-length-reads.Asked,
   own-length-reads.Learnt,
   put-record-reads.Asked,
@@ -76,37 +76,34 @@ chunk-entered : (t : ℕ) (c : list-chunk-lts.After-own-length (chunk-calls t) (
     Entered (x .file .now) (x .at) (x .stop) (c .before .before .before .word-at .result) (c .own-length .result) (first u)
 chunk-entered t c =
     let q = c .before .before .before .before .before .before .before .pre .1 in
-    entered (q .0) (q .1) (c .before .before .before .word-at .ensures .is) (c .before .before .outline .ensures) (c .own-length .ensures .0) (c .before .if1 .left)
+    entered (q .0) (q .1) (c .before .before .before .word-at .ensures .is) (c .before .before .row .ensures) (c .own-length .ensures .0) (c .before .if1 .left)
 
 list-chunk-word-at-requires : (t : ℕ) → list-chunk-lts.Need-word-at-requires (chunk-calls t) (list-chunk-at t) list-chunk.Post
 list-chunk-word-at-requires t c κs = omega arith
 
-list-chunk-cast-outline : (t : ℕ) → list-chunk-lts.Need-cast-outline (chunk-calls t) (list-chunk-at t) list-chunk.Post
-list-chunk-cast-outline t c = search needs
+list-chunk-cast-row : (t : ℕ) → list-chunk-lts.Need-cast-row (chunk-calls t) (list-chunk-at t) list-chunk.Post
+list-chunk-cast-row t c = search needs
 
-list-chunk-outline-requires : (t : ℕ) → list-chunk-lts.Need-outline-requires (chunk-calls t) (list-chunk-at t) list-chunk.Post
-list-chunk-outline-requires t c κs = search needs
+list-chunk-row-requires : (t : ℕ) → list-chunk-lts.Need-row-requires (chunk-calls t) (list-chunk-at t) list-chunk.Post
+list-chunk-row-requires t c κs = search needs
 
 list-chunk-returns : (t : ℕ) → list-chunk-lts.Need-returns (chunk-calls t) (list-chunk-at t) list-chunk.Post
 list-chunk-returns t c =
     let x = c .before .before .before .before .before in
-    skipped-listed (x .before .pre .1 .0) (x .before .pre .1 .1) (c .before .before .word-at .ensures .is) (c .before .outline .ensures) (lent (x .before .args .records .now) (x .before .args .bytes .now)) (c .if1 .taken)
+    skipped-listed (x .before .pre .1 .0) (x .before .pre .1 .1) (c .before .before .word-at .ensures .is) (c .before .row .ensures) (lent (x .before .args .records .now) (x .before .args .bytes .now)) (c .if1 .taken)
 
 list-chunk-add-own-length : (t : ℕ) → list-chunk-lts.Need-add-own-length (chunk-calls t) (list-chunk-at t) list-chunk.Post
 list-chunk-add-own-length t c = omega arith
 
 list-chunk-own-length-requires : (t : ℕ) → list-chunk-lts.Need-own-length-requires (chunk-calls t) (list-chunk-at t) list-chunk.Post
 list-chunk-own-length-requires t c κs =
-    (omega arith, omega arith, λ h. rw (c .before .outline .ensures) (outline-kind _ (rw (c .before .outline .ensures) at h)))
-
-list-chunk-cast-t17 : (t : ℕ) → list-chunk-lts.Need-cast-t17 (chunk-calls t) (list-chunk-at t) list-chunk.Post
-list-chunk-cast-t17 t c = omega arith
-
-list-chunk-sub-t15 : (t : ℕ) → list-chunk-lts.Need-sub-t15 (chunk-calls t) (list-chunk-at t) list-chunk.Post
-list-chunk-sub-t15 t c = omega arith
+    (omega arith, omega arith, λ h. rw (c .before .row .ensures) (holder-kind _ (rw (c .before .row .ensures) at h)))
 
 list-chunk-cast-t18 : (t : ℕ) → list-chunk-lts.Need-cast-t18 (chunk-calls t) (list-chunk-at t) list-chunk.Post
 list-chunk-cast-t18 t c = omega arith
+
+list-chunk-sub-t16 : (t : ℕ) → list-chunk-lts.Need-sub-t16 (chunk-calls t) (list-chunk-at t) list-chunk.Post
+list-chunk-sub-t16 t c = omega arith
 
 list-chunk-cast-t19 : (t : ℕ) → list-chunk-lts.Need-cast-t19 (chunk-calls t) (list-chunk-at t) list-chunk.Post
 list-chunk-cast-t19 t c = omega arith
@@ -115,7 +112,10 @@ list-chunk-cast-t20 : (t : ℕ) → list-chunk-lts.Need-cast-t20 (chunk-calls t)
 list-chunk-cast-t20 t c = omega arith
 
 list-chunk-cast-t21 : (t : ℕ) → list-chunk-lts.Need-cast-t21 (chunk-calls t) (list-chunk-at t) list-chunk.Post
-list-chunk-cast-t21 t c = omega (arith, c .own-length .ensures .1)
+list-chunk-cast-t21 t c = omega arith
+
+list-chunk-cast-t22 : (t : ℕ) → list-chunk-lts.Need-cast-t22 (chunk-calls t) (list-chunk-at t) list-chunk.Post
+list-chunk-cast-t22 t c = omega (arith, c .own-length .ensures .1)
 
 list-chunk-put-record-requires : (t : ℕ) → list-chunk-lts.Need-put-record-requires (chunk-calls t) (list-chunk-at t) list-chunk.Post
 list-chunk-put-record-requires t c κs =
@@ -158,14 +158,15 @@ list-chunk-list-run-requires t c κs =
         omega arith,
         record { ends = omega arith; short = omega arith; deep = omega arith; over = omega arith; before = omega arith },
         (e .around, e .kids, e .laid, room-less (k .0) (k .1 .0) (omega arith) (x .pre .1 .2 .3)),
+        x .pre .1 .3,
       ),
     )
 
 list-chunk-same-length-3 : (t : ℕ) → list-chunk-lts.Need-same-length-3 (chunk-calls t) (list-chunk-at t) list-chunk.Post
-list-chunk-same-length-3 t c = c .before .before .before .before .list-run .kept .1 .0 ∙ c .before .before .before .before .before .before .before .before .before .before .before .before .put-record .kept .0
+list-chunk-same-length-3 t c = c .before .before .before .before .list-run .kept .1 .1 .0 ∙ c .before .before .before .before .before .before .before .before .before .before .before .before .put-record .kept .0
 
 list-chunk-same-length-4 : (t : ℕ) → list-chunk-lts.Need-same-length-4 (chunk-calls t) (list-chunk-at t) list-chunk.Post
-list-chunk-same-length-4 t c = c .before .before .before .before .list-run .kept .1 .1 .0 ∙ c .before .before .before .before .before .before .before .before .before .before .before .before .put-record .kept .1 .0
+list-chunk-same-length-4 t c = c .before .before .before .before .list-run .kept .1 .1 .1 .0 ∙ c .before .before .before .before .before .before .before .before .before .before .before .before .put-record .kept .1 .0
 
 list-chunk-returns-3 : (t : ℕ) → list-chunk-lts.Need-returns-3 (chunk-calls t) (list-chunk-at t) list-chunk.Post
 list-chunk-returns-3 t c =
@@ -178,12 +179,12 @@ list-chunk-returns-3 t c =
 -- ---- a run
 
 abbrev list-run-Inv-loop : list-run-lts.InvT-loop
-list-run-Inv-loop file records₀ bytes₀ at end depth parent next from₀ number₀ records bytes from number =
+list-run-Inv-loop file table records₀ bytes₀ at end depth parent next from₀ number₀ records bytes from number =
     (at ≤ from) × (from ≤ end) × (6 * number ≤ from) × (length records ≡ length records₀) × (length bytes ≡ length bytes₀) ×
     ((p : Place) (t : Run) → Laid file at end p t → Sofar file end depth parent p (lent records₀ bytes₀) at next t (lent records bytes) from number)
 
 abbrev list-run-μ-loop : list-run-lts.MeasureT-loop
-list-run-μ-loop file records₀ bytes₀ at end depth parent next from₀ number₀ records bytes from number = end - from
+list-run-μ-loop file table records₀ bytes₀ at end depth parent next from₀ number₀ records bytes from number = end - from
 
 -- what is left of the run begins with a chunk of the length that was read
 run-first : (t : ℕ) (c : list-run-lts.After-long-at (run-calls t) (list-run-at t) list-run.Post list-run-Inv-loop list-run-μ-loop) →
@@ -236,6 +237,7 @@ list-run-list-chunk-requires t c κs =
         omega arith,
         record { ends = omega arith; short = omega arith; deep = omega arith; over = omega arith; before = omega arith },
         (x .pre .1 .2 .0, f .left, a .alone, room-less (i .3) (i .4) (omega arith) (x .pre .1 .2 .3)),
+        x .pre .1 .3,
       ),
     )
 
@@ -265,8 +267,8 @@ list-run-loop-again t c =
       omega arith,
       omega arith,
       omega arith,
-      d .kept .1 .0 ∙ i .3,
-      d .kept .1 .1 .0 ∙ i .4,
+      d .kept .1 .1 .0 ∙ i .3,
+      d .kept .1 .1 .1 .0 ∙ i .4,
       λ p u l.
           let f₁ = i .5 p u l in
           let a₁ = run-first t (c .before .before .before .before .before .before .before) p (f₁ .left) (f₁ .laid) in
@@ -289,17 +291,17 @@ pub +list-chunk+list-run-spec : {M : Type 1} → statement M
     (list-chunk-at t)
     list-chunk.Post
     (list-chunk-word-at-requires t)
-    (list-chunk-cast-outline t)
-    (list-chunk-outline-requires t)
+    (list-chunk-cast-row t)
+    (list-chunk-row-requires t)
     (list-chunk-returns t)
     (list-chunk-add-own-length t)
     (list-chunk-own-length-requires t)
-    (list-chunk-cast-t17 t)
-    (list-chunk-sub-t15 t)
     (list-chunk-cast-t18 t)
+    (list-chunk-sub-t16 t)
     (list-chunk-cast-t19 t)
     (list-chunk-cast-t20 t)
     (list-chunk-cast-t21 t)
+    (list-chunk-cast-t22 t)
     (list-chunk-put-record-requires t)
     (list-chunk-add-from t)
     (list-chunk-add-from-2 t)

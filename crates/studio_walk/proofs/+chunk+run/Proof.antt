@@ -37,23 +37,23 @@ use Rattle.studio_head.proofs.look.Reads as look-reads
 use Rattle.studio_walk.proofs.+chunk+run.{statement}
 use Rattle.studio_walk.proofs.+chunk+run.Tie.{close}
 
-abbrev μ-chunk : Measures 2 chunk-kinds.ps ℕ
-μ-chunk κs a = (a .1 .1 .1 .1 .0 - a .1 .1 .1 .0) * 2
+abbrev μ-chunk : Measures 3 chunk-kinds.ps ℕ
+μ-chunk κs a = (a .1 .1 .1 .1 .1 .0 - a .1 .1 .1 .1 .0) * 2
 
-abbrev μ-run : Measures 2 run-kinds.ps ℕ
-μ-run κs a = (a .1 .1 .1 .1 .0 - a .1 .1 .1 .0) * 2 + 1
+abbrev μ-run : Measures 3 run-kinds.ps ℕ
+μ-run κs a = (a .1 .1 .1 .1 .1 .0 - a .1 .1 .1 .1 .0) * 2 + 1
 
-abbrev chunk-at : ℕ → In 2 chunk-kinds.ps
-chunk-at t = and 2 chunk-kinds.ps (is 2 chunk-kinds.ps μ-chunk t) chunk.Pre
+abbrev chunk-at : ℕ → In 3 chunk-kinds.ps
+chunk-at t = and 3 chunk-kinds.ps (is 3 chunk-kinds.ps μ-chunk t) chunk.Pre
 
-abbrev chunk-below : ℕ → In 2 chunk-kinds.ps
-chunk-below t = and 2 chunk-kinds.ps (falls 2 chunk-kinds.ps _<_ μ-chunk t) chunk.Pre
+abbrev chunk-below : ℕ → In 3 chunk-kinds.ps
+chunk-below t = and 3 chunk-kinds.ps (falls 3 chunk-kinds.ps _<_ μ-chunk t) chunk.Pre
 
-abbrev run-at : ℕ → In 2 run-kinds.ps
-run-at t = and 2 run-kinds.ps (is 2 run-kinds.ps μ-run t) run.Pre
+abbrev run-at : ℕ → In 3 run-kinds.ps
+run-at t = and 3 run-kinds.ps (is 3 run-kinds.ps μ-run t) run.Pre
 
-abbrev run-below : ℕ → In 2 run-kinds.ps
-run-below t = and 2 run-kinds.ps (falls 2 run-kinds.ps _<_ μ-run t) run.Pre
+abbrev run-below : ℕ → In 3 run-kinds.ps
+run-below t = and 3 run-kinds.ps (falls 3 run-kinds.ps _<_ μ-run t) run.Pre
 
 -- what is known of the functions that each of the two calls
 abbrev chunk-calls : ℕ → chunk-lts.Claims
@@ -70,7 +70,7 @@ abbrev run-calls : ℕ → run-lts.Claims
 run-calls t = (chunk-below t, chunk.Post)
 
 chunk-look-requires : (t : ℕ) → chunk-lts.Need-look-requires (chunk-calls t) (chunk-at t) chunk.Post
-chunk-look-requires t c κs = (c .before .before .before .pre .1 .0, c .before .before .before .pre .1 .2)
+chunk-look-requires t c κs = let x = c .before .before .before .pre .1 in (x .0, x .2, x .4)
 
 -- what the look at the chunk's start has told: where what it found stands
 found-within : (t : ℕ) (d : chunk-lts.After-look (chunk-calls t) (chunk-at t) chunk.Post) {h : Head} → d .look .result ≡ h → HeadWithin (d .before .before .before .before .args .at) (d .before .before .before .before .args .end) h
@@ -93,8 +93,8 @@ chunk-enum-known-r t c = search needs
 chunk-enum-known-stop : (t : ℕ) → chunk-lts.Need-enum-known-stop (chunk-calls t) (chunk-at t) chunk.Post
 chunk-enum-known-stop t c = search needs
 
-chunk-sub-t24 : (t : ℕ) → chunk-lts.Need-sub-t24 (chunk-calls t) (chunk-at t) chunk.Post
-chunk-sub-t24 t c =
+chunk-sub-t25 : (t : ℕ) → chunk-lts.Need-sub-t25 (chunk-calls t) (chunk-at t) chunk.Post
+chunk-sub-t25 t c =
     let v = found-within t (c .before .before .before .before .before) (c .before .stop .given .1) in
     omega arith
 
@@ -112,7 +112,7 @@ opened : (t : ℕ) (d : chunk-lts.After-id (chunk-calls t) (chunk-at t) chunk.Po
     let x = d .before .before .before .before .before .before .before .before .args in
     let g = d .id .given .0 in
     (q : Parent) (seen : List ℕ) → Context q seen (x .parent) (x .count) (x .marks .now) →
-    Opened (x .file .now) (x .at) (x .end) q seen (x .marks .now) (d .before .before .before .before .look .last .1 .1 .1 .1 .1 .0) (g .0) (g .1 .0) (g .1 .1 .0) (g .1 .1 .1 .0) (g .1 .1 .1 .1 .0)
+    Opened (x .file .now) (x .at) (x .end) q seen (x .marks .now) (d .before .before .before .before .look .last .1 .1 .1 .1 .1 .1 .0) (g .0) (g .1 .0) (g .1 .1 .0) (g .1 .1 .1 .0) (g .1 .1 .1 .1 .0)
 opened t d q seen k =
     let x = d .before .before .before .before .before .before .before .before in
     let l = d .before .before .before .before in
@@ -133,7 +133,7 @@ chunk-run-requires t c κs =
     let e = opened t (c .before .before) (p .0) (p .1) (p .2) in
     let v = e .within in
     let room : Room (c .before .before .id .given .0 .1 .1 .1 .1 .0) (c .before .before .id .given .0 .1 .1 .0) (x .args .file .now) noMarks = record { ends = omega (arith, x .pre .1 .2 .ends, v .2); short = x .pre .1 .2 .short; word = v .3; five = refl } in
-    (omega (arith, v .0, v .1, v .2, x .pre), (v .1, omega (arith, v .0), room, (inside (p .0) (p .1) (c .before .before .id .given .0 .0) (ent e .own), [], inner-context e)))
+    (omega (arith, v .0, v .1, v .2, x .pre), (v .1, omega (arith, v .0), room, (inside (p .0) (p .1) (c .before .before .id .given .0 .0) (ent e .own), [], inner-context e), x .pre .1 .4))
 
 chunk-enum-known-r-2 : (t : ℕ) → chunk-lts.Need-enum-known-r-2 (chunk-calls t) (chunk-at t) chunk.Post
 chunk-enum-known-r-2 t c = search needs
@@ -165,8 +165,8 @@ children-within : (t : ℕ) (d : chunk-lts.After-records (chunk-calls t) (chunk-
     RunWithin (g .1 .1 .1 .0) (g .1 .1 .1 .1 .0) (Ran.Done (h .0) (h .1 .0) (h .1 .1 .0))
 children-within t d = subst (RunWithin _ _) (d .records .given .1) (d .before .before .before .run .ensures .1 .1)
 
-chunk-add-t33 : (t : ℕ) → chunk-lts.Need-add-t33 (chunk-calls t) (chunk-at t) chunk.Post
-chunk-add-t33 t c =
+chunk-add-t34 : (t : ℕ) → chunk-lts.Need-add-t34 (chunk-calls t) (chunk-at t) chunk.Post
+chunk-add-t34 t c =
     let x = c .before .before .before .before .before .before .before .before .before .before .before .before .before .before .before .before .before .before .before .pre .1 .2 in
     let v = found-within t (c .before .before .before .before .before .before .before .before .before .before .before .before .before .before .before) (c .before .before .before .before .before .before .before .before .before .before .before .id .given .1) in
     let z = children-within t (c .before .before .before .before .before) in
@@ -179,7 +179,7 @@ chunk-returns : (t : ℕ) → chunk-lts.Need-returns (chunk-calls t) (chunk-at t
 chunk-returns t c =
     let d = c .before .before .before .before .before in
     let x = d .before .before .before .before .args in
-    let ms = d .look .last .1 .1 .1 .1 .1 .0 in
+    let ms = d .look .last .1 .1 .1 .1 .1 .1 .0 in
     let g = c .before .r .given in
     (λ q seen k. chunk-fault q seen (x .at) (x .marks .now) ms (step q seen (x .at) (slice (x .at) (x .end) (x .file .now))) (g .0 .0) (found t d (g .1) q seen k), (d .look .ensures .1 .1 .0, tt))
 
@@ -190,7 +190,7 @@ chunk-returns-2 : (t : ℕ) → chunk-lts.Need-returns-2 (chunk-calls t) (chunk-
 chunk-returns-2 t c =
     let d = c .before .before .before .before .before in
     let x = d .before .before .before .before .args in
-    let ms = d .look .last .1 .1 .1 .1 .1 .0 in
+    let ms = d .look .last .1 .1 .1 .1 .1 .1 .0 in
     let g = c .before .stop .given in
     let v = found-within t d (g .1) in (
       λ q seen k.
@@ -206,7 +206,7 @@ chunk-returns-3 t c =
     let d = c .before .before .before .before .before in
     let x = d .before .before .before .before .args in
     let body = slice (x .at) (x .end) (x .file .now) in
-    let ms = d .look .last .1 .1 .1 .1 .1 .0 in
+    let ms = d .look .last .1 .1 .1 .1 .1 .1 .0 in
     let g = c .before .stop2 .given in
     let v = found-within t d (g .1) in (
       λ q seen k.
@@ -252,10 +252,10 @@ chunk-returns-6 t c =
     )
 
 abbrev run-Inv-loop : run-lts.InvT-loop
-run-Inv-loop file parent count at end marks₀ p₀ records₀ skipped₀ marks p records skipped = Sofar file parent count at end marks₀ marks p records skipped
+run-Inv-loop file table parent count at end marks₀ p₀ records₀ skipped₀ marks p records skipped = Sofar file parent count at end marks₀ marks p records skipped
 
 abbrev run-μ-loop : run-lts.MeasureT-loop
-run-μ-loop file parent count at end marks₀ p₀ records₀ skipped₀ marks p records skipped = end - p
+run-μ-loop file table parent count at end marks₀ p₀ records₀ skipped₀ marks p records skipped = end - p
 
 run-loop-holds :
     (t : ℕ) →
@@ -287,7 +287,7 @@ run-chunk-requires :
 run-chunk-requires t c κs =
     let x = c .before .before .before .before .before in
     let i = c .before .before .loop .inv in
-    (omega (arith, i .past, c .before .loop-test .taken, x .pre), (c .before .loop-test .taken, omega (arith, i .past, x .pre .1 .1), record { ends = x .pre .1 .2 .ends; short = x .pre .1 .2 .short; word = x .pre .1 .2 .word; five = i .five }, i .somewhere))
+    (omega (arith, i .past, c .before .loop-test .taken, x .pre), (c .before .loop-test .taken, omega (arith, i .past, x .pre .1 .1), record { ends = x .pre .1 .2 .ends; short = x .pre .1 .2 .short; word = x .pre .1 .2 .word; five = i .five }, i .somewhere, x .pre .1 .4))
 
 run-enum-known-r :
     (t : ℕ) →
@@ -314,18 +314,18 @@ came : (t : ℕ) (d : run-lts.After-chunk (run-calls t) (run-at t) run.Post run-
     let x = d .before .before .before .before .before .before .args in
     let i = d .before .before .before .loop in
     (q : Parent) (seen : List ℕ) → Context q seen (x .parent) (x .count) (i .marks) →
-    ChunkIs q seen (i .p) (step q seen (i .p) (slice (i .p) (x .end) (x .file .now))) r (i .marks) (d .chunk .last .1 .1 .1 .1 .1 .0)
+    ChunkIs q seen (i .p) (step q seen (i .p) (slice (i .p) (x .end) (x .file .now))) r (i .marks) (d .chunk .last .1 .1 .1 .1 .1 .1 .0)
 came t d e q seen k =
     let x = d .before .before .before .before .before .before .args in
     let i = d .before .before .before .loop in
-    subst (λ r. ChunkIs q seen (i .p) (step q seen (i .p) (slice (i .p) (x .end) (x .file .now))) r (i .marks) (d .chunk .last .1 .1 .1 .1 .1 .0)) e (d .chunk .ensures .0 q seen k)
+    subst (λ r. ChunkIs q seen (i .p) (step q seen (i .p) (slice (i .p) (x .end) (x .file .now))) r (i .marks) (d .chunk .last .1 .1 .1 .1 .1 .1 .0)) e (d .chunk .ensures .0 q seen k)
 
 run-returns : (t : ℕ) → run-lts.Need-returns (run-calls t) (run-at t) run.Post run-Inv-loop run-μ-loop
 run-returns t c =
     let d = c .before .before .before .before .before in
     let x = d .before .before .before .before .before .before in
     let i = d .before .before .before .loop in
-    let ms = d .chunk .last .1 .1 .1 .1 .1 .0 in
+    let ms = d .chunk .last .1 .1 .1 .1 .1 .1 .0 in
     let g = c .before .r .given in (
       λ q seen k.
           let j = i .inv .later q seen k in
@@ -394,7 +394,7 @@ went-on : (t : ℕ) (c : run-lts.After-next (run-calls t) (run-at t) run.Post ru
     let g = c .next .given .0 in
     (q : Parent) (seen : List ℕ) → Context q seen (x .parent) (x .count) (i .marks) →
     GoesOn q seen (x .file .now) (i .p) (x .end) (i .marks) (x .parent) (x .count) (walk q seen (i .p) (slice (i .p) (x .end) (x .file .now)))
-    (g .0) (g .1 .0) (g .1 .1 .0) (c .before .before .before .before .chunk .last .1 .1 .1 .1 .1 .0)
+    (g .0) (g .1 .0) (g .1 .1 .0) (c .before .before .before .before .chunk .last .1 .1 .1 .1 .1 .1 .0)
 went-on t c q seen k =
     let x = c .before .before .before .before .before .before .before .before .before .before in
     let i = c .before .before .before .before .before .before .before .loop in
@@ -402,7 +402,7 @@ went-on t c q seen k =
     let s = x .args .file .now in
     let b = bytes-all s (λ n. omega (arith, c .before .before .before .before .before .before .before .before .before .shared-slice-known .given n)) in
     goes-on q seen s (i .p) (x .args .end) (i .marks) (c .before .before .before .before .before .before .loop-test .taken) (x .pre .1 .2 .ends) (x .args .parent) (x .args .count) k (i .inv .five)
-    (omega (arith, i .inv .past, x .pre .1 .1)) b (g .0 .0) (g .0 .1 .0) (g .0 .1 .1 .0) (c .before .before .before .before .chunk .last .1 .1 .1 .1 .1 .0) (came t (c .before .before .before .before) (g .1) q seen k)
+    (omega (arith, i .inv .past, x .pre .1 .1)) b (g .0 .0) (g .0 .1 .0) (g .0 .1 .1 .0) (c .before .before .before .before .chunk .last .1 .1 .1 .1 .1 .1 .0) (came t (c .before .before .before .before) (g .1) q seen k)
 
 run-loop-again : (t : ℕ) → run-lts.Need-loop-again (run-calls t) (run-at t) run.Post run-Inv-loop run-μ-loop
 run-loop-again t c =
@@ -451,7 +451,7 @@ pub +chunk+run-spec : {M : Type 1} → statement M
     (chunk-look-requires t)
     (chunk-enum-known-r t)
     (chunk-enum-known-stop t)
-    (chunk-sub-t24 t)
+    (chunk-sub-t25 t)
     (chunk-enum-known-stop-2 t)
     (chunk-enum-known-id t)
     (chunk-slice-aggregate-run t)
@@ -462,7 +462,7 @@ pub +chunk+run-spec : {M : Type 1} → statement M
     (chunk-at-end-requires t)
     (chunk-enum-known-r-3 t)
     (chunk-enum-told t)
-    (chunk-add-t33 t)
+    (chunk-add-t34 t)
     (chunk-same-length t)
     (chunk-returns t)
     (chunk-same-length-2 t)

@@ -1,0 +1,62 @@
+-- The slot of an identifier has its row: two tests, one computed over the rows and one over the slots.
+use mathlib.Core.Path.{_≡_, refl, sym, ap, _∙_}
+use mathlib.Core.Bool.{Bool, true, false, not, _||_, cond, false≢true, true≢false}
+use mathlib.Core.List.{List}
+use Prim.Native.Nat.{ℕ, _%_, _^_, _<_}
+use lib.Dec.{T, eqb}
+use lib.ListN.{length, getD}
+use native.Mathlib.Omega.{arith}
+use borrow.Author.Tests.{eqb-true}
+use Rattle.shared_words.specs.Lists.{every}
+use Rattle.studio_rules.specs.Table.{rows, limits, atMostOne, listed}
+use Rattle.studio_rules.proofs.Rows.{everyId, listed-every}
+use Rattle.studio_row.specs.Packed.{places, rowOf}
+use Rattle.studio_row.proofs.Facts.{row-of-unlisted}
+use Rattle.studio_lookup.specs.Slots.{slots, place, idIn, rowIn, found}
+use Rattle.studio_lookup.proofs.Entries.{at}
+
+abbrev slotOf : ℕ → ℕ
+slotOf x = getD slots (place x) 0
+
+-- each identifier of the table is found in its place
+rows-test : everyId (λ x. eqb (found (slotOf x) x) (rowOf x)) rows ≡ true
+unfolding rows every places limits atMostOne rowOf slots
+rows-test = refl
+
+-- what stands in a slot is an identifier of the table, or none
+abbrev owned : ℕ → ℕ → Bool
+owned k s = listed (s % 2 ^ 20) || eqb (rowIn s) 0
+
+owned-at : (k : ℕ) → k < length slots → T (owned k (getD slots k 0))
+unfolding slots rows listed places limits atMostOne rowOf
+owned-at k h = at owned slots tt k h
+
+T-true : (b : Bool) → T b → b ≡ true
+T-true true t = refl
+T-true false t = absurd t
+
+slots-length : length slots ≡ 128
+unfolding slots
+slots-length = refl
+
+pub slot-law : (x : ℕ) → found (slotOf x) x ≡ rowOf x
+slot-law x = go (listed x) refl
+  where
+    own : T (owned (place x) (slotOf x))
+    own = owned-at (place x) (rw slots-length (omega arith))
+
+    none : listed x ≡ false → (b : Bool) → idIn (slotOf x) x ≡ b → cond b (rowIn (slotOf x)) 0 ≡ 0
+    none l false e = refl
+    none l true e = eqb-true (rowIn (slotOf x)) 0 (T-true _ (rw (eqb-true (slotOf x % 2 ^ 20) x e, l) at own))
+
+    go : (b : Bool) → listed x ≡ b → found (slotOf x) x ≡ rowOf x
+    go true l = eqb-true (found (slotOf x) x) (rowOf x) (listed-every (λ x. eqb (found (slotOf x) x) (rowOf x)) rows-test x l)
+    go false l = none l (idIn (slotOf x) x) refl ∙ sym (row-of-unlisted x l)
+
+-- ---- what a slot has for an identifier
+
+pub found-hit : (s x : ℕ) → idIn s x ≡ true → found s x ≡ rowIn s
+found-hit s x e = rw e
+
+pub found-miss : (s x : ℕ) → idIn s x ≡ false → found s x ≡ 0
+found-miss s x e = rw e

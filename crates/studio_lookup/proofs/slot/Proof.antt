@@ -1,0 +1,25 @@
+use mathlib.Core.Path.{_≡_, ap}
+use Prim.Native.Nat.{ℕ}
+use mathlib.Core.List.{List}
+use lib.ListN.{getD}
+use borrow.Author.Needs.{needs}
+use Rattle.studio_row.specs.Packed.{rowOf}
+use Rattle.studio_lookup.specs.Slots.{slots, place, found}
+use Rattle.studio_lookup.proofs.Law.{slot-law}
+use Rattle.studio_lookup.proofs.slot.Statement.{statement}
+use Rattle.studio_lookup.proofs.slot.Tie as tie
+
+mul-result : tie.Need-mul-result
+mul-result c = search needs
+
+mul-result-2 : tie.Need-mul-result-2
+mul-result-2 c = search needs
+
+element-copy-out-result : tie.Need-element-copy-out-result
+element-copy-out-result c = search needs
+
+returns : tie.Need-returns
+returns c = rw (c .before .pre) (slot-law (c .before .args .id))
+
+pub slot-spec : {M : Type 1} → statement M
+slot-spec = tie.close (tie.spec mul-result mul-result-2 element-copy-out-result returns)
