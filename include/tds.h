@@ -1,5 +1,6 @@
 /*
- * tds.h - a strict reader of 3D Studio figures (.3ds), and a writer of bare ones.
+ * tds.h - a strict reader of 3D Studio figures (.3ds), a writer of bare ones, and the slip of a
+ * stick, which tells whether the files on it are still what they were.
  *
  * A figure is read whole, from memory, by rules without exceptions: every length fills the chunk
  * around it exactly, every known chunk stands in its place, every corner of a face is a vertex that
@@ -19,7 +20,8 @@
  *
  * ANSWERS. Each call answers one 64-bit number. Below 2^32 it is the answer proper, as each call
  * says; from 2^32 on it is a refusal: its number (enum tds_refusal) times 2^32, plus its place. The
- * macros TDS_REFUSED, TDS_REFUSAL and TDS_PLACE take it apart.
+ * macros TDS_REFUSED, TDS_REFUSAL and TDS_PLACE take it apart. (tds_sum_add and tds_sum_join alone
+ * never refuse: all 64 bits of theirs are the answer.)
  *
  * WHAT IS FILLED. Numbers go out little-endian, on every machine: four bytes each, corners two
  * bytes. Floats are the 4 bytes of an IEEE 754 single, bit for bit as in the file. tds_get2,
@@ -76,7 +78,9 @@ enum tds_refusal {
     TDS_MISSING = 14,      /* a chunk that must be there is not (place: the chunk around it) */
     TDS_NO_ROOM = 15,      /* a lent slice is too small (place: records or numbers needed) */
     TDS_NO_SUCH_MESH = 16, /* the file is good but has no such mesh (place: how many it has) */
-    TDS_EMPTY = 17         /* the file is good but the mesh has no vertices, so no box (place 0) */
+    TDS_EMPTY = 17,        /* the file is good but the mesh has no vertices, so no box (place 0) */
+    TDS_SLIP = 18,         /* a slip that breaks its rules (place: see the calls about slips) */
+    TDS_DIFFERS = 19       /* a file is not the one of an entry (place 0: length, 1: sums) */
 };
 
 /* Taking an answer apart. Each macro looks at its argument once. */
@@ -226,6 +230,52 @@ uint64_t tds_box(const uint8_t *file, size_t file_len, uint32_t mesh, uint8_t *b
  */
 uint64_t tds_write(const uint8_t *name, size_t name_len, const float *vertices, size_t vertices_len,
                    const uint16_t *corners, size_t corners_len, uint8_t *out, size_t out_len);
+
+/*
+ * THE SLIP OF A STICK: one small file that says which files are on the stick, with the length and
+ * the sums of each, so that a damaged file is found. The calls below take any files, not only
+ * figures. docs/SLIP.md says what the sums find and what they miss: one turned bit is always
+ * found, a byte 0 turned into 255 is not.
+ *
+ * SUMS are the two 8-bit Fletcher sums of RFC 1146: the sum of all bytes, and the sum of the
+ * running first sums, both as remainders modulo 255, so from 0 to 254. They go in and out as one
+ * number, first sum + 256 * second sum. An empty file has 0.
+ */
+#define TDS_FIRST_SUM(sums) ((uint32_t)(sums) % 256)
+#define TDS_SECOND_SUM(sums) ((uint32_t)(sums) / 256 % 256)
+
+/*
+ * The sums of a file, for making its entry.
+ *
+ * Answers the sums, below 65,536; or refuses with 1 (place 0) a file of over 1,048,576 bytes.
+ */
+uint64_t tds_sums(const uint8_t *file, size_t file_len);
+
+/*
+ * One file against one entry: is it still the file that the entry was made of?
+ *
+ * Takes the length and the sums of the entry; its name is not looked at. Answers 0 if both are the
+ * file's; or refuses with 19, place 0 if the length is another, else place 1 if the sums are. The
+ * file may have any length. Sums that no file has (a byte 255, or a number over 65,535) are 19 at 1
+ * where the length is right.
+ */
+uint64_t tds_matches(const uint8_t *file, size_t file_len, uint32_t length, uint32_t sums);
+
+/*
+ * A FILE IN PARTS, in file order, cut anywhere. What has been read so far is one 64-bit number,
+ * which you keep: its sums + 65536 * its length. Begin with 0, the number of nothing. Of these two
+ * calls no answer is a refusal, and every number stands for something: a sum byte 255 counts as 0,
+ * and a length over 2^48 - 1 as 2^48 - 1.
+ *
+ * tds_sum_add answers the number of what stood before followed by these bytes; an empty part
+ * changes nothing. tds_sum_join answers the number of two parts joined, from theirs, so that parts
+ * may be summed apart; joining is associative as long as the lengths stay below 2^48.
+ */
+uint64_t tds_sum_add(uint64_t before, const uint8_t *part, size_t part_len);
+uint64_t tds_sum_join(uint64_t first, uint64_t second);
+
+/* As tds_matches, of all that was added: the same answer, however the file was cut. */
+uint64_t tds_sum_matches(uint64_t sum, uint32_t length, uint32_t sums);
 
 /* The words below are what C89, C99 and C++ call a function that lives in a header. */
 #if defined(__cplusplus) || (defined(__STDC_VERSION__) && __STDC_VERSION__ >= 199901L)

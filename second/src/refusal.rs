@@ -22,6 +22,18 @@ pub enum Number {
     NoRoom = 15,
     NoSuchMesh = 16,
     Empty = 17,
+    Slip = 18,
+    Differs = 19,
+    Header = 20,
+    Owner = 21,
+    Size = 22,
+    Text = 24,
+    Form = 25,
+    Order = 26,
+    Combination = 27,
+    Material = 28,
+    SameName = 29,
+    NoMaterial = 30,
 }
 
 /// One number and one place of the paper's table.

@@ -36,25 +36,42 @@ pub fn write(
 
 /// The refusals that the name and the rows give: 9, 13, 11, 12 in this order.
 fn judge(name: &[u8], vertices: &[f32], corners: &[u16]) -> Result<(), Refusal> {
-    if name.contains(&0) {
-        return refused(Number::Name, name, |byte| *byte == 0);
-    }
-    for length in [vertices.len(), corners.len()] {
-        let whole = length % 3 == 0 && length <= MOST;
-        Number::Count.unless(whole, length)?;
-    }
+    zero_in(name)?;
+    length_of_row(vertices.len())?;
+    length_of_row(corners.len())?;
+    finite_row(vertices)?;
+    corners_row(corners, vertices.len() / 3)
+}
+
+/// 9 for a zero in a name.
+pub fn zero_in(name: &[u8]) -> Result<(), Refusal> {
+    refused(Number::Name, name, |byte| *byte == 0)
+}
+
+/// 13 for the length of a row of vertices or corners.
+pub fn length_of_row(length: usize) -> Result<(), Refusal> {
+    Number::Count.unless(length.is_multiple_of(3) && length <= MOST, length)
+}
+
+/// 11 for a float that is none; looked for only where there is one, to run wide.
+pub fn finite_row(floats: &[f32]) -> Result<(), Refusal> {
     let good = |float: &f32| finite(float.to_bits());
-    if !vertices
+    match floats
         .iter()
         .fold(true, |so_far, float| so_far & good(float))
     {
-        return refused(Number::Number, vertices, |float| !good(float));
-    }
-    let n = vertices.len() / 3;
-    let bad = |corner: &u16| usize::from(*corner) >= n;
-    match corners.is_empty() || highest(corners.iter().copied()) < n {
         true => Ok(()),
-        false => refused(Number::Index, corners, bad),
+        false => refused(Number::Number, floats, |float| !good(float)),
+    }
+}
+
+/// 12 for a number that is not below a count; looked for in the same way.
+pub fn corners_row(corners: &[u16], count: usize) -> Result<(), Refusal> {
+    match corners.is_empty() || highest(corners.iter().copied()) < count {
+        true => Ok(()),
+        false => refused(Number::Index, corners, |corner| {
+            usize::from(*corner) >= count
+        }),
     }
 }
 

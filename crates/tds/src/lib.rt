@@ -2,7 +2,7 @@
 use c_codes::checked_code;
 use studio_rules::Record;
 ghost use mathlib.Core.Path.{_≡_};
-ghost use Prim.Native.Nat.{_/_};
+ghost use Prim.Native.Nat.{_/_, _%_};
 ghost use lib.ListN.{length};
 ghost use Rattle.shared_words.specs.Encodings.{beside, plainRow, numberBytes};
 ghost use Rattle.studio_rules.specs.Encodings.{flatRecords, recordBytes};
@@ -11,6 +11,9 @@ ghost use Rattle.studio_mesh_tables.specs.Rows.{rows};
 ghost use Rattle.studio_write.specs.Write.{writeCall};
 ghost use Rattle.c_codes.specs.Codes.{recordsOr, sizesOr, sizeOr};
 ghost use Rattle.c_answers.specs.Given.{countsGiven, nameGiven, boxGiven};
+ghost use Rattle.slip_sums.specs.Fletcher.{sumOf};
+ghost use Rattle.slip_sums.specs.Passes.{sumsCall, matchOf};
+ghost use Rattle.c_sums.specs.Numbers.{sumsOr, zeroOr, sumIn, withPartNumber, joinNumbers};
 
 // The count of records, or a refusal.
 #[no_mangle]
@@ -82,4 +85,46 @@ pub extern "C" fn tds_write(name: &[u8], vertices: &[f32], corners: &[u16], out:
     ensures out { λ _. ⌜ now (out .exit) ≡ writeCall (now (name .entry)) (now (vertices .entry)) (now (corners .entry)) (now (out .entry)) .rows ⌝ }
 {
     c_codes::written_code(studio_write::write(name, vertices, corners, out))
+}
+
+// ---- the slip of a stick: the checksum of a file
+
+// The sums of a file, for making an entry, or a refusal.
+#[no_mangle]
+pub extern "C" fn tds_sums(file: &[u8]) -> u64
+    ensures { λ n. ⌜ n ≡ sumsOr (sumsCall (now (file .entry))) ⌝ }
+{
+    c_sums::file_sums(file)
+}
+
+// One file against one entry: 0, or a refusal.
+#[no_mangle]
+pub extern "C" fn tds_matches(file: &[u8], length: u32, sums: u32) -> u64
+    ensures { λ n. ⌜ n ≡ zeroOr (matchOf (sumOf (now (file .entry))) length (sums % 256) (sums / 256)) ⌝ }
+{
+    c_sums::file_matches(file, length, sums)
+}
+
+// The number of what stood before, followed by these bytes.
+#[no_mangle]
+pub extern "C" fn tds_sum_add(before: u64, part: &[u8]) -> u64
+    ensures { λ n. ⌜ n ≡ withPartNumber before (now (part .entry)) ⌝ }
+{
+    c_sums::sum_add(before, part)
+}
+
+// The number of two parts joined, from theirs.
+#[no_mangle]
+pub extern "C" fn tds_sum_join(first: u64, second: u64) -> u64
+    ensures { λ n. ⌜ n ≡ joinNumbers first second ⌝ }
+{
+    c_sums::sum_join(first, second)
+}
+
+// All the parts together against one entry: 0, or a refusal.
+#[no_mangle]
+pub extern "C" fn tds_sum_matches(sum: u64, length: u32, sums: u32) -> u64
+    ensures { λ n. ⌜ n ≡ zeroOr (matchOf (sumIn sum) length (sums % 256) (sums / 256)) ⌝ }
+{
+    c_sums::sum_matches(sum, length, sums)
 }

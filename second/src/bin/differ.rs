@@ -1,11 +1,14 @@
 //! The comparison on the command line: many cases from a seed, every bit of
 //! some files turned, or all figures in some folders.
 
-use second::boundary::{Boundary, Right, Second, LINKED};
+use second::boundary::{
+    Boundary, C4dRight, CobRight, Right, Second, SlipRight, C4DS_LINKED, COBS_LINKED, LINKED,
+    SLIPS_LINKED,
+};
 use second::differ::compare::Pair;
-use second::differ::run::{run, words, Plan};
+use second::differ::run::{add, run, words, Failure, Plan, Tally};
 use second::differ::seeded::{Seeded, ERRORS};
-use second::differ::{real, turned};
+use second::differ::{c4ds, cobs, real, slips, turned};
 use std::path::Path;
 use std::process::ExitCode;
 use std::time::Instant;
@@ -73,21 +76,40 @@ fn plan(arguments: &[&str]) -> Option<Plan> {
     }
 }
 
-/// Many cases from a seed.
+/// The runs over other formats: what they are over, whether the library under
+/// test has the calls, and the run.
+type Other = (&'static str, bool, fn(Plan) -> Result<Tally, Box<Failure>>);
+const OTHERS: [Other; 3] = [
+    ("slips", SLIPS_LINKED, |plan| {
+        slips::run(plan, &mut Pair::new(Second, SlipRight::default()))
+    }),
+    ("Caligari figures", COBS_LINKED, |plan| {
+        cobs::run(plan, &mut Pair::new(Second, CobRight::default()))
+    }),
+    ("Cinema 4D figures", C4DS_LINKED, |plan| {
+        c4ds::run(plan, &mut Pair::new(Second, C4dRight::default()))
+    }),
+];
+
+/// Many cases from a seed, over figures and then over all other formats.
 fn grown<L: Boundary, R: Boundary>(plan: Plan, pair: &mut Pair<L, R>) -> Result<(), String> {
     let begin = Instant::now();
-    match run(plan, pair) {
-        Ok(total) => {
-            let seconds = begin.elapsed().as_secs_f64();
-            println!("{:<46}{seconds:>7.1} s {}", "Total", words(&total));
-            Ok(())
-        }
-        Err(failure) => {
-            let (family, index) = (&failure.family, failure.index);
-            println!("{family}, case {index}: a difference; looking for a smaller one");
-            Err(failure.shrunk(plan.seed, pair).words(plan.seed))
+    let mut total = run(plan, pair).map_err(|failure| {
+        let (family, index) = (&failure.family, failure.index);
+        println!("{family}, case {index}: a difference; looking for a smaller one");
+        failure.shrunk(plan.seed, pair).words(plan.seed)
+    })?;
+    for (what, linked, run) in OTHERS {
+        if linked || !LINKED {
+            let tally = run(plan).map_err(|failure| failure.words(plan.seed))?;
+            add(&mut total, &tally);
+        } else {
+            println!("{what} are not compared: the library under test has no such calls yet");
         }
     }
+    let seconds = begin.elapsed().as_secs_f64();
+    println!("{:<46}{seconds:>7.1} s {}", "Total", words(&total));
+    Ok(())
 }
 
 fn read(path: &Path) -> Result<Vec<u8>, String> {

@@ -1,14 +1,11 @@
 //! One file, both sides: the same calls with the same rooms, and the answers
 //! and all lent bytes compared, those around the lent ones too.
 
+use super::lent::{inside, spoken, Buffers, Difference, Lender, Lent};
 use super::random::Random;
+use super::run::{count, Tally};
 use crate::boundary::{refusal, Boundary, Chunk, RECORD_BYTES};
 use crate::RECORD;
-use std::fmt;
-
-/// The bytes kept on each side of a lent slice, to see writing outside it: a
-/// whole record, and one byte more, so that the slice lies at an odd address.
-const GUARD: usize = RECORD_BYTES + 1;
 
 /// One call, with the bytes it lends; of a row and a table, the elements.
 #[derive(Clone, Copy, Debug, PartialEq, Eq)]
@@ -22,119 +19,47 @@ pub enum Call {
     Box(u32, usize),
 }
 
-/// What is wrong between two sides.
-#[derive(Clone, Debug)]
-pub struct Difference {
-    pub call: String,
-    pub left: String,
-    pub right: String,
-}
-
-impl fmt::Display for Difference {
-    fn fmt(&self, to: &mut fmt::Formatter<'_>) -> fmt::Result {
-        let Difference { call, left, right } = self;
-        write!(to, "  call   {call}\n  left   {left}\n  right  {right}")
-    }
-}
-
-/// An answer in words.
-pub fn spoken(answer: u64) -> String {
-    match refusal(answer) {
-        Some((number, place)) => format!("refused {number} {place}"),
-        None => format!("answered {answer}"),
-    }
-}
-
 /// Two sides, and the bytes they are lent.
 pub struct Pair<L, R> {
     pub left: L,
     pub right: R,
     /// How often each answer was met: 0 for accepted, else the number.
-    pub met: [u64; 18],
-    canary: Vec<u8>,
-    ours: [Vec<u8>; 2],
-    theirs: [Vec<u8>; 2],
+    pub met: Tally,
+    pub lender: Lender,
 }
 
-impl<L: Boundary, R: Boundary> Pair<L, R> {
+impl<L, R> Pair<L, R> {
     pub fn new(left: L, right: R) -> Pair<L, R> {
-        let mut random = Random::of_case(0, 0, 0);
         Pair {
             left,
             right,
-            met: [0; 18],
-            canary: random.bytes(6 * 1_048_576),
-            ours: Default::default(),
-            theirs: Default::default(),
+            met: Tally::default(),
+            lender: Lender::new(),
         }
     }
+}
 
+impl<L: Boundary, R: Boundary> Pair<L, R> {
     /// Makes one call on both sides; the answer, if they agree in everything.
     pub fn ask(&mut self, file: &[u8], call: Call) -> Result<u64, Difference> {
-        let lent = call.lent();
-        for (which, bytes) in lent.into_iter().enumerate() {
-            let fresh = &self.canary[which..which + bytes + 2 * GUARD];
-            for buffers in [&mut self.ours, &mut self.theirs] {
-                buffers[which].clear();
-                buffers[which].extend_from_slice(fresh);
-            }
-        }
-        let left = make(&self.left, file, call, &mut self.ours);
-        let right = make(&self.right, file, call, &mut self.theirs);
-        if left != right || self.ours != self.theirs || !self.kept(call, left) {
-            return Err(self.difference(call, left, right));
-        }
-        self.met[(left >> 32).min(17) as usize] += 1;
-        Ok(left)
+        let (left, right) = (&self.left, &self.right);
+        let answer = self.lender.compare(
+            Lent {
+                call: &|| format!("{call:?}"),
+                bytes: call.lent(),
+                filled: &|answer| call.filled(answer),
+            },
+            |buffers| make(left, file, call, buffers),
+            |buffers| make(right, file, call, buffers),
+        )?;
+        count(&mut self.met, answer);
+        Ok(answer)
     }
-
-    /// Whether all bytes but those filled are as they were.
-    fn kept(&self, call: Call, answer: u64) -> bool {
-        let filled = call.filled(answer);
-        (0..2).all(|which| {
-            let buffer = &self.ours[which];
-            let fresh = &self.canary[which..which + buffer.len()];
-            let end = GUARD + filled[which];
-            buffer[..GUARD] == fresh[..GUARD] && buffer.get(end..) == fresh.get(end..)
-        })
-    }
-
-    fn difference(&self, call: Call, left: u64, right: u64) -> Difference {
-        let [left, right] = [(left, &self.ours), (right, &self.theirs)].map(|(answer, buffers)| {
-            let parts = [0, 1].map(|which| {
-                let fresh = &self.canary[which..which + buffers[which].len()];
-                changed(&buffers[which], fresh)
-            });
-            format!("{}{}{}", spoken(answer), parts[0], parts[1])
-        });
-        let call = format!("{call:?}");
-        Difference { call, left, right }
-    }
-}
-
-/// The bytes of a lent slice that are not as they were, in words.
-fn changed(buffer: &[u8], fresh: &[u8]) -> String {
-    let differ = |at: &usize| buffer[*at] != fresh[*at];
-    let Some(first) = (0..buffer.len()).find(differ) else {
-        return String::new();
-    };
-    let last = (0..buffer.len()).rfind(differ).unwrap_or(first);
-    let shown = &buffer[first..=last.min(first + 255)];
-    let start = first as i64 - GUARD as i64;
-    format!(", from byte {start} wrote {}", hex(shown))
-}
-
-/// Bytes as hex digits.
-pub fn hex(bytes: &[u8]) -> String {
-    bytes.iter().map(|byte| format!("{byte:02X}")).collect()
 }
 
 /// Makes one call with slices inside the buffers.
-fn make(side: &impl Boundary, file: &[u8], call: Call, buffers: &mut [Vec<u8>; 2]) -> u64 {
-    let [first, second] = buffers.each_mut().map(|buffer| {
-        let end = buffer.len() - GUARD;
-        &mut buffer[GUARD..end]
-    });
+fn make(side: &impl Boundary, file: &[u8], call: Call, buffers: &mut Buffers) -> u64 {
+    let [first, second] = inside(buffers);
     match call {
         Call::Check => side.check(file),
         Call::List(_) => side.list(file, first),
@@ -148,7 +73,7 @@ fn make(side: &impl Boundary, file: &[u8], call: Call, buffers: &mut [Vec<u8>; 2
 
 /// Makes the call that is lent a row and a table: the same buffers, guards and
 /// all but their odd bytes, as the machine's own numbers and structs.
-fn records(side: &impl Boundary, file: &[u8], buffers: &mut [Vec<u8>; 2]) -> u64 {
+fn records(side: &impl Boundary, file: &[u8], buffers: &mut Buffers) -> u64 {
     let [mut row, numbers] = buffers.each_ref().map(|buffer| {
         let words = buffer[1..buffer.len() - 1].as_chunks().0.iter();
         words
@@ -206,7 +131,7 @@ impl<L: Boundary, R: Boundary> Pair<L, R> {
     pub fn whole(&mut self, file: &[u8], random: &mut Random) -> Result<u64, Difference> {
         let answer = self.ask(file, Call::Check)?;
         if refusal(answer).is_some() {
-            self.refused(file, answer, random)?;
+            self.refused(file, answer, some_calls(random))?;
             return Ok(answer);
         }
         let needed = RECORD_BYTES * answer as usize;
@@ -241,16 +166,12 @@ impl<L: Boundary, R: Boundary> Pair<L, R> {
     }
 
     /// All other calls over a file that is refused answer the same.
-    fn refused(&mut self, file: &[u8], answer: u64, random: &mut Random) -> Result<(), Difference> {
-        let mesh = random.pick(&[0, 1, 2, u32::MAX]);
-        let calls = [
-            Call::List(random.below(200)),
-            Call::Records(random.below(50), random.below(9)),
-            Call::Counts(random.below(16)),
-            Call::Tables(mesh, random.below(50), random.below(30)),
-            Call::Name(mesh, random.below(12)),
-            Call::Box(mesh, random.below(44)),
-        ];
+    pub fn refused(
+        &mut self,
+        file: &[u8],
+        answer: u64,
+        calls: [Call; 6],
+    ) -> Result<(), Difference> {
         for call in calls {
             let other = self.ask(file, call)?;
             if other != answer {
@@ -304,10 +225,23 @@ impl<L: Boundary, R: Boundary> Pair<L, R> {
 
     /// The numbers that a mesh's tables need, learned from what no room
     /// answers; a mesh of an accepted file has no faces without vertices.
-    fn sizes(&mut self, file: &[u8], mesh: u32) -> Result<(usize, usize), Difference> {
+    pub fn sizes(&mut self, file: &[u8], mesh: u32) -> Result<(usize, usize), Difference> {
         let needed = |answer| refusal(answer).map_or(0, |(_, place)| place as usize);
         let n = needed(self.ask(file, Call::Tables(mesh, 0, 0))?);
         let f = needed(self.ask(file, Call::Tables(mesh, 4 * n, 0))?);
         Ok((n, f))
     }
+}
+
+/// All calls but the check, with rooms as they come.
+fn some_calls(random: &mut Random) -> [Call; 6] {
+    let mesh = random.pick(&[0, 1, 2, u32::MAX]);
+    [
+        Call::List(random.below(200)),
+        Call::Records(random.below(50), random.below(9)),
+        Call::Counts(random.below(16)),
+        Call::Tables(mesh, random.below(50), random.below(30)),
+        Call::Name(mesh, random.below(12)),
+        Call::Box(mesh, random.below(44)),
+    ]
 }

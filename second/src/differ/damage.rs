@@ -93,3 +93,22 @@ fn outermost(file: &mut [u8]) {
         slot.copy_from_slice(&length.to_le_bytes());
     }
 }
+
+/// Turns some bits of any file.
+pub fn bits(file: &mut [u8], random: &mut Random) {
+    for _ in 0..random.pick(&[1, 1, 2, 8]) {
+        let at = random.below(file.len());
+        file[at] ^= 1 << random.below(8);
+    }
+}
+
+/// Puts bytes into any file, takes some out, or cuts it off.
+pub fn bytes(file: &mut Vec<u8>, random: &mut Random) {
+    let at = random.below(file.len());
+    let count = random.pick(&[1, 2, 4, 8, 20]);
+    match random.below(3) {
+        0 => drop(file.splice(at..at, random.bytes(count))),
+        1 => drop(file.drain(at..file.len().min(at + count))),
+        _ => file.truncate(at),
+    }
+}

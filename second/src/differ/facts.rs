@@ -1,7 +1,8 @@
 //! Everything a side says of an accepted file, to be compared with what it
 //! should say: the list, the counts, and every mesh.
 
-use super::compare::spoken;
+use super::compare::Pair;
+use super::lent::{spoken, Difference};
 use super::node::Node;
 use crate::boundary::{refusal, Boundary, RECORD_BYTES};
 use crate::row;
@@ -111,7 +112,7 @@ fn accepted(call: &str, answer: u64) -> Result<u64, String> {
 }
 
 /// The numbers in bytes, so many at a time.
-fn numbers<const N: usize>(bytes: &[u8]) -> Vec<[u32; N]> {
+pub fn numbers<const N: usize>(bytes: &[u8]) -> Vec<[u32; N]> {
     let whole = bytes.as_chunks::<4>().0.iter();
     let numbers: Vec<u32> = whole.map(|bytes| u32::from_le_bytes(*bytes)).collect();
     numbers.as_chunks::<N>().0.to_vec()
@@ -124,6 +125,26 @@ impl Facts {
         facts.add(root, 0, 0, 0);
         facts.counts[0] = 6 * facts.records.len() as u32;
         facts
+    }
+
+    /// Whether both sides say just this of a file, with just the room for it.
+    pub fn said_of<L: Boundary, R: Boundary>(
+        &self,
+        file: &[u8],
+        pair: &Pair<L, R>,
+    ) -> Result<(), Difference> {
+        let rooms = Rooms::of(self);
+        let left = ask(&pair.left, file, &rooms);
+        let right = ask(&pair.right, file, &rooms);
+        if left.as_ref() == Ok(self) && left == right && meshes(&pair.right, file) == rooms.meshes()
+        {
+            return Ok(());
+        }
+        Err(Difference {
+            call: format!("a valid figure, which has {self:?}"),
+            left: format!("{left:?}"),
+            right: format!("{right:?}"),
+        })
     }
 
     /// Adds a chunk that stands at an offset, and answers its end.

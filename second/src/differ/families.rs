@@ -1,10 +1,12 @@
 //! The families of cases: how the file of each case is made, and what both
 //! sides must say of it.
 
-use super::compare::{Call, Difference, Pair};
-use super::facts::{self, Facts};
+use super::build;
+use super::compare::{Call, Pair};
+use super::facts::Facts;
 use super::gaps;
 use super::grow::{figure, finite, grower, unlisted, Fill, LISTED};
+use super::lent::Difference;
 use super::node::Node;
 use super::random::Random;
 use super::writing::Writing;
@@ -39,8 +41,8 @@ pub const FAMILIES: [(Family, u64, &str); 11] = [
     (Family::Soup, 1_200, "legal parents, all else free"),
     (Family::Noise, 277, "bytes of no sense"),
     (Family::Writer, 500, "names and rows written"),
-    (Family::Long, 3, "figures at the limit"),
     (Family::LongWriter, 20, "writings at the limit"),
+    (Family::Long, 3, "figures at the limit"),
 ];
 
 /// What a case is over: a file, or what the writer is handed.
@@ -94,22 +96,10 @@ pub fn judge<L: Boundary, R: Boundary>(
 /// A valid figure against the tree it was grown as.
 pub fn judge_tree<L: Boundary, R: Boundary>(
     random: &mut Random,
-    pair: &mut Pair<L, R>,
+    pair: &Pair<L, R>,
 ) -> Result<(), Difference> {
     let root = figure(random, Fill::Some);
-    let (file, expected) = (root.bytes(), Facts::of_tree(&root));
-    let rooms = facts::Rooms::of(&expected);
-    let left = facts::ask(&pair.left, &file, &rooms);
-    let right = facts::ask(&pair.right, &file, &rooms);
-    let meshes = facts::meshes(&pair.right, &file);
-    if left.as_ref() == Ok(&expected) && left == right && meshes == expected.meshes.len() {
-        return Ok(());
-    }
-    Err(Difference {
-        call: format!("a valid figure, which has {expected:?}"),
-        left: format!("{left:?}"),
-        right: format!("{right:?}"),
-    })
+    Facts::of_tree(&root).said_of(&root.bytes(), pair)
 }
 
 /// Private chunks put in or taken out, judged on both sides.
@@ -172,10 +162,7 @@ fn floats(random: &mut Random) -> Vec<u8> {
         };
         own.extend(sure.to_le_bytes());
     }
-    let mesh = Node::holding(0x4100, vec![], vec![Node::leaf(0x4110, own)]);
-    let object = Node::holding(0x4000, vec![0], vec![mesh]);
-    let edit = Node::holding(0x3D3D, vec![], vec![object]);
-    Node::holding(0x4D4D, vec![], vec![edit]).bytes()
+    build::figure(vec![build::meshed("", vec![Node::leaf(0x4110, own)])]).bytes()
 }
 
 /// A chunk with children mostly of its own, and all else left to chance.

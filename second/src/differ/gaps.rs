@@ -1,9 +1,9 @@
 //! Demand 3: private chunks put into gaps, or taken out, and what every
 //! answer must then be, worked out from the answers before.
 
-use super::compare::{hex, Difference};
 use super::facts::{self, Facts, Rooms};
 use super::grow::unlisted;
+use super::lent::{hex, Difference};
 use super::random::Random;
 use crate::boundary::Boundary;
 use crate::row;
@@ -48,11 +48,11 @@ impl Try {
         if said.as_ref() == Ok(&self.expected) {
             return Ok(());
         }
-        Err(Difference {
-            call: format!("demand 3, {name} side, file after {}", hex(&self.after)),
-            left: format!("should say {:?}", self.expected),
-            right: format!("says {said:?}"),
-        })
+        Err(Difference::should(
+            format!("demand 3, {name} side, file after {}", hex(&self.after)),
+            &self.expected,
+            &said,
+        ))
     }
 }
 

@@ -1,6 +1,7 @@
 //! Figures and writings at the length limit: as many chunks, vertices, faces
 //! or name bytes as there can be, and one more.
 
+use super::build;
 use super::node::Node;
 use super::random::Random;
 use super::writing::{room, Writing};
@@ -15,21 +16,17 @@ pub fn figure(kind: usize, random: &mut Random) -> Vec<u8> {
         0 => vec![Node::leaf(0x8123, vec![]); (LIMIT - 12) / 6],
         1 => vec![Node::leaf(0x1470, vec![]); (LIMIT - 12) / 6],
         2 => objects(3_000 + random.below(6_000), random),
-        3 => vec![object(vec![0], 43_000, 64_000), object(vec![0], 1, 500)],
+        3 => vec![object(b"", 43_000, 64_000), object(b"", 1, 500)],
         4 => named(random),
-        5 => vec![object(vec![0], 65_535, 20_000)],
-        6 => vec![object(vec![0], 20_000, 65_535)],
+        5 => vec![object(b"", 65_535, 20_000)],
+        6 => vec![object(b"", 20_000, 65_535)],
         7 => vec![Node::leaf(0xB000, random.bytes(500_000))],
         8 => late(random),
         9 => vec![bare(); random.from_to(65_530, 80_000)],
         10..=12 => vec![mapped(kind % KINDS - 10, random)],
         _ => vec![painted(kind % KINDS == 13, random)],
     };
-    let mut root = Node::holding(
-        0x4D4D,
-        vec![],
-        vec![Node::holding(0x3D3D, vec![], children)],
-    );
+    let mut root = build::figure(children);
     // The kinds behind the tenth are about long lists, and are left as they are.
     let lists = kind % KINDS >= 10;
     if !lists {
@@ -46,13 +43,12 @@ pub fn figure(kind: usize, random: &mut Random) -> Vec<u8> {
 }
 
 /// An object with a mesh of so many vertices and faces.
-fn object(name: Vec<u8>, n: u16, f: u16) -> Node {
+fn object(name: &[u8], n: u16, f: u16) -> Node {
     let parts = vec![
         Node::leaf(0x4120, faces(n, f)),
         Node::leaf(0x4110, points(n)),
     ];
-    let mesh = Node::holding(0x4100, vec![], parts);
-    Node::holding(0x4000, name, vec![mesh])
+    build::meshed(name, parts)
 }
 
 /// Vertices, no two alike and not in order, so that one that is left out or given twice is missed.
@@ -79,13 +75,13 @@ fn faces(n: u16, f: u16) -> Vec<u8> {
 
 /// The smallest object with a mesh.
 fn bare() -> Node {
-    Node::holding(0x4000, vec![0], vec![Node::leaf(0x4100, vec![])])
+    build::meshed("", vec![])
 }
 
 /// Objects behind so many records that their own numbers take more than 16 bits.
 fn late(random: &mut Random) -> Vec<Node> {
     let mut children = vec![Node::leaf(0x1470, vec![]); random.from_to(65_530, 90_000)];
-    children.extend([object(vec![0], 3, 1), bare(), object(vec![0], 1, 2)]);
+    children.extend([object(b"", 3, 1), bare(), object(b"", 1, 2)]);
     children
 }
 
@@ -103,7 +99,7 @@ fn mapped(fault: usize, random: &mut Random) -> Node {
         pairs[last..].copy_from_slice(&f32::NAN.to_le_bytes());
     }
     let parts = vec![Node::leaf(0x4140, pairs), Node::leaf(0x4110, points(n))];
-    Node::holding(0x4000, vec![0], vec![Node::holding(0x4100, vec![], parts)])
+    build::meshed("", parts)
 }
 
 /// A mesh with a material and a smoothing group for each of many faces; if not right, the last face number is too large.
@@ -123,23 +119,23 @@ fn painted(right: bool, random: &mut Random) -> Node {
         Node::leaf(0x4110, points(9)),
         Node::holding(0x4120, faces(9, f), inside),
     ];
-    Node::holding(0x4000, vec![0], vec![Node::holding(0x4100, vec![], parts)])
+    build::meshed("", parts)
 }
 
 /// Many small objects.
 fn objects(count: usize, random: &mut Random) -> Vec<Node> {
-    let one = |_| object(vec![b'a', 0], random.below(4) as u16 + 1, 2);
+    let one = |_| object(b"a", random.below(4) as u16 + 1, 2);
     (0..count).map(one).collect()
 }
 
 /// Objects and materials with names of many bytes.
 fn named(random: &mut Random) -> Vec<Node> {
-    let name = |length: usize| [&vec![b'x'; length][..], &[0]].concat();
-    let length = random.from_to(100_000, 300_000);
+    let name = vec![b'x'; random.from_to(100_000, 300_000)];
+    let material = Node::leaf(0xA000, build::named(&name));
     vec![
-        object(name(length), 3, 1),
-        Node::holding(0xAFFF, vec![], vec![Node::leaf(0xA000, name(length))]),
-        object(name(400_000), 1, 1),
+        object(&name, 3, 1),
+        Node::holding(0xAFFF, vec![], vec![material]),
+        object(&[b'x'; 400_000], 1, 1),
     ]
 }
 

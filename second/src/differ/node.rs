@@ -5,7 +5,7 @@
 pub type Path = Vec<usize>;
 
 /// One chunk with all inside.
-#[derive(Clone, Debug, Default)]
+#[derive(Clone, Debug, Default, PartialEq, Eq)]
 pub struct Node {
     pub identifier: u16,
     pub own: Vec<u8>,
@@ -74,6 +74,15 @@ impl Node {
             [] => self,
             [first, rest @ ..] => self.children[*first].at(rest),
         }
+    }
+
+    /// The offset of the chunk at the end of a way.
+    pub fn offset(&self, path: &[usize]) -> usize {
+        let [first, rest @ ..] = path else {
+            return 0;
+        };
+        let before: usize = self.children[..*first].iter().map(Node::size).sum();
+        6 + self.own.len() + before + self.children[*first].offset(rest)
     }
 
     /// The ways to all chunks that a test takes, this one's own first.

@@ -1,8 +1,9 @@
 //! Both sides over the figures people really have: all .3ds files in some
 //! folders, in a table.
 
-use super::compare::{Difference, Pair};
+use super::compare::Pair;
 use super::facts;
+use super::lent::Difference;
 use super::random::Random;
 use crate::boundary::{refusal, Boundary};
 use std::path::{Path, PathBuf};

@@ -62,8 +62,9 @@ fn body(fill: usize, length: usize, random: &mut Random) -> Vec<u8> {
     body
 }
 
-/// A figure around children of a holder, each chunk as bare as it may be.
-pub fn in_holder(holder: u16, children: Vec<Node>, random: &mut Random) -> Node {
+/// A figure around children of a holder, each chunk as bare as it may be; what
+/// a chunk needs besides is put into it as one is told.
+pub fn around(holder: u16, children: Vec<Node>, put: &mut dyn FnMut(&mut Node, Node)) -> Node {
     let own = match holder {
         0x4000 => vec![0],
         0x4120 => [&[2, 0][..], &[0; 16]].concat(),
@@ -72,36 +73,44 @@ pub fn in_holder(holder: u16, children: Vec<Node>, random: &mut Random) -> Node 
         _ => vec![],
     };
     let mut node = Node::holding(holder, own, children);
-    needed(&mut node, random);
+    if let Some(needed) = needed(holder) {
+        put(&mut node, needed);
+    }
     match holder {
         0x4D4D => node,
         _ => {
             let parent = HOLDERS.into_iter().find(|parent| under(holder, *parent));
-            in_holder(parent.unwrap_or(0x4D4D), vec![node], random)
+            around(parent.unwrap_or(0x4D4D), vec![node], put)
         }
     }
 }
 
+/// The same, with what is needed on either side, and sometimes once too often.
+pub fn in_holder(holder: u16, children: Vec<Node>, random: &mut Random) -> Node {
+    around(holder, children, &mut |node, needed| {
+        let there = node.child(needed.identifier).is_some();
+        if !there || random.chance(3) {
+            let spot = random.below(node.children.len() + 1);
+            node.children.insert(spot, needed);
+        }
+    })
+}
+
 /// Whether a chunk may stand under another.
-fn under(identifier: u16, parent: u16) -> bool {
+pub fn under(identifier: u16, parent: u16) -> bool {
     match (row(identifier), row(parent)) {
         (Some(row), Some(parent)) => row.under & parent.holds != 0,
         _ => false,
     }
 }
 
-/// Puts in what the holder needs, on either side, and vertices for its faces.
-fn needed(node: &mut Node, random: &mut Random) {
-    let needed = match node.identifier {
-        0x4D4D => Node::leaf(0x3D3D, vec![]),
-        0xAFFF => Node::leaf(0xA000, vec![0]),
-        0x4100 => Node::leaf(0x4110, [&[2, 0][..], &[0; 24]].concat()),
-        _ => return,
-    };
-    let there = node.child(needed.identifier).is_some();
-    if !there || random.chance(3) {
-        let spot = random.below(node.children.len() + 1);
-        node.children.insert(spot, needed);
+/// What a holder needs, and the vertices for its faces.
+fn needed(holder: u16) -> Option<Node> {
+    match holder {
+        0x4D4D => Some(Node::leaf(0x3D3D, vec![])),
+        0xAFFF => Some(Node::leaf(0xA000, vec![0])),
+        0x4100 => Some(Node::leaf(0x4110, [&[2, 0][..], &[0; 24]].concat())),
+        _ => None,
     }
 }
 

@@ -1,8 +1,10 @@
 //! A whole run: so many cases from a seed, a line for each family, and the
 //! smallest file of the first difference.
 
-use super::compare::{hex, Difference, Pair};
+use super::compare::Pair;
 use super::families::{judge, judge_tree, make, sweep, Family, Subject, FAMILIES};
+use super::lent::{hex, Difference};
+use super::named;
 use super::random::Random;
 use super::shrink::shrink;
 use super::writing::Writing;
@@ -10,16 +12,30 @@ use crate::boundary::{refusal, Boundary};
 use std::time::{Duration, Instant};
 
 /// How often each answer was met: 0 for accepted, else the refusal's number.
-pub type Tally = [u64; 18];
+pub type Tally = [u64; 31];
 
 /// The first difference found, and where.
 #[derive(Debug)]
 pub struct Failure {
     pub family: String,
     pub index: u64,
-    pub subject: Subject,
+    /// What can be made smaller; of another format the difference says it all.
+    pub subject: Option<Subject>,
     pub difference: Difference,
 }
+
+/// How a case is judged: its number, its source of numbers, and both sides.
+pub type Judge<P> = fn(u64, &mut Random, &mut P) -> Result<u64, Difference>;
+
+/// A family of cases of another format: its name, what it is, its share of all
+/// in ten thousand, how many there are at the least, and how one is judged.
+pub struct Kind<P>(
+    pub &'static str,
+    pub &'static str,
+    pub u64,
+    pub u64,
+    pub Judge<P>,
+);
 
 /// What to run, and whether to speak of it.
 #[derive(Clone, Copy, Debug)]
@@ -31,12 +47,25 @@ pub struct Plan {
     pub trace: bool,
 }
 
-/// Runs all families; how often each answer was met, if no difference is found.
+/// Runs the named cases, then all families; how often each answer was met, if
+/// no difference is found.
 pub fn run<L: Boundary, R: Boundary>(
     plan: Plan,
     pair: &mut Pair<L, R>,
 ) -> Result<Tally, Box<Failure>> {
-    let mut total = [0; 18];
+    let begin = Instant::now();
+    let mut total = named::run(&named::cases(), pair)?;
+    plan.say("Named", "cases with the paper's answer", &total, begin);
+    add(&mut total, &grown(plan, pair)?);
+    Ok(total)
+}
+
+/// Runs all families.
+pub fn grown<L: Boundary, R: Boundary>(
+    plan: Plan,
+    pair: &mut Pair<L, R>,
+) -> Result<Tally, Box<Failure>> {
+    let mut total = Tally::default();
     for (family, share, what) in FAMILIES {
         let begin = Instant::now();
         let least = if family == Family::LongWriter {
@@ -50,11 +79,11 @@ pub fn run<L: Boundary, R: Boundary>(
         add(&mut total, &tally);
     }
     let begin = Instant::now();
-    let mut tally = [0; 18];
+    let mut tally = Tally::default();
     let step = if plan.count >= 20_000 { 1 } else { 31 };
     let swept = sweep(step, pair, |answer| count(&mut tally, answer));
     swept.map_err(|(file, difference)| {
-        let subject = Subject::File(file);
+        let subject = Some(Subject::File(file));
         Box::new(Failure {
             family: "Sweep".into(),
             index: 0,
@@ -70,10 +99,11 @@ pub fn run<L: Boundary, R: Boundary>(
 /// Counts an answer by its number.
 pub fn count(tally: &mut Tally, answer: u64) {
     let number = refusal(answer).map_or(0, |(number, _)| number as usize);
-    tally[number.min(17)] += 1;
+    tally[number.min(tally.len() - 1)] += 1;
 }
 
-fn add(total: &mut Tally, tally: &Tally) {
+/// Adds a tally to another.
+pub fn add(total: &mut Tally, tally: &Tally) {
     total
         .iter_mut()
         .zip(tally)
@@ -103,32 +133,73 @@ impl Plan {
         cases: u64,
         pair: &mut Pair<L, R>,
     ) -> Result<Tally, Box<Failure>> {
-        let mut tally = [0; 18];
+        let mut made = None;
+        let judged = self.each(
+            &format!("{family:?}"),
+            family as u64,
+            cases,
+            |index, source| {
+                let mut random = source.clone();
+                let subject = made.insert(make(family, index, &mut random));
+                let answer = judge(family, subject, &mut random, pair)?;
+                if family == Family::Grown {
+                    judge_tree(&mut source.clone(), pair)?;
+                }
+                Ok(answer)
+            },
+        );
+        judged.map_err(|mut failure| {
+            failure.subject = made.take();
+            failure
+        })
+    }
+
+    /// So many cases, each from its own source of numbers.
+    fn each(
+        &self,
+        family: &str,
+        stream: u64,
+        cases: u64,
+        mut judge: impl FnMut(u64, &Random) -> Result<u64, Difference>,
+    ) -> Result<Tally, Box<Failure>> {
+        let mut tally = Tally::default();
         for index in 0..cases {
-            let source = Random::of_case(self.seed, family as u64, index);
-            let mut random = source.clone();
             if self.trace {
-                eprintln!("{family:?} {index}");
+                eprintln!("{family} {index}");
             }
-            let subject = make(family, index, &mut random);
-            let mut judged = judge(family, &subject, &mut random, pair);
-            if family == Family::Grown {
-                let tree = judge_tree(&mut source.clone(), pair);
-                judged = judged.and_then(|answer| tree.map(|()| answer));
-            }
-            match judged {
+            match judge(index, &Random::of_case(self.seed, stream, index)) {
                 Ok(answer) => count(&mut tally, answer),
                 Err(difference) => {
                     return Err(Box::new(Failure {
-                        family: format!("{family:?}"),
+                        family: family.to_string(),
                         index,
-                        subject,
+                        subject: None,
                         difference,
                     }))
                 }
             }
         }
         Ok(tally)
+    }
+
+    /// All families of another format, each with a stream of numbers of its own.
+    pub fn all<P>(
+        &self,
+        stream: u64,
+        kinds: &[Kind<P>],
+        pair: &mut P,
+    ) -> Result<Tally, Box<Failure>> {
+        let mut total = Tally::default();
+        for (which, Kind(family, what, share, least, judge)) in kinds.iter().enumerate() {
+            let begin = Instant::now();
+            let cases = (self.count * share).div_ceil(10_000).max(*least);
+            let tally = self.each(family, stream + which as u64, cases, |index, source| {
+                judge(index, &mut source.clone(), pair)
+            })?;
+            self.say(family, what, &tally, begin);
+            add(&mut total, &tally);
+        }
+        Ok(total)
     }
 
     /// The line of a family.
@@ -157,10 +228,10 @@ impl Failure {
                 tries.filter_map(|mut random| judge(family, subject, &mut random, pair).err());
             tries.next()
         };
-        if fails(&self.subject).is_none() {
+        let Some(subject) = self.subject.take_if(|subject| fails(subject).is_some()) else {
             return self;
-        }
-        self.subject = match self.subject {
+        };
+        let subject = match subject {
             Subject::File(file) => {
                 let mut bytes = |file: &[u8]| fails(&Subject::File(file.to_vec())).is_some();
                 Subject::File(shrink(file, &mut bytes))
@@ -170,15 +241,17 @@ impl Failure {
                 Subject::Writing(smallest(writing, &mut test))
             }
         };
-        self.difference = fails(&self.subject).unwrap_or(self.difference);
+        self.difference = fails(&subject).unwrap_or(self.difference);
+        self.subject = Some(subject);
         self
     }
 
     /// What is printed of it.
     pub fn words(&self, seed: u64) -> String {
         let subject = match &self.subject {
-            Subject::File(file) => format!("  file   {} bytes {}", file.len(), shown(file)),
-            Subject::Writing(_) => "  (a writing)".to_string(),
+            Some(Subject::File(file)) => format!("  file   {} bytes {}", file.len(), shown(file)),
+            Some(Subject::Writing(_)) => "  (a writing)".to_string(),
+            None => "  (of another format)".to_string(),
         };
         let Failure { family, index, .. } = self;
         let difference = &self.difference;

@@ -1,9 +1,10 @@
 //! Every single bit of a file turned, one at a time: how many are refused,
 //! and how many are accepted with the same answers or with others.
 
-use super::compare::{spoken, Call, Difference, Pair};
+use super::compare::{Call, Pair};
 use super::facts::{self, Facts, Rooms};
 use super::kinds::{kinds, Kind};
+use super::lent::{spoken, Difference};
 use crate::boundary::{refusal, Boundary};
 use std::collections::BTreeMap;
 

@@ -1,9 +1,10 @@
 //! The writer on both sides: names and rows with and without faults, every
 //! room, and what is written read back.
 
-use super::compare::{hex, spoken, Difference, Pair};
+use super::compare::Pair;
 use super::facts::{self, Facts, Rooms};
 use super::grow::finite;
+use super::lent::{hex, spoken, Difference};
 use super::random::Random;
 use crate::boundary::{refusal, Boundary};
 

@@ -30,9 +30,10 @@ impl Boundary for Seeded {
                 true => read.records.len() + read.passed,
                 false => read.records.len(),
             };
-            let skipped = match self.makes(Error::SkippedInvented) {
-                true => read.skipped.min(64),
-                false => read.skipped,
+            let skipped = match self.error {
+                Some(Error::SkippedInvented) => read.skipped.min(64),
+                Some(Error::SkippedWithoutHeaders) => read.skipped - 6 * read.passed,
+                _ => read.skipped,
             };
             [6 * chunks, read.own, skipped].map(|count| count as u32)
         });
@@ -54,7 +55,14 @@ impl Boundary for Seeded {
 
     fn bounding_box(&self, file: &[u8], mesh: u32, floats: &mut [u8]) -> u64 {
         let found = self.find(file, mesh);
-        let nine = found.and_then(|(read, mesh)| self.boxed(&read.meshes[mesh]));
+        let nine = found.and_then(|(read, mesh)| {
+            let mesh = if self.makes(Error::BoxOfFirst) {
+                0
+            } else {
+                mesh
+            };
+            self.boxed(&read.meshes[mesh])
+        });
         answer(self.few(nine, floats))
     }
 
@@ -74,6 +82,14 @@ fn answer(result: Result<usize, Refusal>) -> u64 {
 fn put(slice: &mut [u8], bytes: &[u8]) {
     let count = bytes.len().min(slice.len());
     slice[..count].copy_from_slice(&bytes[..count]);
+}
+
+/// Makes every minus zero a zero.
+fn lose_minus(floats: &mut [u8]) {
+    let floats = floats.chunks_exact_mut(4);
+    floats
+        .filter(|float| float[..3] == [0; 3] && float[3] == 0x80)
+        .for_each(|f| f[3] = 0);
 }
 
 impl Seeded {
@@ -138,6 +154,7 @@ impl Seeded {
         let read = read(self, file)?;
         let (mesh, count) = (mesh as usize, read.meshes.len());
         match mesh < count {
+            true if self.makes(Error::MeshesReversed) => Ok((read, count - 1 - mesh)),
             true => Ok((read, mesh)),
             false if self.makes(Error::NoSuchMeshPlace) => Err(Number::NoSuchMesh.at(mesh)),
             false => Err(Number::NoSuchMesh.at(count)),
@@ -151,22 +168,19 @@ impl Seeded {
         vertices: &mut [u8],
         corners: &mut [u8],
     ) -> Result<usize, Refusal> {
-        let (mut read, mesh) = self.find(file, mesh)?;
+        let (mut read, mut mesh) = self.find(file, mesh)?;
+        if self.makes(Error::TablesOfFirst) {
+            mesh = 0;
+        }
         let mesh = &mut read.meshes[mesh];
         if self.makes(Error::MinusZeroLost) {
-            let floats = mesh.vertices.chunks_exact_mut(4);
-            floats
-                .filter(|float| float[..3] == [0; 3] && float[3] == 0x80)
-                .for_each(|f| f[3] = 0);
+            lose_minus(&mut mesh.vertices);
         }
         let (n, f) = (mesh.vertices.len() / 12, mesh.corners.len() / 6);
-        let each = if self.makes(Error::RoomInVertices) {
-            1
-        } else {
-            3
-        };
-        let few_vertices = vertices.len() / 4 < 3 * n;
-        let few_corners = corners.len() / 2 < 3 * f;
+        let each = 3 - 2 * usize::from(self.makes(Error::RoomInVertices));
+        let part = usize::from(self.makes(Error::TablesRoomOfPart));
+        let few_vertices = (vertices.len() + 3 * part) / 4 < 3 * n;
+        let few_corners = (corners.len() + part) / 2 < 3 * f;
         if few_corners && few_vertices && self.makes(Error::RoomOfCornersFirst) {
             return Err(Number::NoRoom.at(each * f));
         }
@@ -190,7 +204,10 @@ impl Seeded {
         numbers: Result<[u32; N], Refusal>,
         slice: &mut [u8],
     ) -> Result<usize, Refusal> {
-        let small = slice.len() / 4 < N;
+        let small = match self.makes(Error::FewRoomOfPart) {
+            true => slice.len().div_ceil(4) < N,
+            false => slice.len() / 4 < N,
+        };
         let early = self.makes(Error::RoomBeforeMesh);
         if small && early && numbers.is_err_and(|refusal| refusal.number >= 16) {
             return Err(Number::NoRoom.at(N));
@@ -215,9 +232,10 @@ impl Seeded {
             let row: Vec<f32> = floats.iter().skip(axis).step_by(3).copied().collect();
             let low = self.least(&row, false);
             let high = self.least(&row, true);
-            let centre = match self.makes(Error::CentreOfSum) {
-                true => (low + high) * 0.5,
-                false => low * 0.5 + high * 0.5,
+            let centre = match self.error {
+                Some(Error::CentreOfSum) => (low + high) * 0.5,
+                Some(Error::CentreFromDifference) => low + (high - low) * 0.5,
+                _ => low * 0.5 + high * 0.5,
             };
             nine[axis] = low.to_bits();
             nine[axis + 3] = high.to_bits();

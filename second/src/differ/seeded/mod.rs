@@ -2,17 +2,27 @@
 //! comparison finds it; without one it has to agree.
 
 mod calls;
+mod misread;
+mod own;
 mod reader;
 mod writer;
+
+pub use misread::{errors as misread_rows, Misread};
+
+use crate::{row, Row};
 
 /// Names the errors once, and lists them all.
 macro_rules! errors {
     ($($name:ident)*) => {
         /// The errors it can make: some were made by others, all are easily made.
         #[derive(Clone, Copy, Debug, PartialEq, Eq)]
-        pub enum Error { $($name,)* }
+        pub enum Error {
+            $($name,)*
+            /// A row of the table read wrongly.
+            Row(u16, Misread),
+        }
 
-        /// All of them.
+        /// All of them but the misread rows.
         pub const ERRORS: &[Error] = &[$(Error::$name,)*];
     };
 }
@@ -36,6 +46,16 @@ errors! {
     WriterFlags WriterCornersFirst WriterIndexBeforeNumber WriterIndexAtCount WriterZeroPlace
     WriterCountBeforeName WriterNumberBeforeCount WriterLimitBeforeIndex
     WriterMost WriterRoomBeforeLimit WriterClearsRest WriterMinusZeroLost
+    ShortFigureRead LengthExcludesHeader UnlistedOpened EmptyNameRefused
+    ParentIsDepthLess ParentIsPrevious DepthFromOne OffsetOfBody OwnIsBody
+    NotANumberAllowed InfinityAllowed MinusInfinityAllowed FirstFloatOnly NumberBeforeLength
+    SmoothingHalf EntriesBelowVertices FirstEntryOnly CornersBelowFaces FlagWordJudged
+    FirstCornerOnly FirstFaceOnly MappingAtMost MappingAtLeast
+    PlaceWithoutSkipped StrayAtParent TwiceAtParent MissingAtEnd IndexAtMesh CountAtMesh
+    TablesOfFirst BoxOfFirst MeshesReversed FewRoomOfPart TablesRoomOfPart
+    SkippedWithoutHeaders CentreFromDifference
+    WriterRoomOff WriterInfinityAllowed WriterMinusInfinityAllowed WriterCountPlace
+    WriterNumberPlace WriterIndexPlace WriterLimitOff WriterLimitNotJudged
 }
 
 /// The plain reader, with an error or without.
@@ -48,5 +68,14 @@ impl Seeded {
     /// Whether this is the error to make.
     fn makes(self, error: Error) -> bool {
         self.error == Some(error)
+    }
+
+    /// The row of an identifier, misread if that is the error.
+    fn row(self, identifier: u16) -> Option<Row> {
+        let row = row(identifier).copied();
+        match self.error {
+            Some(Error::Row(which, misread)) if which == identifier => misread.of(row?),
+            _ => row,
+        }
     }
 }

@@ -18,13 +18,13 @@ pub struct Read {
 
 /// What is known of a mesh before its end.
 #[derive(Default)]
-struct Parts {
-    vertices: Option<Vec<u8>>,
-    faces: Vec<u8>,
-    faces_at: usize,
-    mapping: Option<(usize, usize)>,
+pub struct Parts {
+    pub vertices: Option<Vec<u8>>,
+    pub faces: Vec<u8>,
+    pub faces_at: usize,
+    pub mapping: Option<(usize, usize)>,
     /// A refusal put off to the mesh's end, by mistake.
-    put_off: Option<Refusal>,
+    pub put_off: Option<Refusal>,
 }
 
 /// The chunk whose children are read.
@@ -37,13 +37,16 @@ struct Around {
 }
 
 pub struct Reader<'a> {
-    seeded: Seeded,
-    file: &'a [u8],
-    read: Read,
-    name: [u32; 2],
-    parts: Parts,
+    pub seeded: Seeded,
+    pub file: &'a [u8],
+    pub read: Read,
+    pub name: [u32; 2],
+    pub parts: Parts,
     met_in_file: u8,
 }
+
+/// The row of the figure itself.
+const FIGURE: &Row = row(0x4D4D).expect("the table begins with it");
 
 /// Judges 1 and 2.
 fn begin(seeded: Seeded, file: &[u8]) -> Result<(), Refusal> {
@@ -53,6 +56,9 @@ fn begin(seeded: Seeded, file: &[u8]) -> Result<(), Refusal> {
         _ => file.len() > LIMIT,
     };
     let other = !file.starts_with(&[0x4D, 0x4D]) || file.len() < 6;
+    if other && file.len() > 1 && file[..2] == *b"MM" && seeded.makes(Error::ShortFigureRead) {
+        return Err(Number::Stray.at(0));
+    }
     let too_long = Err(Number::TooLong.at(0));
     let not_a_figure = Err(Number::NotAFigure.at(0));
     match (long, other) {
@@ -85,30 +91,41 @@ pub fn read(seeded: Seeded, file: &[u8]) -> Result<Read, Refusal> {
         let off = seeded.makes(Error::TrailingPlace);
         return Err(Number::Trailing.at(if off { file.len() } else { length }));
     }
-    let row = row(0x4D4D).unwrap_or_else(|| unreachable!());
-    reader.known(*row, [0, length, 0, 0])?;
-    Ok(reader.read)
+    let row = seeded.row(0x4D4D).unwrap_or(Row { ..*FIGURE });
+    match reader.known(row, [0, length, 0, 0]) {
+        Ok(()) => Ok(reader.read),
+        Err(refusal) if seeded.makes(Error::PlaceWithoutSkipped) => Err(Refusal {
+            place: refusal.place.saturating_sub(reader.read.skipped),
+            ..refusal
+        }),
+        Err(refusal) => Err(refusal),
+    }
 }
 
 impl Reader<'_> {
-    fn word(&self, at: usize) -> usize {
+    pub fn word(&self, at: usize) -> usize {
         usize::from(self.file[at]) + 256 * usize::from(self.file[at + 1])
     }
 
     fn length(&self, at: usize) -> usize {
-        self.word(at + 2) + 65_536 * self.word(at + 4)
+        let more = if self.makes(Error::LengthExcludesHeader) {
+            6
+        } else {
+            0
+        };
+        self.word(at + 2) + 65_536 * self.word(at + 4) + more
     }
 
-    fn makes(&self, error: Error) -> bool {
+    pub fn makes(&self, error: Error) -> bool {
         self.seeded.makes(error)
     }
 
     /// The row of the chunk at an offset, or of another by mistake.
     fn row(&self, at: usize) -> Option<Row> {
         match self.word(at) as u16 {
-            0xB000 if self.makes(Error::KeyframerListed) => row(0x4D4D).copied(),
+            0xB000 if self.makes(Error::KeyframerListed) => Some(*FIGURE),
             0x4D4D if self.makes(Error::FigureInsideSkipped) => None,
-            identifier => row(identifier).copied(),
+            identifier => self.seeded.row(identifier),
         }
     }
 
@@ -121,13 +138,19 @@ impl Reader<'_> {
                 if missing && self.makes(Error::MissingBeforeStray) {
                     return Err(Number::Missing.at(around.at));
                 }
-                return Err(Number::Stray.at(at + usize::from(self.makes(Error::StrayPlace))));
+                let place = match self.seeded.error {
+                    Some(Error::StrayPlace) => at + 1,
+                    Some(Error::StrayAtParent) => around.at,
+                    _ => at,
+                };
+                return Err(Number::Stray.at(place));
             }
             at += self.child(around, at, &mut met)?;
         }
         let missing = around.row.needs & !met != 0;
         if missing && !(self.makes(Error::MissingNotJudged) && around.at > 0) {
-            return Err(Number::Missing.at(around.at));
+            let end = self.makes(Error::MissingAtEnd);
+            return Err(Number::Missing.at(if end { around.end } else { around.at }));
         }
         Ok(())
     }
@@ -161,20 +184,31 @@ impl Reader<'_> {
         }
         let length = length.min(left);
         let Some(row) = row else {
-            self.read.skipped += length;
-            self.read.passed += 1;
-            return Ok(length);
+            return Ok(self.pass_over(length));
         };
         if misplaced {
             return Err(Number::Misplaced.at(at));
         }
-        self.once(row, at, length, met)?;
+        self.once(row, [at, length, around.at], met)?;
         self.known(row, [at, length, around.record, around.depth as usize + 1])?;
         Ok(length)
     }
 
+    /// Counts an unlisted chunk; how far to step.
+    fn pass_over(&mut self, length: usize) -> usize {
+        let step = if self.makes(Error::UnlistedOpened) {
+            6
+        } else {
+            length
+        };
+        self.read.skipped += step;
+        self.read.passed += 1;
+        step
+    }
+
     /// Judges "at most one".
-    fn once(&mut self, row: Row, at: usize, length: usize, met: &mut u8) -> Result<(), Refusal> {
+    fn once(&mut self, row: Row, numbers: [usize; 3], met: &mut u8) -> Result<(), Refusal> {
+        let [at, length, parent] = numbers;
         let mut once = row.once;
         if self.makes(Error::TwiceEachAlone) && row.under == place::H4000 && once != 0 {
             once = 1 << (self.word(at) >> 8 & 7);
@@ -184,7 +218,8 @@ impl Reader<'_> {
         }
         let name = self.word(at) == 0xA000 && self.makes(Error::TwiceAcrossParents);
         if once & *met != 0 || (name && self.met_in_file != 0) {
-            return Err(Number::Twice.at(at));
+            let elsewhere = self.makes(Error::TwiceAtParent);
+            return Err(Number::Twice.at(if elsewhere { parent } else { at }));
         }
         *met |= once;
         self.met_in_file |= u8::from(name);
@@ -221,7 +256,7 @@ impl Reader<'_> {
         }
         debug_assert!(parent <= record);
         if mesh {
-            self.close()?;
+            self.close(at)?;
         }
         Ok(())
     }
@@ -235,188 +270,24 @@ impl Reader<'_> {
             Some(Error::ParentOff) if depth > 2 => parent += 1,
             Some(Error::DepthOff) if row.own == Own::Group => depth -= 1,
             Some(Error::LengthWithoutHeader) => length -= 6,
+            Some(Error::ParentIsDepthLess) => parent = depth.saturating_sub(1),
+            Some(Error::ParentIsPrevious) => parent = number.saturating_sub(1),
+            Some(Error::DepthFromOne) => depth += 1,
+            Some(Error::OwnIsBody) => said = length - 6,
             Some(Error::OwnOfGroupWithoutName) if row.own == Own::Group => {
                 let entries = self.file[at + 6..].iter().position(|byte| *byte == 0);
                 said -= entries.unwrap_or(0) + 1;
             }
             _ => (),
         }
-        let numbers = [self.word(at), at, length, depth, parent, said];
+        let offset = if self.makes(Error::OffsetOfBody) {
+            at + 6
+        } else {
+            at
+        };
+        let numbers = [self.word(at), offset, length, depth, parent, said];
         self.read.records.push(numbers.map(|number| number as u32));
         self.read.own += own;
         number
     }
-
-    /// The length of own data, or 9 or 10.
-    fn own(&self, row: Row, at: usize, length: usize) -> Result<usize, Refusal> {
-        let body = &self.file[at + 6..at + length];
-        let own = match row.own {
-            Own::Bytes(bytes) => Some(usize::from(bytes)),
-            Own::Name => Some(self.named(body, at, 1)?),
-            Own::Group => {
-                let name = self.named(body, at, 3)?;
-                count(&body[name.min(body.len())..]).map(|count| name + 2 + 2 * count)
-            }
-            Own::Vertices => count(body).map(|count| 2 + 12 * count),
-            Own::Faces | Own::Mapping => count(body).map(|count| 2 + 8 * count),
-            Own::Smoothing if self.makes(Error::SmoothingFree) => Some(body.len()),
-            Own::Smoothing => Some(self.parts.faces.len() / 2),
-        };
-        let Some(own) = own else {
-            return Err(Number::Length.at(at));
-        };
-        let mut longer = row.holds != 0;
-        match self.seeded.error {
-            Some(Error::PlusTooLong) => longer &= self.word(at) != 0x4600,
-            Some(Error::StrayInLeafAllowed) => longer |= matches!(row.own, Own::Bytes(_)),
-            Some(Error::CountBelieved) => longer |= row.own == Own::Vertices,
-            _ => (),
-        }
-        if row.own == Own::Group && own < body.len() && self.makes(Error::IndexBeforeLength) {
-            self.group(&body[..own], at)?;
-        }
-        match own == body.len() || (own < body.len() && longer) {
-            true if row.holds == 0 => Ok(body.len()),
-            true => Ok(own),
-            false => Err(Number::Length.at(at)),
-        }
-    }
-
-    /// The length of a name, or 9.
-    fn named(&self, body: &[u8], at: usize, least: usize) -> Result<usize, Refusal> {
-        let searched = match self.seeded.error {
-            Some(Error::NameBeyondChunk) => &self.file[at + 6..],
-            _ => body,
-        };
-        match searched.iter().position(|byte| *byte == 0) {
-            Some(zero) => Ok(zero + 1),
-            None if self.makes(Error::LengthBeforeName) && body.len() < least => {
-                Err(Number::Length.at(at))
-            }
-            None => Err(Number::Name.at(at)),
-        }
-    }
-
-    /// The numbers in own data: 11, and 12 for a 4130.
-    fn numbers(&mut self, row: Row, at: usize, own: usize) -> Result<(), Refusal> {
-        let data = self.file[at + 6..at + 6 + own].to_vec();
-        let floats = match row.own {
-            Own::Vertices => &data[2..2 + 12 * count(&data).unwrap_or(0)],
-            Own::Mapping if !self.makes(Error::MappingFloatsUnjudged) => &data[2..],
-            _ if self.makes(Error::MatrixFloatsJudged) && self.word(at) == 0x4160 => &data,
-            _ => &[],
-        };
-        if !floats.chunks_exact(4).all(finite) {
-            let refusal = Number::Number.at(at);
-            match self.makes(Error::NumberAtMeshEnd) {
-                true => self.parts.put_off = Some(refusal),
-                false => return Err(refusal),
-            }
-        }
-        match row.own {
-            Own::Vertices => {
-                let vertices = floats.to_vec();
-                self.parts.vertices = Some(vertices);
-            }
-            Own::Mapping => self.parts.mapping = count(&data).map(|count| (at, count)),
-            Own::Group => self.group(&data, at)?,
-            Own::Faces => return self.faces(data, at),
-            _ => (),
-        }
-        Ok(())
-    }
-
-    /// The entries of a 4130.
-    fn group(&self, data: &[u8], at: usize) -> Result<(), Refusal> {
-        let faces = self.parts.faces.len() / 8 + usize::from(self.makes(Error::EntryAtCount));
-        let name = data.iter().position(|byte| *byte == 0).unwrap_or(0);
-        let good = |entry: &[u8]| count(entry).is_some_and(|entry| entry < faces);
-        match data[name + 3..].chunks_exact(2).all(good) {
-            true => Ok(()),
-            false => Err(Number::Index.at(at)),
-        }
-    }
-
-    /// Notes a 4120, whose corners are judged later, or now by mistake.
-    fn faces(&mut self, data: Vec<u8>, at: usize) -> Result<(), Refusal> {
-        self.parts.faces = data[2..].to_vec();
-        self.parts.faces_at = at;
-        let known = self.parts.vertices.is_some();
-        match self.seeded.error {
-            Some(Error::CornersWhenMet) => self.corners(),
-            Some(Error::CornersBeforeGroups) if known => self.corners(),
-            _ => Ok(()),
-        }
-    }
-
-    fn vertices(&self) -> usize {
-        self.parts
-            .vertices
-            .as_ref()
-            .map_or(0, |bytes| bytes.len() / 12)
-    }
-
-    /// The corners of a mesh.
-    fn corners(&self) -> Result<(), Refusal> {
-        if self.parts.vertices.is_none() && self.makes(Error::NoVerticesNoJudging) {
-            return Ok(());
-        }
-        let n = self.vertices() + usize::from(self.makes(Error::CornerAtCount));
-        let good = |face: &[u8]| (0..3).all(|c| count(&face[2 * c..]).is_some_and(|c| c < n));
-        let unjudged = self.makes(Error::CornersOfFirstMeshOnly) && !self.read.meshes.is_empty();
-        match unjudged || self.parts.faces.chunks_exact(8).all(good) {
-            true => Ok(()),
-            false => Err(Number::Index.at(self.parts.faces_at)),
-        }
-    }
-
-    /// The count of a 4140.
-    fn mapping(&self) -> Result<(), Refusal> {
-        if self.parts.vertices.is_none() && self.makes(Error::MappingAloneUnjudged) {
-            return Ok(());
-        }
-        match self.parts.mapping {
-            Some((at, m)) if m != self.vertices() => Err(Number::Count.at(at)),
-            _ => Ok(()),
-        }
-    }
-
-    /// The end of a mesh.
-    fn close(&mut self) -> Result<(), Refusal> {
-        match self.seeded.error {
-            Some(Error::CountBeforeIndex) => self.mapping().and(self.corners())?,
-            Some(Error::CountNotJudged) | Some(Error::CornersWhenMet) => self.corners()?,
-            _ => self.corners().and(self.mapping())?,
-        }
-        if let Some(refusal) = self.parts.put_off {
-            return Err(refusal);
-        }
-        let parts = std::mem::take(&mut self.parts);
-        let words = match self.seeded.error {
-            Some(Error::FlagWordInCorners) => 8,
-            _ => 6,
-        };
-        let faces = parts.faces.chunks_exact(8);
-        let mut corners: Vec<u8> = faces.flat_map(|face| face[..words].to_vec()).collect();
-        corners.truncate(parts.faces.len() / 8 * 6);
-        self.read.meshes.push(Mesh {
-            vertices: parts.vertices.unwrap_or_default(),
-            corners,
-            name: self.name,
-        });
-        Ok(())
-    }
-}
-
-/// The word that bytes begin with.
-fn count(bytes: &[u8]) -> Option<usize> {
-    match bytes {
-        [low, high, ..] => Some(usize::from(*low) + 256 * usize::from(*high)),
-        _ => None,
-    }
-}
-
-/// Whether four bytes are a finite float.
-fn finite(bytes: &[u8]) -> bool {
-    f32::from_le_bytes([bytes[0], bytes[1], bytes[2], bytes[3]]).is_finite()
 }

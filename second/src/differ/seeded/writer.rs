@@ -2,6 +2,7 @@
 //! its refusals, in their places, and in the bytes.
 
 use super::{Error, Seeded};
+use crate::differ::build::{figure, meshed};
 use crate::differ::node::Node;
 use crate::{Number, Refusal, LIMIT};
 
@@ -21,13 +22,19 @@ pub fn write(
     }
     judged?;
     let no_room = Err(Number::NoRoom.at(size));
-    if size > out.len() && seeded.makes(Error::WriterRoomBeforeLimit) {
+    let needed = size + usize::from(seeded.makes(Error::WriterRoomOff));
+    if needed > out.len() && seeded.makes(Error::WriterRoomBeforeLimit) {
         return no_room;
     }
-    if size > LIMIT {
+    let limit = match seeded.error {
+        Some(Error::WriterLimitOff) => LIMIT - 1,
+        Some(Error::WriterLimitNotJudged) => usize::MAX,
+        _ => LIMIT,
+    };
+    if size > limit {
         return Err(Number::TooLong.at(0));
     }
-    if size > out.len() {
+    if needed > out.len() {
         return no_room;
     }
     if seeded.makes(Error::WriterClearsRest) {
@@ -44,7 +51,12 @@ fn judge(seeded: Seeded, name: &[u8], vertices: &[f32], corners: &[u16]) -> Resu
     if seeded.makes(Error::WriterCountBeforeName) {
         count.and(zero)?;
     }
-    let float = vertices.iter().position(|float| !float.is_finite());
+    let good = |float: &f32| match seeded.error {
+        Some(Error::WriterInfinityAllowed) => !float.is_nan(),
+        Some(Error::WriterMinusInfinityAllowed) => *float < f32::INFINITY,
+        _ => float.is_finite(),
+    };
+    let float = vertices.iter().position(|float| !good(float));
     if let (Some(float), Ok(())) = (float, zero) {
         if seeded.makes(Error::WriterNumberBeforeCount) {
             return Err(Number::Number.at(float));
@@ -57,7 +69,13 @@ fn judge(seeded: Seeded, name: &[u8], vertices: &[f32], corners: &[u16]) -> Resu
         (Some(_), Some(corner)) if seeded.makes(Error::WriterIndexBeforeNumber) => {
             Err(Number::Index.at(corner))
         }
+        (Some(float), _) if seeded.makes(Error::WriterNumberPlace) => {
+            Err(Number::Number.at(float / 3))
+        }
         (Some(float), _) => Err(Number::Number.at(float)),
+        (None, Some(corner)) if seeded.makes(Error::WriterIndexPlace) => {
+            Err(Number::Index.at(corner / 3))
+        }
         (None, Some(corner)) => Err(Number::Index.at(corner)),
         (None, None) => Ok(()),
     }
@@ -80,6 +98,7 @@ fn count(seeded: Seeded, mut lengths: [usize; 2]) -> Result<(), Refusal> {
     let most = 196_605 - usize::from(seeded.makes(Error::WriterMost));
     let bad = |length: &usize| !length.is_multiple_of(3) || *length > most;
     match lengths.into_iter().find(bad) {
+        Some(length) if seeded.makes(Error::WriterCountPlace) => Err(Number::Count.at(length / 3)),
         Some(length) => Err(Number::Count.at(length)),
         None => Ok(()),
     }
@@ -100,8 +119,5 @@ fn tree(seeded: Seeded, name: &[u8], vertices: &[f32], corners: &[u16]) -> Node 
         faces.extend([flags, 0]);
     }
     let parts = vec![Node::leaf(0x4110, points), Node::leaf(0x4120, faces)];
-    let mesh = Node::holding(0x4100, vec![], parts);
-    let object = Node::holding(0x4000, [name, &[0]].concat(), vec![mesh]);
-    let edit = Node::holding(0x3D3D, vec![], vec![object]);
-    Node::holding(0x4D4D, vec![], vec![edit])
+    figure(vec![meshed(name, parts)])
 }

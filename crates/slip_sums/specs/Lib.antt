@@ -1,0 +1,5 @@
+pub mod Fletcher
+pub mod Joined
+pub mod Passes
+pub mod Totals
+pub mod Samples

@@ -1,0 +1,57 @@
+//! Both sides over Cinema 4D figures: grown with all that is to be said of
+//! them, with faults put in, damaged, and as long as they may be.
+
+mod asked;
+pub mod erring;
+mod grow;
+mod harm;
+
+use super::compare::Pair;
+use super::drafts::{damaged, faulty, long, valid, Asks, Draft};
+use super::lent::Difference;
+use super::random::Random;
+use super::run::{Failure, Kind, Plan, Tally};
+use crate::boundary::C4ds;
+use grow::File;
+
+/// The first stream of numbers of these families.
+const STREAM: u64 = 400;
+
+/// Runs all families of Cinema 4D figures.
+pub fn run<L: C4ds, R: C4ds>(plan: Plan, pair: &mut Pair<L, R>) -> Result<Tally, Box<Failure>> {
+    let kinds: [Kind<Pair<L, R>>; 5] = [
+        Kind(
+            "C4ds",
+            "valid Cinema 4D figures",
+            500,
+            600,
+            valid::<File, _>,
+        ),
+        Kind("C4dKinds", "objects of any sub-chunks", 500, 600, objects),
+        Kind(
+            "C4dFaults",
+            "faults put in, one or more",
+            1_200,
+            1_500,
+            faulty::<File, _>,
+        ),
+        Kind(
+            "C4dBytes",
+            "bits and bytes damaged",
+            500,
+            600,
+            damaged::<File, _>,
+        ),
+        Kind("C4dLong", "as long as they may be", 2, 18, long::<File, _>),
+    ];
+    plan.all(STREAM, &kinds, pair)
+}
+
+/// An object of sub-chunks as they come: each combination, right or wrong.
+fn objects<L: C4ds, R: C4ds>(
+    _: u64,
+    random: &mut Random,
+    pair: &mut Pair<L, R>,
+) -> Result<u64, Difference> {
+    pair.whole(&File::any_kinds(random).bytes(), random)
+}

@@ -1,0 +1,39 @@
+//! Both sides over Caligari figures: grown with all that is to be said of them,
+//! damaged, and as long as they may be.
+
+mod asked;
+pub mod erring;
+mod grow;
+mod harm;
+
+use super::compare::Pair;
+use super::drafts::{damaged, faulty, long, valid};
+use super::run::{Failure, Kind, Plan, Tally};
+use crate::boundary::Cobs;
+use grow::File;
+
+/// The first stream of numbers of these families.
+const STREAM: u64 = 300;
+
+/// Runs all families of Caligari figures.
+pub fn run<L: Cobs, R: Cobs>(plan: Plan, pair: &mut Pair<L, R>) -> Result<Tally, Box<Failure>> {
+    let kinds: [Kind<Pair<L, R>>; 4] = [
+        Kind("Cobs", "valid Caligari figures", 500, 600, valid::<File, _>),
+        Kind(
+            "CobFaults",
+            "faults put in, one or more",
+            1_200,
+            1_500,
+            faulty::<File, _>,
+        ),
+        Kind(
+            "CobBytes",
+            "bits and bytes damaged",
+            500,
+            600,
+            damaged::<File, _>,
+        ),
+        Kind("CobLong", "as long as they may be", 2, 18, long::<File, _>),
+    ];
+    plan.all(STREAM, &kinds, pair)
+}

@@ -1,0 +1,150 @@
+//! This library's slips and sums with one error, to see that the comparison
+//! finds it; without one it is this library.
+
+use crate::boundary::{refusal, refused, Second, Slips, ENTRY_BYTES};
+
+listed! {
+    /// The errors that can be made.
+    Error, ERRORS:
+    SumsExchanged SumsModulo256 LimitNotJudged LengthNotJudged SumsJudgedFirst HighSumsIgnored
+    SumOf255Read RepeatsRead EmptyNameRead CountMissingAtHead LeftOverAtHead CountUnlimited
+    NameOffsetOfEntry RoomOfPart RoomFirst PartOfEntryLost RepeatsWritten ThousandthRefused
+    BadEntryAfterMany WritesBeforeRefusing EmptyPartKeeps255 JoinByFirstLength JoinForgetsLength
+    LengthsWrap StateLengthCut
+}
+
+/// This library, with an error or without.
+#[derive(Clone, Copy, Debug, Default)]
+pub struct Erring {
+    pub error: Option<Error>,
+}
+
+impl Slips for Erring {
+    fn sums(&self, file: &[u8]) -> u64 {
+        let state = Second.sum_add(0, file) & 0xFFFF;
+        match self.error {
+            Some(Error::SumsExchanged) => state.swap_bytes() >> 48,
+            Some(Error::SumsModulo256) => {
+                file.iter().map(|byte| u64::from(*byte)).sum::<u64>() & 0xFF
+            }
+            Some(Error::LimitNotJudged) => state,
+            _ => Second.sums(file),
+        }
+    }
+
+    fn matches(&self, file: &[u8], length: u32, sums: u32) -> u64 {
+        let answer = Second.matches(file, length, sums);
+        let differ = Second.matches(file, file.len() as u32, sums);
+        match self.error {
+            Some(Error::LengthNotJudged) => differ,
+            Some(Error::SumsJudgedFirst) => differ.max(answer),
+            Some(Error::HighSumsIgnored) => Second.matches(file, length, sums & 0xFFFF),
+            _ => answer,
+        }
+    }
+
+    fn slip_read(&self, slip: &[u8], entries: &mut [u8]) -> u64 {
+        match (self.error, refusal(Second.slip_read(slip, entries))) {
+            (Some(Error::RoomFirst), Some((18, _))) if entries.len() < ENTRY_BYTES => {
+                refused(15, 1)
+            }
+            (Some(Error::RoomOfPart), Some((15, needed))) => {
+                match entries.len().div_ceil(ENTRY_BYTES) < needed as usize {
+                    true => refused(15, needed as usize),
+                    false => u64::from(needed),
+                }
+            }
+            (_, Some((18, place))) => self.misread(slip, place as usize, entries),
+            (_, None) if self.error == Some(Error::NameOffsetOfEntry) => {
+                let answer = Second.slip_read(slip, entries);
+                entries.iter_mut().take(1).for_each(|offset| *offset -= 1);
+                answer
+            }
+            _ => Second.slip_read(slip, entries),
+        }
+    }
+
+    fn slip_write(&self, names: &[u8], entries: &[u8], out: &mut [u8]) -> u64 {
+        let answer = Second.slip_write(names, entries, out);
+        let whole = &entries[..entries.len() / ENTRY_BYTES * ENTRY_BYTES];
+        let count = whole.len() / ENTRY_BYTES;
+        match (self.error, refusal(answer)) {
+            (Some(Error::PartOfEntryLost), Some(_)) => Second.slip_write(names, whole, out),
+            (Some(Error::ThousandthRefused), _) if count == 1_000 => refused(18, 999),
+            (Some(Error::BadEntryAfterMany), Some((18, _))) if count > 1_000 => refused(18, 1_000),
+            (Some(Error::RepeatsWritten), Some((18, number))) => {
+                let mut less = entries.to_vec();
+                less.drain(ENTRY_BYTES * number as usize..);
+                Second.slip_write(names, &less, out)
+            }
+            (Some(Error::WritesBeforeRefusing), Some((15, _))) => {
+                out.iter_mut().take(1).for_each(|byte| *byte ^= 1);
+                answer
+            }
+            _ => answer,
+        }
+    }
+
+    fn sum_add(&self, before: u64, part: &[u8]) -> u64 {
+        match self.error {
+            Some(Error::EmptyPartKeeps255) if part.is_empty() => before,
+            _ => Second.sum_add(before, part),
+        }
+    }
+
+    fn sum_join(&self, first: u64, second: u64) -> u64 {
+        let sums = |state: u64| state & 0xFFFF;
+        let answer = Second.sum_join(first, second);
+        match self.error {
+            Some(Error::JoinByFirstLength) => {
+                let exchanged = Second.sum_join(sums(first), sums(second) + (first >> 16 << 16));
+                sums(exchanged) + (answer >> 16 << 16)
+            }
+            Some(Error::JoinForgetsLength) => {
+                sums(Second.sum_join(first, sums(second))) + (answer >> 16 << 16)
+            }
+            Some(Error::LengthsWrap) => sums(answer) + (((first >> 16) + (second >> 16)) << 16),
+            _ => answer,
+        }
+    }
+
+    fn sum_matches(&self, sum: u64, length: u32, sums: u32) -> u64 {
+        let cut = sum & 0xFFFF_FFFF_FFFF;
+        match self.error {
+            Some(Error::StateLengthCut) => Second.sum_matches(cut, length, sums),
+            _ => Second.sum_matches(sum, length, sums),
+        }
+    }
+}
+
+impl Erring {
+    /// A slip that is refused with 18, read as if its fault were none.
+    fn misread(&self, slip: &[u8], place: usize, entries: &mut [u8]) -> u64 {
+        let mut mended = slip.to_vec();
+        let name = slip.get(place).map_or(0, |length| usize::from(*length));
+        let sums = place + 5 + name;
+        match self.error {
+            Some(Error::CountMissingAtHead) if place == slip.len() => return refused(18, 0),
+            Some(Error::LeftOverAtHead) if place > 0 && place < slip.len() => {
+                return refused(18, 0)
+            }
+            Some(Error::SumOf255Read) if place > 0 => {
+                let bytes = mended.iter_mut().skip(sums).take(2);
+                bytes.for_each(|byte| *byte = (*byte).min(254));
+            }
+            Some(Error::RepeatsRead) if place > 0 && name > 0 => {
+                mended
+                    .iter_mut()
+                    .skip(place + 1)
+                    .take(1)
+                    .for_each(|byte| *byte ^= 0x80);
+            }
+            Some(Error::EmptyNameRead) if place > 0 && name == 0 && sums + 2 <= slip.len() => {
+                return refused(18, slip.len());
+            }
+            Some(Error::CountUnlimited) if slip.len() > 7 && slip[0] == 1 => mended[5] &= 3,
+            _ => (),
+        }
+        Second.slip_read(&mended, entries)
+    }
+}

@@ -1,0 +1,91 @@
+//! Both sides over slips and sums: grown slips and every bit of small ones
+//! turned, entries to be written, and files cut into parts.
+
+mod asked;
+pub mod erring;
+mod grow;
+mod parts;
+
+use super::compare::Pair;
+use super::lent::Difference;
+use super::random::Random;
+use super::run::{Failure, Kind, Plan, Tally};
+use crate::boundary::{refusal, Slips};
+use grow::Draft;
+
+/// The first stream of numbers of these families.
+const STREAM: u64 = 200;
+
+/// Runs all families of slips.
+pub fn run<L: Slips, R: Slips>(plan: Plan, pair: &mut Pair<L, R>) -> Result<Tally, Box<Failure>> {
+    let kinds: [Kind<Pair<L, R>>; 7] = [
+        Kind("Slips", "slips, right and wrong", 500, 600, any),
+        Kind(
+            "SlipBits",
+            "every bit of a small slip turned",
+            10,
+            20,
+            turned,
+        ),
+        Kind("SlipsLong", "1,000 entries and one more", 2, 24, long),
+        Kind("Entries", "entries written", 500, 600, asked::entries),
+        Kind("Sums", "files against entries", 300, 300, parts::entry),
+        Kind("Parts", "files cut into parts", 300, 300, parts::cuts),
+        Kind(
+            "States",
+            "states of any kind joined",
+            500,
+            300,
+            parts::states,
+        ),
+    ];
+    plan.all(STREAM, &kinds, pair)
+}
+
+/// A slip with or without faults.
+fn any<L: Slips, R: Slips>(
+    _: u64,
+    random: &mut Random,
+    pair: &mut Pair<L, R>,
+) -> Result<u64, Difference> {
+    slip(&Draft::any(random), random, pair)
+}
+
+/// A slip of very many entries.
+fn long<L: Slips, R: Slips>(
+    index: u64,
+    random: &mut Random,
+    pair: &mut Pair<L, R>,
+) -> Result<u64, Difference> {
+    slip(&Draft::long(index, random), random, pair)
+}
+
+/// A slip read with all kinds of room; one that is accepted written again.
+fn slip<L: Slips, R: Slips>(
+    draft: &Draft,
+    random: &mut Random,
+    pair: &mut Pair<L, R>,
+) -> Result<u64, Difference> {
+    let slip = draft.bytes();
+    let answer = asked::read(&slip, random, pair)?;
+    if refusal(answer).is_none() {
+        asked::again(&slip, answer as usize, pair)?;
+    }
+    Ok(answer)
+}
+
+/// Every bit of a small slip turned.
+fn turned<L: Slips, R: Slips>(
+    _: u64,
+    random: &mut Random,
+    pair: &mut Pair<L, R>,
+) -> Result<u64, Difference> {
+    let slip = Draft::good(2, random).bytes();
+    let mut bytes = slip.clone();
+    for bit in 0..8 * slip.len() {
+        bytes[bit / 8] ^= 1 << (bit % 8);
+        asked::read(&bytes, random, pair)?;
+        bytes[bit / 8] ^= 1 << (bit % 8);
+    }
+    asked::read(&slip, random, pair)
+}
