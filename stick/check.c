@@ -130,7 +130,7 @@ static char *in_master(struct check *check, const struct entry *entry) {
         return NULL;
     }
     check->seen[number] = true;
-    text_format(&path, "%s/%s", against->folder, against->manifest->names[number]);
+    text_path(&path, against->folder, against->manifest->names[number]);
     return path.bytes;
 }
 
@@ -215,8 +215,7 @@ static void say_missing(struct check *check) {
     struct text path = {0};
     for (size_t i = 0; check->against->folder != NULL && i < check->against->manifest->count; i++) {
         if (!check->seen[i]) {
-            text_cut(&path, 0);
-            text_format(&path, "%s/%s", check->root, check->against->manifest->names[i]);
+            text_path(&path, check->root, check->against->manifest->names[i]);
             found(check, FOUND_MISSING, path.bytes, NULL, "copy it again");
         }
     }

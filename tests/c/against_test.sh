@@ -79,6 +79,9 @@ matches out "$F/chisel.3ds: refused: TRAILING .*"
 matches out "$F/mallet.3ds: (differs from the master, at byte 200|refused: .*): copy .* again"
 last "DO NOT SEAL: 5 figures checked, [12] refused, [12] differ, 1 missing, 1 not expected here, $seconds: see above"
 lines err 0
+stick --against samples/edition/ "$F/"
+matches out "$F/vice.3ds: missing: copy it again"
+matches out "$F/plane.3ds: differs from the master, .*"
 stick "$F" # without the master most of this is not seen
 has out 'structure only: no slip on this stick'
 
