@@ -130,7 +130,7 @@ static char *in_master(struct check *check, const struct entry *entry) {
         return NULL;
     }
     check->seen[number] = true;
-    text_format(&path, "%s/%s", against->folder, against->manifest->names[number]);
+    text_path(&path, against->folder, against->manifest->names[number]);
     return path.bytes;
 }
 
@@ -175,8 +175,28 @@ static void look_at_folder(struct check *check, const struct entry *entry) {
     }
 }
 
-static void look_at(struct check *check, const struct entry *entry) {
+/* What is neither a file nor a folder. One that a file should stand in place of is not missing too.
+ */
+static void look_at_other(struct check *check, const struct entry *entry) {
     struct trouble trouble;
+    free(in_master(check, entry));
+    check->figures += kind_of(entry->path) == KIND_FIGURE;
+    if (entry->kind == ENTRY_LINK) {
+        trouble_of_system(&trouble, ELOOP);
+        trouble.detail[0] = '\0';
+        could_not(check, entry->path, &trouble);
+    } else if (entry->kind == ENTRY_ERROR) {
+        trouble_of_system(&trouble, entry->error);
+        check->readable = check->readable && *entry->below != '\0';
+        could_not(check, entry->path, &trouble);
+    } else {
+        could_not_for_words(check, entry->path,
+                            "it is neither a file nor a folder, but a pipe, a device or the like",
+                            "take it off the stick");
+    }
+}
+
+static void look_at(struct check *check, const struct entry *entry) {
     switch (entry->kind) {
     case ENTRY_FILE:
         look_at_file(check, entry);
@@ -184,22 +204,8 @@ static void look_at(struct check *check, const struct entry *entry) {
     case ENTRY_FOLDER:
         look_at_folder(check, entry);
         break;
-    case ENTRY_LINK:
-        check->figures += kind_of(entry->path) == KIND_FIGURE;
-        trouble_of_system(&trouble, ELOOP);
-        trouble.detail[0] = '\0';
-        could_not(check, entry->path, &trouble);
-        break;
-    case ENTRY_OTHER:
-        check->figures += kind_of(entry->path) == KIND_FIGURE;
-        could_not_for_words(check, entry->path,
-                            "it is neither a file nor a folder, but a pipe, a device or the like",
-                            "take it off the stick");
-        break;
     default:
-        trouble_of_system(&trouble, entry->error);
-        check->readable = check->readable && *entry->below != '\0';
-        could_not(check, entry->path, &trouble);
+        look_at_other(check, entry);
         break;
     }
 }
@@ -209,8 +215,7 @@ static void say_missing(struct check *check) {
     struct text path = {0};
     for (size_t i = 0; check->against->folder != NULL && i < check->against->manifest->count; i++) {
         if (!check->seen[i]) {
-            text_cut(&path, 0);
-            text_format(&path, "%s/%s", check->root, check->against->manifest->names[i]);
+            text_path(&path, check->root, check->against->manifest->names[i]);
             found(check, FOUND_MISSING, path.bytes, NULL, "copy it again");
         }
     }

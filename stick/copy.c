@@ -21,10 +21,8 @@ struct copying {
 
 /* Sets the paths of one file in the edition and on the stick. */
 static void set_paths(struct copying *copying, const char *name) {
-    text_cut(&copying->from, 0);
-    text_format(&copying->from, "%s/%s", copying->edition, name);
-    text_cut(&copying->to, 0);
-    text_format(&copying->to, "%s/%s", copying->stick, name);
+    text_path(&copying->from, copying->edition, name);
+    text_path(&copying->to, copying->stick, name);
 }
 
 /* Makes the folders on the way to a file. Answers 0 or the system's error. */

@@ -86,6 +86,9 @@ static void draw(struct progress *progress, const struct row *rows, size_t count
     struct text line = {0};
     progress->lines = 0;
     for (size_t i = 0; i < count && progress->lines < most; i++) {
+        if (rows[i].working == DONE && count > most) {
+            continue; /* there is no room for what has its verdict */
+        }
         text_cut(&line, 0);
         add_row(&line, &rows[i], count > 1);
         fit(&line, size->width);

@@ -164,6 +164,7 @@ void report_join(struct report *sum, const struct report *report) {
     }
     sum->figures += report->figures;
     sum->folders += report->folders;
+    sum->unwell += report_status(report) != 0;
     sum->bare += report->bare;
     sum->from_memory = sum->from_memory || report->from_memory;
     sum->unfinished = sum->unfinished || report->unfinished;

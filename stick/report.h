@@ -59,6 +59,7 @@ struct report {
     struct names near;     /* files that are almost named as figures */
     struct names unknown;  /* files of no known kind that nothing was said about */
     unsigned long folders; /* 1; the sum of several reports has more */
+    unsigned long unwell;  /* of a sum: those in which not all is well */
     unsigned long bare;    /* folders with nothing to compare with: structure only */
     bool from_memory;      /* some file could not be read from the stick itself */
     bool unfinished;

@@ -84,9 +84,9 @@ void session_end(struct session *session) {
     manifest_free(&session->manifest);
 }
 
-static bool is_folder(const char *path) {
+static bool is_file(const char *path) {
     struct stat status;
-    return long_stat(path, 0, &status) == 0 && S_ISDIR(status.st_mode);
+    return long_stat(path, 0, &status) == 0 && S_ISREG(status.st_mode);
 }
 
 static void work_on(struct round *round, size_t job) {
@@ -105,8 +105,8 @@ static void work_on(struct round *round, size_t job) {
     if (good) {
         check_stick(folder, &session->against, report);
     }
-    if (round->count > 1 && is_folder(folder)) {
-        verdict_of_folder(report, folder);
+    if (round->count > 1 && *folder != '\0' && !is_file(folder)) {
+        verdict_of_folder(report, folder); /* also where it is not there any more */
     }
     screen_done(&round->screen, job);
 }

@@ -62,6 +62,16 @@ void text_cut(struct text *text, size_t length) {
     text->bytes[length] = '\0';
 }
 
+void text_path(struct text *text, const char *folder, const char *name) {
+    size_t length = strlen(folder);
+    text_cut(text, 0);
+    text_add(text, folder);
+    if (length > 0 && folder[length - 1] != '/') {
+        text_add(text, "/");
+    }
+    text_add(text, name);
+}
+
 void text_free(struct text *text) {
     free(text->bytes);
     *text = (struct text){0};

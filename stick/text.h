@@ -18,6 +18,9 @@ char *need_copy(const char *string);
 
 void text_add(struct text *text, const char *more);
 void text_add_bytes(struct text *text, const char *more, size_t length);
+/* Makes it the path of a name in a folder, whether or not the folder's own ends with a slash. */
+void text_path(struct text *text, const char *folder, const char *name);
+
 void text_cut(struct text *text, size_t length);
 void text_free(struct text *text);
 

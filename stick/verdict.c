@@ -64,10 +64,11 @@ static void add_counts(struct text *line, const struct report *report) {
 
 /* What a PASS does not speak of. */
 static void add_uncovered(struct text *line, const struct report *report) {
-    if (report->bare > 0 && report->bare == report->folders && report->figures > 0) {
+    bool all = report->bare == report->folders;
+    if (report->bare > 0 && report->figures > 0 && all) {
         text_format(line, "; structure only: no slip on %s",
                     report->folders == 1 ? "this stick" : "these sticks");
-    } else if (report->bare > 0) {
+    } else if (report->bare > 0 && report->figures > 0) {
         text_format(line, "; structure only on %lu of %lu: no slip there", report->bare,
                     report->folders);
     }
@@ -117,6 +118,9 @@ static void add_plain(struct text *lines, const struct report *sum, double secon
         return;
     }
     add_word(lines, sum);
+    if (sum->folders > 1 && sum->unwell > 0) {
+        text_format(lines, "%lu of ", sum->unwell);
+    }
     if (sum->folders > 1) {
         text_format(lines, "%lu folders, ", sum->folders);
     }
@@ -135,6 +139,7 @@ static void add_json(struct text *lines, const struct report *sum, double second
     json_string(lines, "verdict", verdict_word(report_status(sum) == 0));
     json_number(lines, "status", (unsigned long)report_status(sum));
     json_number(lines, "folders", sum->folders);
+    json_number(lines, "unwell", sum->unwell);
     json_number(lines, "figures", sum->figures);
     json_number(lines, "refused", sum->count[FOUND_REFUSED]);
     json_number(lines, "differ", sum->count[FOUND_DIFFERENT]);

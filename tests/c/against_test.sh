@@ -48,7 +48,13 @@ stick "$T/good" "$T/bad"
 status_is 1
 matches out "$T/good: PASS: 6 figures checked, 0 refused; .*"
 matches out "$T/bad: DO NOT SEAL: 6 figures checked, 1 refused; .*"
-last "DO NOT SEAL: 2 folders, 12 figures checked, 1 refused, $seconds: see above; structure only: no slip on these sticks"
+last "DO NOT SEAL: 1 of 2 folders, 12 figures checked, 1 refused, $seconds: see above; structure only: no slip on these sticks"
+
+try 'a stick that is not there has its verdict too'
+stick "$T/good" "$T/nowhere"
+status_is 2
+matches out "$T/nowhere: DO NOT SEAL: 0 figures checked, 0 refused, 1 could not be checked"
+last "DO NOT SEAL: 1 of 2 folders, 6 figures checked, .*"
 
 # --- against a master
 
@@ -73,6 +79,9 @@ matches out "$F/chisel.3ds: refused: TRAILING .*"
 matches out "$F/mallet.3ds: (differs from the master, at byte 200|refused: .*): copy .* again"
 last "DO NOT SEAL: 5 figures checked, [12] refused, [12] differ, 1 missing, 1 not expected here, $seconds: see above"
 lines err 0
+stick --against samples/edition/ "$F/"
+matches out "$F/vice.3ds: missing: copy it again"
+matches out "$F/plane.3ds: differs from the master, .*"
 stick "$F" # without the master most of this is not seen
 has out 'structure only: no slip on this stick'
 
@@ -127,6 +136,15 @@ echo x >"$F/.DS_Store"
 stick --against "$F" "$T/good"
 status_is 0
 
+try 'a link in the place of a file of the master is one problem'
+edition linked_stick
+rm "$F/adze.3ds"
+ln -s saw.3ds "$F/adze.3ds"
+stick --against samples/edition "$F"
+status_is 2
+has err "$F/adze.3ds: not checked: it is a link"
+lacks out missing
+
 try 'one file against the master'
 stick --against samples/edition "$T/good/adze.3ds"
 status_is 0
@@ -169,7 +187,7 @@ matches out "\{\"path\":\"$F/\._adze.3ds\",\"result\":\"left by another computer
 has out 'd.3ds.part","result":"not checked"'
 has out 'link.3ds","result":"not checked","words":"it is a link, and links are not followed"'
 has out 'notes.txt","result":"not checked","words":"of no known kind"'
-last '\{"verdict":"DO NOT SEAL","status":2,"folders":1,"figures":3,"refused":2,.*\}'
+last '\{"verdict":"DO NOT SEAL","status":2,"folders":1,"unwell":1,"figures":3,"refused":2,.*\}'
 if command -v python3 >/dev/null; then
     if python3 -c 'import json, sys
 for line in open(sys.argv[1], encoding="utf-8"): json.loads(line)' "$T/out" 2>"$T/err"; then pass; else fail 'not JSON'; fi

@@ -44,7 +44,7 @@ passes() {
 }
 unsealed() {
     if [ "$3" -eq 0 ]; then more=; else more="$3 could not be checked, "; fi
-    last "DO NOT SEAL: ([0-9]+ folders, )?$1 figures? checked, $2 refused, $more$seconds: see above(; .*)?"
+    last "DO NOT SEAL: ([0-9]+ of [0-9]+ folders, )?$1 figures? checked, $2 refused, $more$seconds: see above(; .*)?"
 }
 last() {
     if tail -n 1 "$T/out" | grep -qxE -e "$1"; then pass; else fail "the last line is not: $1"; fi

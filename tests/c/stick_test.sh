@@ -532,6 +532,9 @@ stick samples/edition
 lacks out OK
 
 try '--explain, the manual page and the messages agree'
+# only words are looked at here, so the program is run as it is
+memory=$RUN
+RUN=
 number=0
 for name in 'TOO LONG' 'NOT A FIGURE' TRAILING SHORT OVERRUN STRAY MISPLACED TWICE NAME LENGTH NUMBER \
     INDEX COUNT MISSING 'NO ROOM' 'NO SUCH MESH' EMPTY; do
@@ -559,6 +562,7 @@ for number in 0 18 -1 x 5x '' 99999999999999999999; do
     has err 'stick: there is no refusal '
     has err 'They are numbered 1 to 17.'
 done
+RUN=$memory
 try '--explain by name'
 for name in overrun OVERRUN 'Too Long'; do
     stick --explain "$name"
