@@ -4,7 +4,7 @@
 use second::boundary::Second;
 use second::differ::compare::Pair;
 use second::differ::run::{Failure, Plan, Tally};
-use second::differ::{c4ds, cobs, slips};
+use second::differ::{c4ds, cobs, figures, slips};
 
 /// A small run that prints nothing.
 const PLAN: Plan = Plan {
@@ -56,4 +56,16 @@ fn errors_in_cinema_figures_are_seen() {
     let run = |error| c4ds::run(PLAN, &mut Pair::new(Second, c4ds::erring::Erring { error }));
     agrees(run(None), &[0, 1, 5, 10, 25, 26, 27, 28]);
     all_seen(c4ds::erring::ERRORS, |error| run(Some(error)));
+}
+
+#[test]
+fn errors_in_figures_with_materials_are_seen() {
+    let run = |error| {
+        figures::run(
+            PLAN,
+            &mut Pair::new(Second, figures::erring::Erring { error }),
+        )
+    };
+    agrees(run(None), &[0, 1, 9, 11, 12, 13, 29, 30]);
+    all_seen(figures::erring::ERRORS, |error| run(Some(error)));
 }

@@ -15,6 +15,9 @@ type Object<'a> = (
     &'a [(&'a str, &'a [u16])],
 );
 
+/// What spoils some rows, and the length that is then refused.
+type Spoilt = (fn(&mut Rows), usize);
+
 /// The rows of some objects and of materials of these names.
 fn rows(objects: &[Object], materials: &[&str]) -> Rows {
     let mut rows = Rows::default();
@@ -68,37 +71,28 @@ fn write(objects: &[Object], materials: &[&str]) -> u64 {
 const POINT: [f32; 3] = [1.0, -0.0, 2.5];
 const FACE: [u16; 3] = [0, 0, 0];
 
+/// A material as it is written, its nine colour bytes counted from one.
+fn material(name: &[u8], first: u8) -> Vec<u8> {
+    let shades = [(0xA010, first), (0xA020, first + 3), (0xA030, first + 6)];
+    let shades = shades.map(|(shade, first)| {
+        let colour = chunk(0x0011, &[&[first, first + 1, first + 2]]);
+        chunk(shade, &[&colour])
+    });
+    chunk(0xAFFF, &[&chunk(0xA000, &[name]), &shades.concat()])
+}
+
 #[test]
 fn a_figure_by_hand() {
-    let objects: [Object; 2] = [
-        (
-            "lid",
-            &POINT,
-            &[0, 0, 0, 0, 0, 0],
-            &[7, 1 << 31],
-            &[("oak", &[1, 0, 1]), ("", &[])],
-        ),
-        ("", &[], &[], &[], &[]),
-    ];
-    let shade =
-        |shade, first: u8| chunk(shade, &[&chunk(0x0011, &[&[first, first + 1, first + 2]])]);
-    let material = |name: &[u8], first: u8| {
-        let shades = [
-            shade(0xA010, first),
-            shade(0xA020, first + 3),
-            shade(0xA030, first + 6),
-        ];
-        chunk(0xAFFF, &[&chunk(0xA000, &[name]), &shades.concat()])
-    };
-    let groups = [
+    let groups: [(&str, &[u16]); 2] = [("oak", &[1, 0, 1]), ("", &[])];
+    let lid: Object = ("lid", &POINT, &[0; 6], &[7, 1 << 31], &groups);
+    let rows = rows(&[lid, ("", &[], &[], &[], &[])], &["", "oak"]);
+    let inside = [
         chunk(0x4130, &[b"oak\0", &words(&[3, 1, 0, 1])]),
         chunk(0x4130, &[b"\0", &words(&[0])]),
         chunk(0x4150, &[&[7, 0, 0, 0, 0, 0, 0, 0x80]]),
     ];
-    let mesh = chunk(
-        0x4100,
-        &[&vertices(&POINT), &faces(&[FACE; 2], &[&groups.concat()])],
-    );
+    let inside = faces(&[FACE; 2], &[&inside.concat()]);
+    let mesh = chunk(0x4100, &[&vertices(&POINT), &inside]);
     let empty = chunk(0x4100, &[&vertices(&[]), &faces(&[], &[])]);
     let known = figure(&[
         &material(b"\0", 0),
@@ -106,16 +100,12 @@ fn a_figure_by_hand() {
         &chunk(0x4000, &[b"lid\0", &mesh]),
         &chunk(0x4000, &[b"\0", &empty]),
     ]);
-    let rows = rows(&objects, &["", "oak"]);
-    let (answer, out) = both(&rows, known.len() + 1);
-    assert_eq!(answer as usize, known.len());
+    let (size, less) = (known.len(), known.len() - 1);
+    let (answer, out) = both(&rows, size + 1);
+    assert_eq!(answer as usize, size);
     assert_eq!(out, [&known[..], &[0xA5]].concat());
     assert_eq!(counts(&known).2, 0);
-    let less = known.len() - 1;
-    assert_eq!(
-        both(&rows, less),
-        (refused(15, known.len()), vec![0xA5; less])
-    );
+    assert_eq!(both(&rows, less), (refused(15, size), vec![0xA5; less]));
 }
 
 #[test]
@@ -132,12 +122,12 @@ fn nothing_and_a_bare_figure() {
 #[test]
 fn rows_are_as_long_as_they_are_said_to_be() {
     let whole = rows(&[("ab", &POINT, &FACE, &[1], &[("m", &[0])])], &["m"]);
-    let all: [(fn(&mut Rows), usize); 11] = [
+    let all: [Spoilt; 11] = [
         (|rows| rows.objects.push(0), 6),
         (|rows| rows.groups.push(0), 3),
         (|rows| rows.groups.extend([0, 0]), 4),
         (|rows| rows.names.push(0), 5),
-        (|rows| drop(rows.vertices.pop()), 2),
+        (|rows| rows.vertices.truncate(2), 2),
         (|rows| rows.corners.push(0), 4),
         (|rows| rows.smoothing.clear(), 0),
         (|rows| rows.faces.push(9), 2),
@@ -250,108 +240,57 @@ fn groups_have_a_material() {
 #[test]
 fn lengths_of_rows() {
     let nan = [f32::NAN; 3];
-    let first = ("a", &nan[..], &FACE[..], &[][..], &[][..]);
+    let first: Object = ("a", &nan, &FACE, &[], &[]);
+    let behind = |second: Object| write(&[first, second], &[]);
     assert_eq!(
-        write(&[first, ("b", &nan[..2], &[0; 4], &[0; 9], &[])], &[]),
+        behind(("b", &nan[..2], &[0; 4], &[0; 9], &[])),
         refused(13, 2)
     );
-    assert_eq!(
-        write(&[first, ("b", &nan, &[0; 4], &[0; 9], &[])], &[]),
-        refused(13, 4)
-    );
-    assert_eq!(
-        write(&[first, ("b", &nan, &[9; 6], &[0; 3], &[])], &[]),
-        refused(13, 3)
-    );
-    assert_eq!(
-        write(&[first, ("b", &nan, &[9; 6], &[0; 1], &[])], &[]),
-        refused(13, 1)
-    );
-    assert_eq!(write(&[("b", &[], &[], &[0], &[])], &[]), refused(13, 1));
+    assert_eq!(behind(("b", &nan, &[0; 4], &[0; 9], &[])), refused(13, 4));
+    assert_eq!(behind(("b", &nan, &[9; 6], &[0; 3], &[])), refused(13, 3));
+    assert_eq!(behind(("b", &nan, &[9; 6], &[0; 1], &[])), refused(13, 1));
+    assert_eq!(behind(("b", &[], &[], &[0], &[])), refused(13, 1));
     // An object's rows come before the next one's.
-    assert_eq!(
-        write(
-            &[
-                ("a", &nan, &FACE, &[0; 5], &[]),
-                ("b", &nan[..1], &[], &[], &[])
-            ],
-            &[]
-        ),
-        refused(13, 5)
-    );
-    let many = vec![0; 65_536];
-    let group = |count: usize| {
-        write(
-            &[(
-                "a",
-                &POINT,
-                &FACE,
-                &[],
-                &[("m", &many[..1]), ("m", &many[..count])],
-            )],
-            &["m"],
-        )
-    };
-    assert_eq!(group(65_536), refused(13, 65_536));
-    assert_eq!(group(65_535), 12 + 59 + 50 + 12 + 10 + 2 * 65_535);
+    let smooth: Object = ("a", &nan, &FACE, &[0; 5], &[]);
+    let odd: Object = ("b", &nan[..1], &[], &[], &[]);
+    assert_eq!(write(&[smooth, odd], &[]), refused(13, 5));
     let most = vec![0.0; 196_608];
+    assert_eq!(behind(("b", &most, &[], &[], &[])), refused(13, 196_608));
     assert_eq!(
-        write(&[("a", &most, &[], &[], &[])], &[]),
-        refused(13, 196_608)
-    );
-    assert_eq!(
-        write(&[("a", &most[3..], &[], &[], &[])], &[]),
+        write(&[("b", &most[3..], &[], &[], &[])], &[]),
         42 + 4 * 196_605
     );
 }
 
 #[test]
+fn lengths_of_groups() {
+    let many = vec![0; 65_536];
+    let group = |count: usize| {
+        let groups = [("m", &many[..1]), ("m", &many[..count])];
+        write(&[("a", &POINT, &FACE, &[], &groups)], &["m"])
+    };
+    assert_eq!(group(65_536), refused(13, 65_536));
+    assert_eq!(group(65_535), 12 + 59 + 50 + 12 + 10 + 2 * 65_535);
+}
+
+#[test]
 fn numbers_and_indices() {
     let (nan, low) = ([0.0, 0.0, f32::NAN], [0.0, f32::NEG_INFINITY, f32::NAN]);
-    let good = (
-        "a",
-        &POINT[..],
-        &FACE[..],
-        &[][..],
-        &[("m", &[0_u16][..])][..],
-    );
-    let corner = (
-        "c",
-        &POINT[..],
-        &[0, 1, 7][..],
-        &[][..],
-        &[("m", &[9_u16][..])][..],
-    );
-    let group = (
-        "g",
-        &POINT[..],
-        &FACE[..],
-        &[][..],
-        &[("m", &[0_u16][..]), ("m", &[0, 0, 1, 5])][..],
-    );
-    assert_eq!(
-        write(
-            &[
-                good,
-                corner,
-                ("n", &low, &[], &[], &[]),
-                ("o", &nan, &[], &[], &[])
-            ],
-            &["m"]
-        ),
-        refused(11, 1)
-    );
-    assert_eq!(
-        write(&[good, corner, ("o", &nan, &[], &[], &[])], &["m"]),
-        refused(11, 2)
-    );
-    assert_eq!(write(&[good, corner, group], &["m"]), refused(12, 1));
-    assert_eq!(write(&[good, group, corner], &["m"]), refused(12, 2));
-    assert_eq!(write(&[("a", &[], &FACE, &[], &[])], &[]), refused(12, 0));
-    assert_eq!(
-        write(&[("a", &POINT, &[], &[], &[("m", &[0])])], &["m"]),
-        refused(12, 0)
-    );
+    let (one, nine): (&[u16], &[u16]) = (&[0], &[9]);
+    let (one, nine) = ([("m", one)], [("m", nine)]);
+    let two: [(&str, &[u16]); 2] = [("m", &[0]), ("m", &[0, 0, 1, 5])];
+    let good: Object = ("a", &POINT, &FACE, &[], &one);
+    let corner: Object = ("c", &POINT, &[0, 1, 7], &[], &nine);
+    let group: Object = ("g", &POINT, &FACE, &[], &two);
+    let float: Object = ("n", &low, &[], &[], &[]);
+    let other: Object = ("o", &nan, &[], &[], &[]);
+    let write = |objects: &[Object]| write(objects, &["m"]);
+    assert_eq!(write(&[good, corner, float, other]), refused(11, 1));
+    assert_eq!(write(&[good, corner, other]), refused(11, 2));
+    assert_eq!(write(&[good, corner, group]), refused(12, 1));
+    assert_eq!(write(&[good, group, corner]), refused(12, 2));
+    assert_eq!(write(&[("a", &[], &FACE, &[], &[])]), refused(12, 0));
+    assert_eq!(write(&[("a", &POINT, &[], &[], &one)]), refused(12, 0));
 }
 
 #[test]

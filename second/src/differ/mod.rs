@@ -21,6 +21,7 @@ pub mod damage;
 pub mod drafts;
 pub mod facts;
 pub mod families;
+pub mod figures;
 pub mod gaps;
 pub mod grow;
 pub mod harm;

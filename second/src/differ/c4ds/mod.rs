@@ -42,7 +42,7 @@ pub fn run<L: C4ds, R: C4ds>(plan: Plan, pair: &mut Pair<L, R>) -> Result<Tally,
             600,
             damaged::<File, _>,
         ),
-        Kind("C4dLong", "as long as they may be", 2, 18, long::<File, _>),
+        Kind("C4dLong", "as long as they may be", 1, 9, long::<File, _>),
     ];
     plan.all(STREAM, &kinds, pair)
 }

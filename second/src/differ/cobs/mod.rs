@@ -33,7 +33,7 @@ pub fn run<L: Cobs, R: Cobs>(plan: Plan, pair: &mut Pair<L, R>) -> Result<Tally,
             600,
             damaged::<File, _>,
         ),
-        Kind("CobLong", "as long as they may be", 2, 18, long::<File, _>),
+        Kind("CobLong", "as long as they may be", 1, 9, long::<File, _>),
     ];
     plan.all(STREAM, &kinds, pair)
 }
