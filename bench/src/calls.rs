@@ -85,7 +85,7 @@ fn done<T>(answer: Result<T, Refusal>) {
 }
 
 /// What the other side answered, which is no refusal.
-fn accepted(answer: u64) {
+pub fn accepted(answer: u64) {
     assert!(refusal(black_box(answer)).is_none());
 }
 

@@ -4,6 +4,7 @@
 mod calls;
 mod figures;
 mod measure;
+mod slips;
 
 use calls::{write, Call, Lent, CALLS};
 use measure::{one, Times};
@@ -41,6 +42,24 @@ fn limit(lent: &mut Lent) {
             );
         }
     }
+    let bytes: Vec<u8> = (0..second::LIMIT).map(|k| (k * 31 % 251) as u8).collect();
+    let times = slips::sums(&bytes, TURNS);
+    line("bytes", "Sums", copying(&bytes), times, bytes.len());
+    let (size, read, written) = slips::worst(TURNS / 20);
+    line(
+        "the worst slip",
+        "Read",
+        copying(&vec![7; size]),
+        read,
+        size,
+    );
+    line(
+        "the worst slip",
+        "Write",
+        copying(&vec![7; size]),
+        written,
+        size,
+    );
     let (size, times) = write(second::LIMIT, TURNS);
     line(
         "a figure written",

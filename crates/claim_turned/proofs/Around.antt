@@ -39,7 +39,11 @@ pub length-records : (o depth parent next : ℕ) (t : Run) → length (recordsOf
 length-records o depth parent next end = refl
 length-records o depth parent next (skip id body t) = length-records (o + (6 + length body)) depth parent next t
 length-records o depth parent next (known id own kids t) =
-    omega (arith, length-append (recordsOf (o + (6 + length own)) (suc depth) next (suc next) kids) (recordsOf (o + (6 + length own + size kids)) depth parent (suc (next + recordCount kids)) t), length-records (o + (6 + length own)) (suc depth) next (suc next) kids, length-records (o + (6 + length own + size kids)) depth parent (suc (next + recordCount kids)) t)
+    let inner = recordsOf (o + (6 + length own)) (suc depth) next (suc next) kids in
+    let later = recordsOf (o + (6 + length own + size kids)) depth parent (suc (next + recordCount kids)) t in
+    let i : length inner ≡ recordCount kids = length-records (o + (6 + length own)) (suc depth) next (suc next) kids in
+    let l : length later ≡ recordCount t = length-records (o + (6 + length own + size kids)) depth parent (suc (next + recordCount kids)) t in
+    omega (arith, length-append inner later)
 
 -- ---- around a place
 

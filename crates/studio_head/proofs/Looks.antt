@@ -1,7 +1,7 @@
 -- A look at a chunk, by how it ends: what it answers and what it leaves in the marks, in each context of the run.
 use mathlib.Core.Path.{_≡_, refl, sym, _∙_, subst}
 use mathlib.Core.Bool.{true, false}
-use mathlib.Core.List.{List}
+use mathlib.Core.List.{List, _∷_}
 use Prim.Native.Nat.{ℕ, _+_, _≤_, _<_}
 use native.Mathlib.Omega.{arith}
 use lib.ListN.{length, set}
@@ -9,7 +9,7 @@ use lib.Seq.{slice}
 use Rattle.shared_words.specs.declared.Refusal.{Refusal}
 use Rattle.shared_words.specs.declared.Refusal.the-variants.{Misplaced, Twice}
 use Rattle.studio_rules.specs.Table.{listed, under}
-use Rattle.studio_rules.specs.Rules.{Parent}
+use Rattle.studio_rules.specs.Rules.{Parent, few}
 use Rattle.shared_words.specs.Conditions.{broken}
 use Rattle.studio_rules.specs.Walk.{Step, stop, pass, headerConditions, lengthField, step}
 use Rattle.studio_row.specs.Packed.{rowOf, slotIn, slotOf, mayHoldIn}
@@ -41,61 +41,64 @@ module _ (s : List ℕ) (at end parent word : ℕ) (ms : List ℕ) where
         marks = λ p seen k. let q = f p seen k in subst (λ (y : Step). MarksAre at y ms ms′) (sym (q .here)) (q .marks);
       }
 
-  module _ (o : at < end) (l : end ≤ length s) (r : Header) (i : HeaderIs s at (broken (headerConditions at (slice at end s) (lengthField (slice at end s)))) r) where
-    pub look-fault : {y : Refusal} → r ≡ Header.Fault y → Tells ms (Head.Fault y)
-    look-fault {y} e = tells λ p seen k. record { met = stop y; here = step-fault p seen s at end o l r i y e; is = refl; marks = tt }
+  pub look-fault : at < end → end ≤ length s → (r : Header) → HeaderIs s at (broken (headerConditions at (slice at end s) (lengthField (slice at end s)))) r →
+      {y : Refusal} → r ≡ Header.Fault y → Tells ms (Head.Fault y)
+  look-fault o l r i {y} e = tells λ p seen k. record { met = stop y; here = step-fault p seen s at end o l r i y e; is = refl; marks = tt }
 
-    -- the header is fine, and `row` is the row of its identifier
-    module _ {id past : ℕ} (e : r ≡ Header.Is id past) (row : ℕ) (is-row : row ≡ rowOf id) where
-      pub look-skip : HeaderWithin at end (Header.Is id past) → row ≡ 0 → Tells ms (Head.Skip past)
-      look-skip v z =
+  -- the header is fine, and the row of its identifier has been looked up
+  pub record Looked (id past row : ℕ) : Type 0 where
+    pub order : at < end
+    pub stays : end ≤ length s
+    pub five : length ms ≡ 5
+    pub header : Header
+    pub told : HeaderIs s at (broken (headerConditions at (slice at end s) (lengthField (slice at end s)))) header
+    pub fine : header ≡ Header.Is id past
+    pub within : HeaderWithin at end (Header.Is id past)
+    pub row-is : row ≡ rowOf id
+
+  module _ {id past row : ℕ} (d : Looked id past row) where
+    pub look-skip : row ≡ 0 → Tells ms (Head.Skip past)
+    look-skip z =
+        tells λ p seen k.
+        record {
+          met = pass id (slice (at + 6) past s) (slice past end s);
+          here = step-skip p seen s at end (d .order) (d .stays) (d .header) (d .told) id past (d .fine) (row-unlisted id row (d .row-is) z);
+          is = head-skip s at past id (slice past end s) (d .within .0) (omega (arith, d .within .1, d .stays));
+          marks = refl;
+        }
+
+    module _ (n : row ≡ 0 → ⊥) where
+      pub known : listed id ≡ true
+      known = row-listed id row (d .row-is) n
+
+      pub look-misplaced : mayHoldIn parent row ≡ false → Tells ms (Head.Fault (Misplaced at))
+      look-misplaced u =
           tells λ p seen k.
-          record {
-            met = pass id (slice (at + 6) past s) (slice past end s);
-            here = step-skip p seen s at end o l r i id past e (row-unlisted id row is-row z);
-            is = head-skip s at past id (slice past end s) (v .0) (omega (arith, v .1, l));
-            marks = refl;
-          }
+          let away = sym (under-is p seen parent word ms k (d .five) id row (d .row-is) known) ∙ u in
+          record { met = stop (Misplaced at); here = step-misplaced p seen s at end (d .order) (d .stays) (d .header) (d .told) id past (d .fine) known away; is = refl; marks = tt }
 
-      module _ (five : length ms ≡ 5) (n : row ≡ 0 → ⊥) where
-        known : listed id ≡ true
-        known = row-listed id row is-row n
+      module _ (u : mayHoldIn parent row ≡ true) where
+        placed : (p : Parent) (seen : List ℕ) → Context p seen parent word ms → under (p .id) id ≡ true
+        placed p seen k = sym (under-is p seen parent word ms k (d .five) id row (d .row-is) known) ∙ u
 
-        pub look-misplaced : mayHoldIn parent row ≡ false → Tells ms (Head.Fault (Misplaced at))
-        look-misplaced u =
+        few-of : (p : Parent) (seen : List ℕ) (k : Context p seen parent word ms) → free (slotIn row) ms ≡ few (p .id) (id ∷ seen)
+        few-of p seen k = few-is p seen parent word ms k (d .five) id row (d .row-is) known (placed p seen k)
+
+        pub look-twice : (ms′ : List ℕ) → free (slotIn row) ms ≡ false → Tells ms′ (Head.Fault (Twice at))
+        look-twice ms′ f =
             tells λ p seen k.
+            let h = step-twice p seen s at end (d .order) (d .stays) (d .header) (d .told) id past (d .fine) known (placed p seen k) (sym (few-of p seen k) ∙ f) in
+            record { met = stop (Twice at); here = h; is = refl; marks = tt }
+
+        pub look-opened : (ms′ : List ℕ) → free (slotIn row) ms ≡ true → ms′ ≡ set ms (slotOf id) at → (h : Head) →
+            ((p : Parent) (rest : List ℕ) → CountIs (p .own) word → HeadIs at (openedBy p at id (slice (at + 6) past s) rest) h) → Tells ms′ h
+        look-opened ms′ f m h opens =
+            tells λ p seen k.
+            let body = slice (at + 6) past s in
+            let rest = slice past end s in
             record {
-              met = stop (Misplaced at);
-              here = step-misplaced p seen s at end o l r i id past e known (sym (under-is p seen parent word ms k five id row is-row known) ∙ u);
-              is = refl;
-              marks = tt;
+              met = openedBy p at id body rest;
+              here = step-opened p seen s at end (d .order) (d .stays) (d .header) (d .told) id past (d .fine) known (placed p seen k) (sym (few-of p seen k) ∙ f);
+              is = opens p rest (k .count-is);
+              marks = subst (MarksAre at (openedBy p at id body rest) ms) (sym m) (marks-opened p at id body rest ms);
             }
-
-        module _ (u : mayHoldIn parent row ≡ true) where
-          placed : (p : Parent) (seen : List ℕ) → Context p seen parent word ms → under (p .id) id ≡ true
-          placed p seen k = sym (under-is p seen parent word ms k five id row is-row known) ∙ u
-
-          pub look-twice : (ms′ : List ℕ) → free (slotIn row) ms ≡ false → Tells ms′ (Head.Fault (Twice at))
-          look-twice ms′ f =
-              tells λ p seen k.
-              let q = placed p seen k in
-              record {
-                met = stop (Twice at);
-                here = step-twice p seen s at end o l r i id past e known q (sym (few-is p seen parent word ms k five id row is-row known q) ∙ f);
-                is = refl;
-                marks = tt;
-              }
-
-          pub look-opened : (ms′ : List ℕ) → free (slotIn row) ms ≡ true → ms′ ≡ set ms (slotOf id) at → (h : Head) →
-              ((p : Parent) (rest : List ℕ) → CountIs (p .own) word → HeadIs at (openedBy p at id (slice (at + 6) past s) rest) h) → Tells ms′ h
-          look-opened ms′ f m h opens =
-              tells λ p seen k.
-              let q = placed p seen k in
-              let body = slice (at + 6) past s in
-              let rest = slice past end s in
-              record {
-                met = openedBy p at id body rest;
-                here = step-opened p seen s at end o l r i id past e known q (sym (few-is p seen parent word ms k five id row is-row known q) ∙ f);
-                is = opens p rest (k .count-is);
-                marks = subst (MarksAre at (openedBy p at id body rest) ms) (sym m) (marks-opened p at id body rest ms);
-              }

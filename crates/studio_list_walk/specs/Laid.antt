@@ -14,7 +14,7 @@ use Rattle.studio_stands.specs.Stands.{Stands}
 use Rattle.studio_row.specs.Packed.{shapeIn, plusIn}
 use Rattle.studio_own_size.specs.declared.Own.{Own}
 use Rattle.studio_own_size.specs.declared.Own.the-variants.{NoName, TooLong, Size}
-use Rattle.studio_list_rows.specs.Lent.{Lent, written}
+use Rattle.studio_list_rows.specs.Lent.{Lent, written, Room}
 
 -- the first chunk of a run, alone
 abbrev pub first : Run → Run
@@ -39,6 +39,22 @@ pub record Bounds (s : List ℕ) (at stop depth parent next : ℕ) : Type 0 wher
 pub record Listed (l : Lent) (at depth parent next : ℕ) (t : Run) (l′ : Lent) (r : ℕ) : Type 0 where
   pub counts : r ≡ next + recordCount t
   pub fills : l′ ≡ written l next (recordsOf at depth parent next t)
+
+-- ---- what a call about the first chunk of a run, or about a whole run, asks and answers
+
+-- some chunk, or run, stands there, and there is room for its records
+abbrev pub SomeChunk : List ℕ → ℕ → ℕ → ℕ → Lent → Type 0
+SomeChunk s at stop next l = (p : Place) × (t : Run) × Laid s at stop p (first t) × Room l (next + recordCount (first t))
+
+abbrev pub SomeRun : List ℕ → ℕ → ℕ → ℕ → Lent → Type 0
+SomeRun s at stop next l = (p : Place) × (t : Run) × Laid s at stop p t × Room l (next + recordCount t)
+
+-- whichever it is, its records have been written
+abbrev pub ChunkListed : List ℕ → ℕ → ℕ → ℕ → ℕ → ℕ → Lent → Lent → ℕ → Type 0
+ChunkListed s at stop depth parent next l l′ r = (p : Place) (t : Run) → Laid s at stop p (first t) → Listed l at depth parent next (first t) l′ r
+
+abbrev pub RunListed : List ℕ → ℕ → ℕ → ℕ → ℕ → ℕ → Lent → Lent → ℕ → Type 0
+RunListed s at stop depth parent next l l′ r = (p : Place) (t : Run) → Laid s at stop p t → Listed l at depth parent next t l′ r
 
 -- ---- one chunk
 

@@ -11,13 +11,10 @@ ghost use mathlib.Core.List.{List, _++_};
 ghost use Prim.Native.Nat.{ℕ, _+_, _≤_, _<_};
 ghost use lib.ListN.{length};
 ghost use lib.Seq.{slice};
-ghost use Rattle.studio_rules.specs.Layout.{Run};
-ghost use Rattle.studio_rules.specs.Parses.{Place};
-ghost use Rattle.studio_rules.specs.Gives.{recordCount};
 ghost use Rattle.studio_row.specs.Packed.{plusIn, kindIn};
 ghost use Rattle.studio_lookup.specs.Slots.{slots};
-ghost use Rattle.studio_list_rows.specs.Lent.{lent, Room};
-ghost use Rattle.studio_list_walk.specs.Laid.{first, Laid, Bounds, Listed, Begins, sizeOf};
+ghost use Rattle.studio_list_rows.specs.Lent.{lent};
+ghost use Rattle.studio_list_walk.specs.Laid.{Bounds, SomeChunk, SomeRun, ChunkListed, RunListed, Begins, sizeOf};
 
 fn size_of(own: Own) -> usize
     ensures { λ r. ⌜ r ≡ sizeOf own ⌝ }
@@ -61,8 +58,8 @@ fn list_chunk(
     parent: usize,
     next: usize,
 ) -> usize
-    requires { ⌜ (at + 6 ≤ stop) × Bounds (now file) at stop depth parent next × ((p : Place) × (t : Run) × Laid (now file) at stop p (first t) × Room (lent (now records) (now bytes)) (next + recordCount (first t))) × (now table ≡ slots) ⌝ }
-    ensures { λ r. ⌜ ((p : Place) (t : Run) → Laid (now (file .entry)) at stop p (first t) → Listed (lent (now (records .entry)) (now (bytes .entry))) at depth parent next (first t) (lent (now (records .exit)) (now (bytes .exit))) r) ⌝ }
+    requires { ⌜ (at + 6 ≤ stop) × Bounds (now file) at stop depth parent next × SomeChunk (now file) at stop next (lent (now records) (now bytes)) × (now table ≡ slots) ⌝ }
+    ensures { λ r. ⌜ ChunkListed (now (file .entry)) at stop depth parent next (lent (now (records .entry)) (now (bytes .entry))) (lent (now (records .exit)) (now (bytes .exit))) r ⌝ }
 {
     let id = word_at(file, at);
     let row = studio_lookup::row(table, id as usize);
@@ -109,8 +106,8 @@ pub fn list_run(
     parent: usize,
     next: usize,
 ) -> usize
-    requires { ⌜ (at ≤ end) × Bounds (now file) at end depth parent next × ((p : Place) × (t : Run) × Laid (now file) at end p t × Room (lent (now records) (now bytes)) (next + recordCount t)) × (now table ≡ slots) ⌝ }
-    ensures { λ r. ⌜ ((p : Place) (t : Run) → Laid (now (file .entry)) at end p t → Listed (lent (now (records .entry)) (now (bytes .entry))) at depth parent next t (lent (now (records .exit)) (now (bytes .exit))) r) ⌝ }
+    requires { ⌜ (at ≤ end) × Bounds (now file) at end depth parent next × SomeRun (now file) at end next (lent (now records) (now bytes)) × (now table ≡ slots) ⌝ }
+    ensures { λ r. ⌜ RunListed (now (file .entry)) at end depth parent next (lent (now (records .entry)) (now (bytes .entry))) (lent (now (records .exit)) (now (bytes .exit))) r ⌝ }
 {
     let mut from = at;
     let mut number = next;

@@ -1,6 +1,6 @@
 -- Marks, by the layout of the run that left them.
 use mathlib.Core.Path.{_≡_}
-use mathlib.Core.Bool.{Bool, true, _||_, cond}
+use mathlib.Core.Bool.{Bool, true, not, _||_, cond}
 use mathlib.Core.List.{List, [], _∷_}
 use mathlib.Core.Logic.{_⊎_}
 use mathlib.Core.Option.{Option, none, some}
@@ -12,7 +12,8 @@ use Rattle.shared_words.specs.declared.Refusal.the-variants.{Index, Count}
 use Rattle.studio_rules.specs.Table.{under}
 use Rattle.studio_rules.specs.OwnData.{corners}
 use Rattle.studio_rules.specs.Layout.{Run, end, skip, known, size}
-use Rattle.studio_rules.specs.Rules.{Parent, allBelow, Obeys}
+use Rattle.studio_rules.specs.Rules.{Parent, allBelow, noneMissing, Obeys}
+use Rattle.studio_rules.specs.Walk.{endConditions}
 use Rattle.studio_stands.specs.Stands.{Stands}
 use Rattle.shared_words.specs.Conditions.{must, broken}
 use Rattle.shared_numbers.specs.Numbers.{wordAt}
@@ -77,3 +78,14 @@ meshBroken s marks =
 abbrev pub ShutIs : Option Refusal → Shut → Type 0
 ShutIs none r = r ≡ Shut.Fine
 ShutIs (some x) r = r ≡ Shut.Fault x
+
+-- ---- a chunk of an identifier at its end, in whatever it stands: its children left these marks
+
+-- whether one that it must have is missing
+abbrev pub MissingIs : ℕ → List ℕ → Bool → Type 0
+MissingIs id marks r = (q : Parent) (t : Run) (s : List ℕ) (from stop : ℕ) → q .id ≡ id → Kept q t s from stop marks → r ≡ not (noneMissing q t)
+
+-- what its conditions come to, where it stands at `at` in the file s
+abbrev pub EndIs : List ℕ → ℕ → ℕ → List ℕ → Shut → Type 0
+EndIs s id at marks r =
+    (q : Parent) (t : Run) (stop : ℕ) → q .id ≡ id → Kept q t s (at + (6 + length (q .own))) stop marks → ShutIs (broken (endConditions q at t)) r

@@ -3,16 +3,11 @@
 use shared_numbers::word_at;
 use shared_words::Refusal;
 ghost use mathlib.Core.Path.{_≡_};
-ghost use mathlib.Core.Bool.{cond, not};
-ghost use mathlib.Core.List.{List};
-ghost use Prim.Native.Nat.{ℕ, _+_, _*_, _<_};
+ghost use mathlib.Core.Bool.{cond};
+ghost use Prim.Native.Nat.{_+_, _*_, _<_};
 ghost use lib.ListN.{length, set};
-ghost use Rattle.studio_rules.specs.Layout.{Run};
-ghost use Rattle.studio_rules.specs.Rules.{Parent, noneMissing};
 ghost use Rattle.studio_row.specs.Packed.{slotIn};
-ghost use Rattle.shared_words.specs.Conditions.{broken};
-ghost use Rattle.studio_rules.specs.Walk.{endConditions};
-ghost use Rattle.studio_marks.specs.Marks.{free, Kept, ShutIs, Placed, countAt, cornersAt, pairsAt, MeshPlaced, meshBroken};
+ghost use Rattle.studio_marks.specs.Marks.{free, MissingIs, EndIs, ShutIs, Placed, countAt, cornersAt, pairsAt, MeshPlaced, meshBroken};
 
 // Notes the chunk of a row at an offset in its slot; false where the slot was taken.
 pub fn note(marks: &mut [u32], row: u64, at: usize) -> bool
@@ -40,7 +35,7 @@ pub enum Shut {
 // Whether a child is missing that a chunk must have: 3D3D in 4D4D, A000 in AFFF.
 fn is_missing(id: usize, marks: &[u32]) -> bool
     requires { ⌜ length (now marks) ≡ 5 ⌝ }
-    ensures { λ r. ⌜ ((q : Parent) (t : Run) (s : List ℕ) (from stop : ℕ) → q .id ≡ id → Kept q t s from stop (now (marks .entry)) → r ≡ not (noneMissing q t)) ⌝ }
+    ensures { λ r. ⌜ MissingIs id (now (marks .entry)) r ⌝ }
 {
     if id == 0x4D4D {
         return marks[1] == 0;
@@ -105,7 +100,7 @@ fn at_mesh_end(file: &[u8], marks: &[u32]) -> Shut
 // A chunk at its end, by the marks that its children left: it stands at an offset.
 pub fn at_end(file: &[u8], id: usize, at: usize, marks: &[u32]) -> Shut
     requires { ⌜ (length (now marks) ≡ 5) × (id ≡ 0x4100 → MeshPlaced (now file) (now marks)) ⌝ }
-    ensures { λ r. ⌜ ((q : Parent) (t : Run) (stop : ℕ) → q .id ≡ id → Kept q t (now (file .entry)) (at + (6 + length (q .own))) stop (now (marks .entry)) → ShutIs (broken (endConditions q at t)) r) ⌝ }
+    ensures { λ r. ⌜ EndIs (now (file .entry)) id at (now (marks .entry)) r ⌝ }
 {
     if is_missing(id, marks) {
         return Shut::Fault(Refusal::Missing(at));

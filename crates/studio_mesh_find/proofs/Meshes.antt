@@ -185,9 +185,11 @@ module _ (s : List ℕ) (kids : Run) (m : Meets s kids) where
         let at : ℕ = offsetOf 0x3D3D 6 kids in
         let f = objects in
         let z : at + (6 + length (f .own)) ≡ o + 6 = omega (arith, e, none-own) in
+        let one = one-3D3D (identifiers kids) (at-most-one figureTop kids (m .chunks .2)) in
+        let behind = parses figureTop (f .spans .seen) (known 0x3D3D (f .own) (f .kids) (f .rest)) (f .spans .obeys) .2 in
         append-nil (meshesOf 6 6 0 kids) ∙ meshes-onward 0x3D3D (around figureTop) to-objects kids 6 6 0 (parses figureTop [] kids (m .chunks .2)) ∙ ap (meshesOf at 6 0) (f .is) ∙
         rw (
-          no-more-meshes 0x3D3D kids (one-3D3D (identifiers kids) (at-most-one figureTop kids (m .chunks .2))) (f .own) (f .kids) (f .rest) (f .is) (around figureTop) to-objects (parses figureTop (f .spans .seen) (known 0x3D3D (f .own) (f .kids) (f .rest)) (f .spans .obeys) .2) (at + (6 + length (f .own) + size (f .kids))) 6 0,
+          no-more-meshes 0x3D3D kids one (f .own) (f .kids) (f .rest) (f .is) (around figureTop) to-objects behind (at + (6 + length (f .own) + size (f .kids))) 6 0,
           append-nil (meshesOf (at + (6 + length (f .own))) (at + 6) (length (f .own) - 1) (f .kids)),
           z,
         )

@@ -35,7 +35,8 @@ pub record Sized (s : List ℕ) (at stop id row : ℕ) (around : List ℕ) (k : 
   pub row-is : row ≡ rowOf id
   pub fits : Fits (shape id) around (slice (at + 6) stop s) k
 
-pub sized : {at stop id row : ℕ} → at + 6 ≤ stop → {s : List ℕ} → stop ≤ length s → listed id ≡ true → row ≡ rowOf id → (around : List ℕ) (r : Own) → OwnIs (shapeIn row) around (slice (at + 6) stop s) r → {k : ℕ} → r ≡ Own.Size k → Sized s at stop id row around k
+pub sized : {at stop id row : ℕ} → at + 6 ≤ stop → {s : List ℕ} → stop ≤ length s → listed id ≡ true → row ≡ rowOf id →
+    (around : List ℕ) (r : Own) → OwnIs (shapeIn row) around (slice (at + 6) stop s) r → {k : ℕ} → r ≡ Own.Size k → Sized s at stop id row around k
 sized o l m e around r found f = record { order = o; stays = l; known = m; row-is = e; fits = own-of-row _ _ m e around _ r found _ f }
 
 module _ {s : List ℕ} {at stop id row : ℕ} {around : List ℕ} {k : ℕ} (z : Sized s at stop id row around k) where

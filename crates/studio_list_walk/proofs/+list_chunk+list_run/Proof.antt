@@ -141,7 +141,10 @@ list-chunk-same-length-2 t c = c .before .before .before .before .before .put-re
 list-chunk-returns-2 : (t : ℕ) → list-chunk-lts.Need-returns-2 (chunk-calls t) (list-chunk-at t) list-chunk.Post
 list-chunk-returns-2 t c =
     let x = c .before .before .before .before .before .before .before .before .before .before .before .before .before .before .before in
-    λ p u l. childless-listed (chunk-entered t (c .before .before .before .before .before .before .before .before) p u l) (lent (x .args .records .now) (x .args .bytes .now)) (x .args .depth) (x .args .parent) (x .args .next) (c .before .before .before .before .before .put-record .ensures) (c .if2 .taken)
+    let put = c .before .before .before .before .before .put-record in
+    λ p u l.
+    let e = chunk-entered t (c .before .before .before .before .before .before .before .before) p u l in
+    childless-listed e (lent (x .args .records .now) (x .args .bytes .now)) (x .args .depth) (x .args .parent) (x .args .next) (put .ensures) (c .if2 .taken)
 
 list-chunk-add-list-run : (t : ℕ) → list-chunk-lts.Need-add-list-run (chunk-calls t) (list-chunk-at t) list-chunk.Post
 list-chunk-add-list-run t c = omega arith

@@ -233,7 +233,8 @@ chunk-returns-5 t c =
     let d = c .before .before .before .before .before .before .before .before .before .before .before .before in (
       λ q seen k.
           let e = opened t d q seen k in
-          enter-shut e (children e (c .before .before .before .before .before .before .before .before .before .run .ensures .0) (c .before .before .before .before .before .before .records .given .1)) (c .before .before .before .at-end .result) (c .before .before .before .at-end .ensures) (c .before .r3 .given .1),
+          let kids = children e (c .before .before .before .before .before .before .before .before .before .run .ensures .0) (c .before .before .before .before .before .before .records .given .1) in
+          enter-shut e kids (c .before .before .before .at-end .result) (c .before .before .before .at-end .ensures) (c .before .r3 .given .1),
       (d .before .before .before .before .look .ensures .1 .1 .0, tt),
     )
 
