@@ -237,6 +237,11 @@ uint64_t tds_write(const uint8_t *name, size_t name_len, const float *vertices, 
  * figures. docs/SLIP.md says what the sums find and what they miss: one turned bit is always
  * found, a byte 0 turned into 255 is not.
  *
+ * To make one, call tds_sums for each file, lay the names one after another in memory and an entry
+ * for each in a row, and call tds_slip_write. To check a stick, call tds_slip_read on its slip, and
+ * for each entry hand the file of that name to tds_matches, or in parts to tds_sum_add, and what
+ * comes of that to tds_sum_matches.
+ *
  * SUMS are the two 8-bit Fletcher sums of RFC 1146: the sum of all bytes, and the sum of the
  * running first sums, both as remainders modulo 255, so from 0 to 254. They go in and out as one
  * number, first sum + 256 * second sum. An empty file has 0.

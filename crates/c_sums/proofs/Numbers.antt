@@ -18,7 +18,7 @@ use Rattle.slip_sums.specs.Passes.{sumsCall, otherSums, matchOf}
 use Rattle.slip_sums.proofs.Remainders.{sum-same}
 use Rattle.slip_sums.proofs.Joined.{join-law, cap-first, part-by-part, associative-within}
 use Rattle.slip_sums.proofs.Passes.{same-part-by-part}
-use Rattle.c_sums.specs.Numbers.{sumsOr, SumsProper, SumsSmall, NoFileHas, numberOf, sumIn, Handed, ReadsBack, partNumber, byParts, NumberByParts, MatchesByParts, NumbersJoin, NumbersAssociate}
+use Rattle.c_sums.specs.Numbers.{SumsProper, SumsSmall, NoFileHas, numberOf, sumIn, Handed, ReadsBack, partNumber, byParts, NumberByParts, MatchesByParts, NumbersJoin, NumbersAssociate}
 
 -- the sums of a file are remainders, where it has any
 pub sums-proper : (file : List ℕ) → SumsProper (sumsCall file)

@@ -2,7 +2,7 @@
 use mathlib.Core.Path.{_≡_, refl, ap, _∙_}
 use Prim.Native.Nat.{ℕ, zero, suc, _+_, _<_, _≤_}
 use native.Mathlib.Omega.{arith}
-use mathlib.Core.Bool.{Bool, true, false, not, _&&_}
+use mathlib.Core.Bool.{true, false, not}
 use mathlib.Core.List.{List}
 use lib.Dec.{leb}
 use lib.ListN.{length, drop, getD, length-drop}
@@ -10,6 +10,7 @@ use lib.Seq.{getD-drop}
 use borrow.Author.Tests.{le-leb, lt-leb}
 use Rattle.slip_rules.specs.Rules.{isNamed, sumsProper, namedBefore}
 use Rattle.slip_rules.specs.Walk.{entryAt}
+use Rattle.slip_rules.proofs.Tests.{and-true, and-false}
 use Rattle.slip_check.specs.Entries.{entryIn, nextAt, after, Whole, Reached, goodAt}
 use Rattle.slip_check.proofs.Names.{head-is, name-length}
 
@@ -19,10 +20,6 @@ after-within (suc n) s o w = after-within n s (nextAt s o) (w .1)
 
 pub reached-within : (s : List ℕ) (n at : ℕ) → Reached s n at → at ≤ length s
 reached-within s n at r = omega (arith, after-within n s 7 (r .whole), r .ends)
-
-and-false : (a : Bool) → (a && false) ≡ false
-and-false true = refl
-and-false false = refl
 
 module _ (seen : List (List ℕ)) (s : List ℕ) (at : ℕ) (h : at ≤ length s) where
   pub off-short : length s < nextAt s at → goodAt seen (drop at s) ≡ false
@@ -70,4 +67,5 @@ module _ (seen : List (List ℕ)) (s : List ℕ) (at : ℕ) (h : at ≤ length s
           le-leb (length (entryIn s at .name)) 255 (omega arith),
           le-leb (entryIn s at .first) 254 (omega (arith, first-is)),
           le-leb (entryIn s at .second) 254 (omega (arith, second-is)),
+          and-true (not (namedBefore (entryIn s at .name) seen)),
         )

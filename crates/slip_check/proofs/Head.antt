@@ -1,39 +1,38 @@
 -- The first seven bytes of a slip, and the verdict.
-use mathlib.Core.Path.{_≡_, refl, _∙_}
+use mathlib.Core.Path.{_≡_, _∙_}
 use Prim.Native.Nat.{ℕ, _+_, _<_, _≤_}
-use mathlib.Core.Bool.{Bool, true, false, _&&_, false≢true}
-use mathlib.Core.List.{List, []}
+use mathlib.Core.Bool.{true, false}
+use mathlib.Core.List.{List, [], _∷_}
 use lib.Dec.{eqb, leb}
 use lib.ListN.{length, drop, getD}
 use borrow.Author.Tests.{leb-true, lt-leb, le-leb, ne-eqb, eq-eqb}
 use Rattle.shared_words.specs.declared.Refusal.the-variants.{Slip}
 use Rattle.shared_words.specs.Bytes.{beAt}
 use Rattle.shared_words.specs.Conditions.{refused, accepted}
+use Rattle.shared_words.proofs.Bools.{and-parts}
 use Rattle.slip_rules.specs.Rules.{limit}
 use Rattle.slip_rules.specs.Walk.{walk, verdict}
+use Rattle.slip_rules.proofs.Tests.{one-fails, none-fails, and-true, and-false}
 use Rattle.slip_check.specs.Entries.{entriesIn, headGood}
-use Rattle.slip_check.proofs.Walks.{none-of, some-of}
 
 -- ---- the verdict
 
 module _ (s : List ℕ) where
   pub verdict-off : headGood s ≡ false → verdict s ≡ refused (Slip 0)
   unfolding headGood verdict
-  verdict-off e = rw (some-of (leb 7 (length s)) (eqb (getD s 0 0) 1) (eqb (5 + beAt 1 4 s) (length s)) (leb (beAt 5 2 s) limit) (Slip 0) e)
+  verdict-off e = rw (one-fails (leb 7 (length s) ∷ eqb (getD s 0 0) 1 ∷ eqb (5 + beAt 1 4 s) (length s) ∷ leb (beAt 5 2 s) limit ∷ []) (Slip 0) [] e)
 
   verdict-on : headGood s ≡ true → verdict s ≡ walk (beAt 5 2 s) [] 7 (drop 7 s)
   unfolding headGood verdict
-  verdict-on e = rw (none-of (leb 7 (length s)) (eqb (getD s 0 0) 1) (eqb (5 + beAt 1 4 s) (length s)) (leb (beAt 5 2 s) limit) (Slip 0) e)
+  verdict-on e = rw (none-fails (leb 7 (length s) ∷ eqb (getD s 0 0) 1 ∷ eqb (5 + beAt 1 4 s) (length s) ∷ leb (beAt 5 2 s) limit ∷ []) (Slip 0) e)
 
   pub head-few : headGood s ≡ true → beAt 5 2 s ≤ limit
   unfolding headGood
-  head-few e = leb-true (beAt 5 2 s) limit (last (leb 7 (length s)) (eqb (getD s 0 0) 1) (eqb (5 + beAt 1 4 s) (length s)) (leb (beAt 5 2 s) limit) e)
-    where
-      last : (a b c d : Bool) → (a && (b && (c && d))) ≡ true → d ≡ true
-      last true true true d e = e
-      last true true false d e = absurd (false≢true e)
-      last true false c d e = absurd (false≢true e)
-      last false b c d e = absurd (false≢true e)
+  head-few e =
+      let version = and-parts (leb 7 (length s)) _ e .1 in
+      let long = and-parts (eqb (getD s 0 0) 1) _ version .1 in
+      let count = and-parts (eqb (5 + beAt 1 4 s) (length s)) _ long .1 in
+      leb-true (beAt 5 2 s) limit (and-parts (leb (beAt 5 2 s) limit) true count .0)
 
   module _ (n : ℕ) (e : headGood s ≡ true) (q : n ≡ beAt 5 2 s) where
     pub verdict-bad : (place : ℕ) → walk n [] 7 (drop 7 s) ≡ refused (Slip place) → verdict s ≡ refused (Slip place)
@@ -43,10 +42,6 @@ module _ (s : List ℕ) where
     verdict-good w = verdict-on e ∙ rw (← q, w)
 
 -- ---- the first seven bytes, in the order in which the code comes to know them
-
-and-false : (a : Bool) → (a && false) ≡ false
-and-false true = refl
-and-false false = refl
 
 module _ (s : List ℕ) where
   pub head-short : length s < 7 → headGood s ≡ false
@@ -63,4 +58,4 @@ module _ (s : List ℕ) where
 
   pub head-count : 7 ≤ length s → getD s 0 0 ≡ 1 → 5 + beAt 1 4 s ≡ length s → headGood s ≡ leb (beAt 5 2 s) limit
   unfolding headGood
-  head-count l v q = rw (le-leb 7 (length s) l, eq-eqb (getD s 0 0) 1 v, eq-eqb (5 + beAt 1 4 s) (length s) q)
+  head-count l v q = rw (le-leb 7 (length s) l, eq-eqb (getD s 0 0) 1 v, eq-eqb (5 + beAt 1 4 s) (length s) q, and-true (leb (beAt 5 2 s) limit))

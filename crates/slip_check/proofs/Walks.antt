@@ -3,9 +3,8 @@ use mathlib.Core.Path.{_≡_, refl, ap, _∙_}
 use Prim.Native.Nat.{ℕ, zero, suc, _+_, _-_, _<_, _≤_}
 use native.Mathlib.Numerals.{add-one}
 use native.Mathlib.Omega.{arith}
-use mathlib.Core.Bool.{Bool, true, false, _&&_, true≢false, false≢true}
+use mathlib.Core.Bool.{true, false}
 use mathlib.Core.List.{List, [], _∷_}
-use mathlib.Core.Option.{none, some}
 use lib.Dec.{leb}
 use lib.ListN.{length, drop, getD}
 use lib.Seq.{drop-drop, drop-length, drop-cons}
@@ -13,28 +12,13 @@ use Rattle.shared_words.specs.declared.Refusal.{Refusal}
 use Rattle.shared_words.specs.declared.Refusal.the-variants.{Slip}
 use Rattle.slip_rules.specs.Slip.{Entry, entrySize}
 use Rattle.slip_rules.specs.Rules.{isNamed, sumsProper, notTwice, remember}
-use Rattle.shared_words.specs.Conditions.{must, broken, refused, accepted}
+use Rattle.shared_words.specs.Conditions.{refused, accepted}
 use Rattle.slip_rules.specs.Walk.{Entries, withEntry, entryAt, walk}
+use Rattle.slip_rules.proofs.Tests.{one-fails, none-fails}
 use Rattle.slip_check.specs.Entries.{entryIn, nextAt, entriesIn, namesIn, after, Whole, Reached, goodAt}
 use Rattle.slip_check.proofs.Names.{name-length}
 
 -- ---- one entry
-
-pub none-of : (a b c d : Bool) (r : Refusal) → (a && (b && (c && d))) ≡ true → broken (must a r ∷ must b r ∷ must c r ∷ must d r ∷ []) ≡ none
-unfolding broken
-none-of true true true true r e = refl
-none-of true true true false r e = absurd (false≢true e)
-none-of true true false d r e = absurd (false≢true e)
-none-of true false c d r e = absurd (false≢true e)
-none-of false b c d r e = absurd (false≢true e)
-
-pub some-of : (a b c d : Bool) (r : Refusal) → (a && (b && (c && d))) ≡ false → broken (must a r ∷ must b r ∷ must c r ∷ must d r ∷ []) ≡ some r
-unfolding broken
-some-of true true true true r e = absurd (true≢false e)
-some-of true true true false r e = refl
-some-of true true false d r e = refl
-some-of true false c d r e = refl
-some-of false b c d r e = refl
 
 module _ (seen : List (List ℕ)) (s : List ℕ) (at : ℕ) where
   walk-off : (k : ℕ) → 0 < k → goodAt seen (drop at s) ≡ false → walk k seen at (drop at s) ≡ refused (Slip at)
@@ -42,7 +26,7 @@ module _ (seen : List (List ℕ)) (s : List ℕ) (at : ℕ) where
   walk-off zero p e = absurd (omega arith)
   walk-off (suc k) p e =
       let t = drop at s in
-      rw (some-of (leb (7 + getD t 0 0) (length t)) (isNamed (entryAt t)) (sumsProper (entryAt t)) (notTwice seen (entryAt t)) (Slip at) e)
+      rw (one-fails (leb (7 + getD t 0 0) (length t) ∷ isNamed (entryAt t) ∷ sumsProper (entryAt t) ∷ notTwice seen (entryAt t) ∷ []) (Slip at) [] e)
 
   walk-on : (k : ℕ) → 0 < k → nextAt s at ≤ length s → goodAt seen (drop at s) ≡ true →
       walk k seen at (drop at s) ≡ withEntry (entryIn s at) (walk (k - 1) (remember seen (entryIn s at)) (nextAt s at) (drop (nextAt s at) s))
@@ -53,7 +37,7 @@ module _ (seen : List (List ℕ)) (s : List ℕ) (at : ℕ) where
       let q : suc k - 1 ≡ k = omega arith in
       let b : at + entrySize (entryIn s at) ≡ nextAt s at = omega (arith, name-length s at l) in
       let d : drop (entrySize (entryIn s at)) t ≡ drop (nextAt s at) s = drop-drop (entrySize (entryIn s at)) at s ∙ ap (λ (i : ℕ). drop i s) b in
-      rw (none-of (leb (7 + getD t 0 0) (length t)) (isNamed (entryAt t)) (sumsProper (entryAt t)) (notTwice seen (entryAt t)) (Slip at) e, q, d, b)
+      rw (none-fails (leb (7 + getD t 0 0) (length t) ∷ isNamed (entryAt t) ∷ sumsProper (entryAt t) ∷ notTwice seen (entryAt t) ∷ []) (Slip at) e, q, d, b)
 
 -- ---- n entries and one more
 

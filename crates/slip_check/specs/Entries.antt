@@ -1,7 +1,7 @@
 -- The entries of a slip by their offsets, as the code steps over them; and what its functions promise.
 use mathlib.Core.Path.{_≡_}
 use Prim.Native.Nat.{ℕ, zero, suc, _+_, _≤_}
-use mathlib.Core.Bool.{Bool, _&&_}
+use mathlib.Core.Bool.{Bool}
 use mathlib.Core.List.{List, [], _∷_}
 use lib.Dec.{eqb, leb}
 use lib.ListN.{length, drop, getD}
@@ -11,6 +11,7 @@ use Rattle.shared_words.specs.Conditions.{refused, accepted}
 use Rattle.slip_rules.specs.declared.Found.{Found}
 use Rattle.slip_rules.specs.Slip.{Entry}
 use Rattle.slip_rules.specs.Rules.{isNamed, sumsProper, notTwice, limit}
+use Rattle.slip_rules.specs.Conditions.{allOf}
 use Rattle.slip_rules.specs.Walk.{Entries, entryAt, walk, verdict}
 use Rattle.slip_check.specs.declared.Walked.{Walked}
 
@@ -46,7 +47,7 @@ pub record Reached (s : List ℕ) (n at : ℕ) : Type 0 where
 
 -- the conditions of the walk at one entry, as one test
 unfoldable pub goodAt : List (List ℕ) → List ℕ → Bool
-goodAt seen s = leb (7 + getD s 0 0) (length s) && (isNamed (entryAt s) && (sumsProper (entryAt s) && notTwice seen (entryAt s)))
+goodAt seen s = allOf (leb (7 + getD s 0 0) (length s) ∷ isNamed (entryAt s) ∷ sumsProper (entryAt s) ∷ notTwice seen (entryAt s) ∷ [])
 
 -- ---- what the functions promise
 
@@ -60,7 +61,7 @@ pub record Walks (s : List ℕ) (n : ℕ) (r : Walked) : Type 0 where
 
 -- the conditions of the first seven bytes, as one test
 unfoldable pub headGood : List ℕ → Bool
-headGood s = leb 7 (length s) && (eqb (getD s 0 0) 1 && (eqb (5 + beAt 1 4 s) (length s) && leb (beAt 5 2 s) limit))
+headGood s = allOf (leb 7 (length s) ∷ eqb (getD s 0 0) 1 ∷ eqb (5 + beAt 1 4 s) (length s) ∷ leb (beAt 5 2 s) limit ∷ [])
 
 -- the verdict, where the check answers r
 abbrev pub answerAs : Found → List ℕ → Entries

@@ -52,7 +52,8 @@ fn is_repeated(s: &[u8], n: usize, at: usize) -> bool
 // Whether the entry behind the first n is whole and meets the rules of refusal 18.
 fn is_good(s: &[u8], n: usize, at: usize) -> bool
     requires { ⌜ Reached (now s) n at ⌝ }
-    ensures { λ r. ⌜ (r ≡ goodAt (namesIn n (now (s .entry)) 7) (drop at (now (s .entry)))) × (r ≡ true → nextAt (now (s .entry)) at ≤ length (now (s .entry))) ⌝ }
+    ensures is { λ r. ⌜ r ≡ goodAt (namesIn n (now (s .entry)) 7) (drop at (now (s .entry))) ⌝ }
+    ensures whole { λ r. ⌜ (r ≡ true → nextAt (now (s .entry)) at ≤ length (now (s .entry))) ⌝ }
 {
     let left = s.len() - at;
     if left < 7 {

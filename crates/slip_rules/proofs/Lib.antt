@@ -1,3 +1,4 @@
+pub mod Tests
 pub mod Sound
 pub mod Complete
 pub mod Verdict

@@ -11,7 +11,7 @@ use Rattle.shared_words.specs.declared.Refusal.{Refusal}
 use Rattle.shared_words.specs.declared.Refusal.the-variants.{NoRoom}
 use Rattle.shared_words.specs.Bytes.{Bytes}
 use Rattle.shared_words.specs.Conditions.{broken, refused, accepted}
-use Rattle.shared_words.specs.Effects.{Effect, leaving, filled}
+use Rattle.shared_words.specs.Effects.{leaving, filled}
 use Rattle.shared_words.specs.Encodings.{Encoding}
 use Rattle.shared_words.proofs.Conditions.{met}
 use Rattle.slip_rules.specs.declared.Numbers.{Numbers}

@@ -1,11 +1,11 @@
 -- The writer's answer, by what the judgement answers; and what is known once it answers a size.
 use mathlib.Core.Path.{_≡_, refl, sym, ap, subst, _∙_}
-use Prim.Native.Nat.{ℕ, zero, suc, _+_, _-_, _*_, _/_, _≤_}
+use Prim.Native.Nat.{ℕ, suc, _+_, _-_, _*_, _/_, _≤_}
 use native.Mathlib.Omega.{arith}
 use mathlib.Core.List.{List, [], _∷_, _++_}
 use mathlib.Core.Option.{Option, none, some}
 use lib.Dec.{leb}
-use lib.ListN.{length, drop, length-append}
+use lib.ListN.{length, length-append}
 use borrow.Author.Tests.{ltb-true, leb-true}
 use Rattle.shared_words.specs.declared.Refusal.{Refusal}
 use Rattle.shared_words.specs.Bytes.{be}
@@ -20,9 +20,10 @@ use Rattle.slip_rules.specs.declared.Numbers.{Numbers}
 use Rattle.shared_words.specs.declared.Written.{Written}
 use Rattle.slip_rules.specs.Slip.{behindName, entryBytes, allBytes, rest, bytes}
 use Rattle.slip_rules.specs.Rules.{remember, limit}
-use Rattle.slip_rules.specs.Calls.{entryFrom, entriesFrom, rowsIn, givenBytes, rowConditions, writeConditions, writeOf, slipWriteCall}
+use Rattle.slip_rules.specs.Calls.{entryFrom, entriesFrom, givenBytes, rowConditions, writeConditions, slipWriteCall}
 use Rattle.slip_write_judge.specs.Judged.{sizeUnless, judged}
 use Rattle.slip_write_judge.proofs.Rows.{name-long}
+use Rattle.slip_write_judge.proofs.Answers.{length-rows}
 use Rattle.slip_write.specs.Ready.{Fitting, Ready}
 
 -- ---- what the conditions tell of the rows
@@ -43,10 +44,6 @@ told names seen i (n ∷ ns) later l h =
     let t = leb-true (e .second) 254 (and-parts (leb (e .first) 254) (leb (e .second) 254) (h .1 .1 .1 .0) .1) in
     let r = told names (remember seen e) (suc i) ns later (omega arith) (h .1 .1 .1 .1 .1) in
     record { fitting = (record { inside = w; short = omega (arith, s, name-long names n w); second = t }, r .fitting); few = omega (arith, r .few); then = r .then }
-
-length-rows : (k : ℕ) (s : List ℕ) → length (rowsIn k s) ≡ k
-length-rows zero s = refl
-length-rows (suc k) s = ap suc (length-rows k (drop 16 s))
 
 -- an entry that fits has at most 262 bytes
 pub fitting-short : (names : List ℕ) (ns : List Numbers) → All (Fitting names) ns → length (allBytes (entriesFrom names ns)) ≤ 262 * length ns

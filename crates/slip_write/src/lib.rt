@@ -10,7 +10,6 @@ ghost use mathlib.Core.Path.{_≡_};
 ghost use mathlib.Core.List.{[], _∷_};
 ghost use Prim.Native.Nat.{_+_, _<_, _≤_};
 ghost use lib.ListN.{length, take, drop};
-ghost use Rattle.shared_words.specs.Effects.{filled};
 ghost use Rattle.shared_words.specs.Lists.{All};
 ghost use Rattle.shared_numbers.specs.Put.{Put};
 ghost use Rattle.slip_rules.specs.Slip.{entryBytes, allBytes, bytes};

@@ -1,13 +1,11 @@
 -- The judgement, by what the rows answer: then a part of an entry at the end, then the room.
 use mathlib.Core.Path.{_≡_, refl, ap, _∙_}
 use Prim.Native.Nat.{ℕ, zero, suc, _/_, _%_, _<_, _≤_}
-use mathlib.Core.Bool.{true, false, not}
+use mathlib.Core.Bool.{not}
 use mathlib.Core.List.{List, [], _∷_}
-use mathlib.Core.Option.{Option, none, some}
-use lib.Dec.{eqb, leb}
+use lib.Dec.{leb}
 use lib.ListN.{length, drop}
 use borrow.Author.Tests.{eq-eqb, ne-eqb, le-leb, lt-leb}
-use Rattle.shared_words.specs.declared.Refusal.{Refusal}
 use Rattle.shared_words.specs.declared.Refusal.the-variants.{Slip, NoRoom}
 use Rattle.shared_words.specs.Conditions.{Condition, must, broken}
 use Rattle.shared_words.proofs.Conditions.{broken-here, broken-later, unbroken}
@@ -17,7 +15,7 @@ use Rattle.slip_rules.specs.Calls.{entriesFrom, rowsIn, givenBytes}
 use Rattle.slip_write_judge.specs.declared.Judged.{Judged}
 use Rattle.slip_write_judge.specs.Judged.{sizeUnless, judged, JudgesRows}
 
-length-rows : (k : ℕ) (s : List ℕ) → length (rowsIn k s) ≡ k
+pub length-rows : (k : ℕ) (s : List ℕ) → length (rowsIn k s) ≡ k
 length-rows zero s = refl
 length-rows (suc k) s = ap suc (length-rows k (drop 16 s))
 

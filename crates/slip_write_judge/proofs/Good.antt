@@ -1,8 +1,8 @@
 -- The test of one row, in the order in which the code comes to know it.
-use mathlib.Core.Path.{_≡_, refl, sym, ap, _∙_}
+use mathlib.Core.Path.{_≡_, sym, ap, _∙_}
 use Prim.Native.Nat.{ℕ, _+_, _/_, _%_, _<_, _≤_}
 use native.Mathlib.Omega.{arith}
-use mathlib.Core.Bool.{Bool, true, false, not, _&&_, false≢true}
+use mathlib.Core.Bool.{Bool, false, not, false≢true}
 use mathlib.Core.List.{List}
 use lib.Dec.{leb, ltb}
 use lib.ListN.{length}
@@ -10,6 +10,7 @@ use borrow.Author.Tests.{lt-ltb, le-ltb, le-leb, lt-leb}
 use Rattle.slip_rules.specs.declared.Numbers.{Numbers}
 use Rattle.slip_rules.specs.Rules.{isNamed, sumsProper, namedBefore, limit}
 use Rattle.slip_rules.specs.Calls.{within}
+use Rattle.slip_rules.proofs.Tests.{and-true, and-false}
 use Rattle.slip_write_judge.specs.Rows.{rowNo, entryNo, namesFrom, Inside, goodRow, GoodRow}
 use Rattle.slip_write_judge.proofs.Rows.{name-long}
 
@@ -21,10 +22,6 @@ pub record Same (n m : Numbers) : Type 0 where
 
 pub same-row : {n m : Numbers} → n ≡ m → Same n m
 same-row e = record { name = ap (λ (x : Numbers). x .name) e; len = ap (λ (x : Numbers). x .len) e; sums = ap (λ (x : Numbers). x .sums) e }
-
-and-false : (a : Bool) → (a && false) ≡ false
-and-false true = refl
-and-false false = refl
 
 module _ (names s : List ℕ) (i : ℕ) where
   refused-row : goodRow names s i ≡ false → GoodRow names s i false
@@ -74,6 +71,7 @@ module _ (names s : List ℕ) (i : ℕ) where
           le-leb (length (entryNo names s i .name)) 255 (omega arith),
           le-leb (rowNo s i .sums % 256) 254 (omega arith),
           le-leb (rowNo s i .sums / 256) 254 g,
+          and-true (not (namedBefore (entryNo names s i .name) (namesFrom names i s 0))),
         )
 
     pub on-all : (r : Bool) → r ≡ not (namedBefore (entryNo names s i .name) (namesFrom names i s 0)) → GoodRow names s i r

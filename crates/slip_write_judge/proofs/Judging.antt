@@ -1,23 +1,23 @@
 -- The rows' conditions as the loop meets them: after i good rows, what is left of the conditions answers for all, and what is
 -- left of the bytes is what the size still lacks.
-use mathlib.Core.Path.{_≡_, refl, sym, ap, _∙_}
+use mathlib.Core.Path.{_≡_, refl, ap, _∙_}
 use Prim.Native.Nat.{ℕ, zero, suc, _+_, _-_, _*_, _/_, _<_, _≤_}
 use native.Mathlib.Numerals.{add-one}
 use native.Mathlib.Omega.{arith}
-use mathlib.Core.Bool.{Bool, true, false, _&&_, true≢false, false≢true}
+use mathlib.Core.Bool.{Bool, true, false}
 use mathlib.Core.List.{List, [], _∷_, _++_}
 use mathlib.Core.Option.{some}
 use lib.Dec.{ltb}
 use lib.ListN.{length, drop, length-append}
 use lib.Seq.{drop-drop}
 use borrow.Author.Count.{below-more}
-use Rattle.shared_words.specs.declared.Refusal.{Refusal}
 use Rattle.shared_words.specs.declared.Refusal.the-variants.{Slip}
-use Rattle.shared_words.specs.Conditions.{Condition, must, broken}
+use Rattle.shared_words.specs.Conditions.{Condition, broken}
 use Rattle.slip_rules.specs.declared.Numbers.{Numbers}
 use Rattle.slip_rules.specs.Slip.{behindName, entryBytes, allBytes, bytes}
 use Rattle.slip_rules.specs.Rules.{isNamed, sumsProper, notTwice, remember, limit}
 use Rattle.slip_rules.specs.Calls.{entriesFrom, rowsIn, givenBytes, within, rowConditions}
+use Rattle.slip_rules.proofs.Tests.{all-hold, one-fails}
 use Rattle.slip_write_judge.specs.Rows.{rowNo, entryNo, rowsFrom, namesFrom, Inside, AllInside, goodRow}
 use Rattle.slip_write_judge.proofs.Rows.{name-long}
 
@@ -35,26 +35,6 @@ given-rows s = rows-are (length s / 16) s 0
 
 -- ---- the conditions of one row
 
-all-hold : (a b c d e : Bool) (r : Refusal) (later : List Condition) → (a && (b && (c && (d && e)))) ≡ true →
-    broken (must a r ∷ must b r ∷ must c r ∷ must d r ∷ must e r ∷ later) ≡ broken later
-unfolding broken
-all-hold true true true true true r later h = refl
-all-hold true true true true false r later h = absurd (false≢true h)
-all-hold true true true false e r later h = absurd (false≢true h)
-all-hold true true false d e r later h = absurd (false≢true h)
-all-hold true false c d e r later h = absurd (false≢true h)
-all-hold false b c d e r later h = absurd (false≢true h)
-
-one-fails : (a b c d e : Bool) (r : Refusal) (later : List Condition) → (a && (b && (c && (d && e)))) ≡ false →
-    broken (must a r ∷ must b r ∷ must c r ∷ must d r ∷ must e r ∷ later) ≡ some r
-unfolding broken
-one-fails true true true true true r later h = absurd (true≢false h)
-one-fails true true true true false r later h = refl
-one-fails true true true false e r later h = refl
-one-fails true true false d e r later h = refl
-one-fails true false c d e r later h = refl
-one-fails false b c d e r later h = refl
-
 -- the names of the first rows, and of one more
 names-more : (names : List ℕ) (k : ℕ) (s : List ℕ) (i : ℕ) → namesFrom names k s i ++ (entryNo names s (i + k) .name ∷ []) ≡ namesFrom names (suc k) s i
 names-more names zero s i =
@@ -69,13 +49,17 @@ names-then names i s =
     let q : 0 + i ≡ i = omega arith in
     rw q at (names-more names i s 0)
 
+abbrev tests : List ℕ → List ℕ → ℕ → List Bool
+tests names s i =
+    ltb i limit ∷ within names (rowNo s i) ∷ isNamed (entryNo names s i) ∷ sumsProper (entryNo names s i) ∷
+    notTwice (namesFrom names i s 0) (entryNo names s i) ∷ []
+
 module _ (names s : List ℕ) (i : ℕ) (later : List Condition) where
   row-bad : (k : ℕ) → 0 < k → goodRow names s i ≡ false → broken (rowConditions names (namesFrom names i s 0) i (rowsFrom k s i) later) ≡ some (Slip i)
   unfolding goodRow
   row-bad zero p e = absurd (omega arith)
   row-bad (suc k) p e =
-      one-fails (ltb i limit) (within names (rowNo s i)) (isNamed (entryNo names s i)) (sumsProper (entryNo names s i))
-      (notTwice (namesFrom names i s 0) (entryNo names s i)) (Slip i) _ e
+      one-fails (tests names s i) (Slip i) _ e
 
   row-good : (k : ℕ) → 0 < k → goodRow names s i ≡ true →
       broken (rowConditions names (namesFrom names i s 0) i (rowsFrom k s i) later) ≡
@@ -84,9 +68,7 @@ module _ (names s : List ℕ) (i : ℕ) (later : List Condition) where
   row-good zero p e = absurd (omega arith)
   row-good (suc k) p e =
       let q : suc k - 1 ≡ k = omega arith in
-      all-hold (ltb i limit) (within names (rowNo s i)) (isNamed (entryNo names s i)) (sumsProper (entryNo names s i))
-      (notTwice (namesFrom names i s 0) (entryNo names s i)) (Slip i) _ e ∙
-      rw (q, names-then names i s)
+      all-hold (tests names s i) (Slip i) _ e ∙ rw (q, names-then names i s)
 
 -- the bytes of one row
 pub row-size : (names s : List ℕ) (i k : ℕ) → 0 < k → Inside names s i →

@@ -1,13 +1,14 @@
 -- The entries that the writer is given, by their numbers.
 use Prim.Native.Nat.{ℕ, zero, suc, _+_, _*_, _<_, _≤_}
 use mathlib.Core.Path.{_≡_}
-use mathlib.Core.Bool.{Bool, true, _&&_}
+use mathlib.Core.Bool.{Bool, true}
 use mathlib.Core.List.{List, [], _∷_}
 use lib.Dec.{ltb}
 use lib.ListN.{length, drop}
 use Rattle.slip_rules.specs.declared.Numbers.{Numbers}
 use Rattle.slip_rules.specs.Slip.{Entry}
 use Rattle.slip_rules.specs.Rules.{isNamed, sumsProper, notTwice, limit}
+use Rattle.slip_rules.specs.Conditions.{allOf}
 use Rattle.slip_rules.specs.Calls.{rowAt, entryFrom, within}
 
 -- the row of number i, and the entry that it stands for
@@ -36,8 +37,9 @@ AllInside names s n = (j : ℕ) → j < n → Inside names s j
 -- the conditions of the row of number i, as one test
 unfoldable pub goodRow : List ℕ → List ℕ → ℕ → Bool
 goodRow names s i =
-    ltb i limit &&
-    (within names (rowNo s i) && (isNamed (entryNo names s i) && (sumsProper (entryNo names s i) && notTwice (namesFrom names i s 0) (entryNo names s i))))
+    allOf (
+    ltb i limit ∷ within names (rowNo s i) ∷ isNamed (entryNo names s i) ∷ sumsProper (entryNo names s i) ∷
+    notTwice (namesFrom names i s 0) (entryNo names s i) ∷ [])
 
 -- and what the code promises of it
 pub record GoodRow (names s : List ℕ) (i : ℕ) (r : Bool) : Type 0 where

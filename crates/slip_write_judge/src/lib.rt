@@ -12,7 +12,7 @@ ghost use lib.ListN.{length};
 ghost use Rattle.shared_words.specs.Lists.{same};
 ghost use Rattle.slip_rules.specs.Rules.{namedBefore};
 ghost use Rattle.slip_rules.specs.Calls.{entryFrom, givenBytes};
-ghost use Rattle.slip_write_judge.specs.Rows.{rowNo, namesFrom, Inside, AllInside, GoodRow};
+ghost use Rattle.slip_write_judge.specs.Rows.{rowNo, namesFrom, AllInside, GoodRow};
 ghost use Rattle.slip_write_judge.specs.Judged.{judged, JudgesRows};
 
 // What the judgement of the rows alone answers: the number of the first bad one, or the size of the slip.

@@ -1,6 +1,5 @@
 -- The loop's invariant: the name is among all earlier ones exactly when it is among those left.
 use mathlib.Core.Path.{_≡_, refl, sym, ap, _∙_}
-use mathlib.Core.Bool.{Bool, true, false}
 use Prim.Native.Nat.{_+_, _-_, _≤_}
 use native.Mathlib.Omega.{arith}
 use Rattle.shared_words.specs.Lists.{same}
