@@ -16,12 +16,67 @@ pub fn all(size: usize) -> Vec<Figure> {
     let small = |size| vec![object(b"a\0", 1, 1); size / 80];
     let large = |size| vec![object(b"large\0", size / 2 / 20, size / 2 / 20); 2];
     let names = |size| vec![object(&name(size / 8), 1, 1); 8];
+    let short = |size| vec![object(&name(140), 1, 1); size / 89];
+    let cubes = |size| vec![object(b"cube\0", 28, 16); size / 400];
     vec![
         figure("smallest unlisted chunks", size, &unlisted),
+        figure("mixed unlisted chunks", size, &mixed),
         figure("smallest known chunks", size, &known),
         figure("many small meshes", size, &small),
+        figure("cubes of 24 vertices", size, &cubes),
         figure("two large meshes", size, &large),
         figure("long names", size, &names),
+        figure("names of 40 bytes", size, &short),
+        figure("materials", size, &materials),
+        figure("faces and groups", size, &groups),
+    ]
+}
+
+/// Unlisted chunks of 6 to 69 bytes, hardly two of one identifier.
+fn mixed(size: usize) -> Vec<Vec<u8>> {
+    let numbers = (0..size as u32 / 37).map(|number| number.wrapping_mul(2_654_435_761));
+    let numbers = numbers.filter(|number| second::row((number >> 16) as u16).is_none());
+    let chunks = numbers.map(|number| chunk((number >> 16) as u16, &[7; 63][..number as usize % 64]));
+    chunks.collect()
+}
+
+/// Materials with a name and three colours.
+fn materials(size: usize) -> Vec<Vec<u8>> {
+    let shades = [0xA010, 0xA020, 0xA030].map(|shade| chunk(shade, &chunk(0x0011, &[1, 2, 3])));
+    let body = [chunk(0xA000, b"beech\0"), shades.concat()].concat();
+    vec![chunk(0xAFFF, &body); size / 63]
+}
+
+/// Objects of faces with groups and smoothing words.
+fn groups(size: usize) -> Vec<Vec<u8>> {
+    let (n, f) = (9, 30_u16);
+    let count = f.to_le_bytes();
+    let faces = corners(n, 30)
+        .chunks_exact(3)
+        .flat_map(|face| [face, &[7]].concat())
+        .flat_map(u16::to_le_bytes)
+        .collect::<Vec<u8>>();
+    let numbers = (0..f).flat_map(u16::to_le_bytes).collect::<Vec<u8>>();
+    let group = chunk(0x4130, &[b"oak\0", &count[..], &numbers].concat());
+    let faces = chunk(
+        0x4120,
+        &[
+            &count[..],
+            &faces,
+            &group,
+            &group,
+            &chunk(0x4150, &[0; 120]),
+        ]
+        .concat(),
+    );
+    let floats: Vec<u8> = vertices(n).into_iter().flat_map(f32::to_le_bytes).collect();
+    let points = chunk(0x4110, &[&[9, 0][..], &floats].concat());
+    vec![
+        chunk(
+            0x4000,
+            &[&b"g\0"[..], &chunk(0x4100, &[points, faces].concat())].concat()
+        );
+        size / 600
     ]
 }
 

@@ -1,7 +1,6 @@
 //! The box of one mesh: the low and high corner, the first in file order
 //! among equals, and the centre between them.
 
-use crate::bytes::bits;
 use crate::judge::find;
 use crate::{Number, Refusal};
 
@@ -19,10 +18,10 @@ pub fn bounding_box(file: &[u8], mesh: u32) -> Result<BoundingBox, Refusal> {
     Number::Empty.unless(vertices.count > 0, 0)?;
     let start = vertices.start();
     let points = file[start..start + 12 * vertices.count].as_chunks::<12>().0;
-    let first = point(&points[0]);
+    let first = point(points[0]);
     let (mut low, mut high) = (first, first);
     for bytes in &points[1..] {
-        let point = point(bytes);
+        let point = point(*bytes);
         for axis in 0..3 {
             let (number, so_low, so_high) = (point[axis], low[axis], high[axis]);
             low[axis] = if number < so_low { number } else { so_low };
@@ -35,7 +34,6 @@ pub fn bounding_box(file: &[u8], mesh: u32) -> Result<BoundingBox, Refusal> {
 
 /// The three floats of a vertex.
 #[inline(always)]
-fn point(bytes: &[u8; 12]) -> [f32; 3] {
-    let mut numbers = bits(bytes).map(f32::from_bits);
-    std::array::from_fn(|_| numbers.next().unwrap_or_default())
+fn point([a, b, c, d, e, f, g, h, i, j, k, l]: [u8; 12]) -> [f32; 3] {
+    [[a, b, c, d], [e, f, g, h], [i, j, k, l]].map(f32::from_le_bytes)
 }

@@ -77,7 +77,7 @@ fn walked(file: &[u8], wanted: Option<u32>) -> Result<Walk<'_>, Refusal> {
         wanted,
         found: None,
     };
-    walk.known(FIGURE_ROW, 0, length)?;
+    walk.known(FIGURE_ROW, 0, &file[HEADER..])?;
     walk.counts.headers = HEADER * walk.counts.records;
     Ok(walk)
 }
@@ -96,42 +96,34 @@ impl Parent {
 impl Walk<'_> {
     /// Walks the children from an offset to the parent's end, and judges what
     /// must be there; depth is bounded by the table, siblings take no stack.
-    fn children(&mut self, parent: &mut Parent, mut at: usize) -> Result<(), Refusal> {
+    fn children(&mut self, parent: &mut Parent, start: usize) -> Result<(), Refusal> {
         let mut skipped = 0;
-        while at < parent.end {
-            let (identifier, length) = self.header(at, parent.end)?;
+        let mut rest = &self.file[start..parent.end];
+        while !rest.is_empty() {
+            let at = parent.end - rest.len();
+            let (identifier, length) = child(rest, at)?;
             match row(identifier) {
                 None => skipped += length,
                 Some(row) => {
                     parent.take(row, at)?;
-                    self.known(row, at, at + length)?;
+                    self.known(row, at, &rest[HEADER..length])?;
                 }
             }
-            at += length;
+            rest = &rest[length..];
         }
         self.counts.skipped += skipped;
         Number::Missing.unless(parent.needs & !parent.seen == 0, parent.chunk)
     }
 
-    /// The header of the child at an offset, or 6, 4 or 5.
-    #[inline(always)]
-    fn header(&self, at: usize, end: usize) -> Result<(u16, usize), Refusal> {
-        let rest = &self.file[at..end];
-        let (identifier, length) = header(rest).ok_or(Number::Stray.at(at))?;
-        Number::Short.unless(length >= HEADER, at)?;
-        Number::Overrun.unless(length <= rest.len(), at)?;
-        Ok((identifier, length))
-    }
-
     /// Judges and counts a known chunk that stands in its place.
     #[inline(always)]
-    fn known(&mut self, row: &Row, at: usize, end: usize) -> Result<(), Refusal> {
-        let own = self.mesh.own(row, &self.file[at + HEADER..end], at)?;
+    fn known(&mut self, row: &Row, at: usize, body: &[u8]) -> Result<(), Refusal> {
+        let own = self.mesh.own(row, body, at)?;
         self.counts.records += 1;
         self.counts.own += own;
         match row.holds {
             0 => Ok(()),
-            _ => self.inside(row, at, own, end),
+            _ => self.inside(row, at, own, at + HEADER + body.len()),
         }
     }
 
@@ -173,4 +165,13 @@ impl Walk<'_> {
         }
         self.meshes += 1;
     }
+}
+
+/// Identifier and length of the child that some bytes begin with, or 6, 4 or 5.
+#[inline(always)]
+fn child(rest: &[u8], at: usize) -> Result<(u16, usize), Refusal> {
+    let (identifier, length) = header(rest).ok_or(Number::Stray.at(at))?;
+    Number::Short.unless(length >= HEADER, at)?;
+    Number::Overrun.unless(length <= rest.len(), at)?;
+    Ok((identifier, length))
 }

@@ -90,45 +90,78 @@ const fn under(place: u16, own: Own) -> Row {
     }
 }
 
-/// The row of an identifier, if it is listed.
+/// The rows, each with the identifiers that have it.
 #[rustfmt::skip]
+const ROWS: [(&[u16], Row); 34] = [
+    (&[0x4D4D],                                 under(FILE, Bytes(0)).plus(H4D4D).needs(2)),
+    (&[0x0002],                                 under(H4D4D, Bytes(4)).once(1)),
+    (&[0x3D3D],                                 under(H4D4D, Bytes(0)).plus(H3D3D).once(2)),
+    (&[0x3D3E, 0x1400, 0x1450, 0x1460],         under(H3D3D, Bytes(4))),
+    (&[0x1420],                                 under(H3D3D, Bytes(2))),
+    (&[0x1470],                                 under(H3D3D, Bytes(0))),
+    (&[0x2100],                                 under(H3D3D, Bytes(0)).plus(H2100)),
+    (&[0xAFFF],                                 under(H3D3D, Bytes(0)).plus(HAFFF).needs(1)),
+    (&[0xA000],                                 under(HAFFF, Name).once(1)),
+    (&[0xA010],                                 under(HAFFF, Bytes(0)).plus(HA010)),
+    (&[0xA020],                                 under(HAFFF, Bytes(0)).plus(HA020)),
+    (&[0xA030],                                 under(HAFFF, Bytes(0)).plus(HA030)),
+    (&[0xA040],                                 under(HAFFF, Bytes(0)).plus(HA040)),
+    (&[0x0010, 0x0013],                         under(COLOURED, Bytes(12))),
+    (&[0x0011, 0x0012],                         under(COLOURED, Bytes(3))),
+    (&[0x0030],                                 under(HA040, Bytes(2))),
+    (&[0x0031],                                 under(HA040, Bytes(4))),
+    (&[0x4000],                                 under(H3D3D, Name).plus(H4000)),
+    (&[0x4010, 0x4012, 0x4013, 0x4015, 0x4017], under(H4000, Bytes(0))),
+    (&[0x4100],                                 under(H4000, Bytes(0)).plus(H4100).once(1)),
+    (&[0x4110],                                 under(H4100, Vertices).once(1)),
+    (&[0x4120],                                 under(H4100, Faces).plus(H4120).once(2)),
+    (&[0x4130],                                 under(H4120, Group)),
+    (&[0x4150],                                 under(H4120, Smoothing).once(1)),
+    (&[0x4140],                                 under(H4100, Mapping).once(4)),
+    (&[0x4160],                                 under(H4100, Bytes(48)).once(8)),
+    (&[0x4165],                                 under(H4100, Bytes(1)).once(16)),
+    (&[0x4600],                                 under(H4000, Bytes(12)).plus(H4600).once(1)),
+    (&[0x4610],                                 under(H4600, Bytes(20)).plus(H4610).once(1)),
+    (&[0x4620],                                 under(H4600, Bytes(0))),
+    (&[0x4651],                                 under(H4610, Bytes(0))),
+    (&[0x4653],                                 under(H4610, Name)),
+    (&[0x4656],                                 under(H4610, Bytes(4))),
+    (&[0x4700],                                 under(H4000, Bytes(32)).plus(H4700).once(1)),
+];
+
+/// The rows by their numbers, close together.
+static TABLE: [Row; ROWS.len()] = {
+    let mut table = [ROWS[0].1; ROWS.len()];
+    let mut number = 0;
+    while number < ROWS.len() {
+        table[number] = ROWS[number].1;
+        number += 1;
+    }
+    table
+};
+
+/// The number of each identifier's row, counted from 1, so that one look tells
+/// it; 0 for the unlisted.
+static NUMBERS: [u8; 65_536] = {
+    let mut numbers = [0; 65_536];
+    let mut number = 0;
+    while number < ROWS.len() {
+        let identifiers = ROWS[number].0;
+        let mut which = 0;
+        while which < identifiers.len() {
+            numbers[identifiers[which] as usize] = number as u8 + 1;
+            which += 1;
+        }
+        number += 1;
+    }
+    numbers
+};
+
+/// The row of an identifier, if it is listed.
 #[inline(always)]
 pub const fn row(identifier: u16) -> Option<&'static Row> {
-    Some(match identifier {
-        0x4D4D                                     => const { &under(FILE, Bytes(0)).plus(H4D4D).needs(2) },
-        0x0002                                     => const { &under(H4D4D, Bytes(4)).once(1) },
-        0x3D3D                                     => const { &under(H4D4D, Bytes(0)).plus(H3D3D).once(2) },
-        0x3D3E | 0x1400 | 0x1450 | 0x1460          => const { &under(H3D3D, Bytes(4)) },
-        0x1420                                     => const { &under(H3D3D, Bytes(2)) },
-        0x1470                                     => const { &under(H3D3D, Bytes(0)) },
-        0x2100                                     => const { &under(H3D3D, Bytes(0)).plus(H2100) },
-        0xAFFF                                     => const { &under(H3D3D, Bytes(0)).plus(HAFFF).needs(1) },
-        0xA000                                     => const { &under(HAFFF, Name).once(1) },
-        0xA010                                     => const { &under(HAFFF, Bytes(0)).plus(HA010) },
-        0xA020                                     => const { &under(HAFFF, Bytes(0)).plus(HA020) },
-        0xA030                                     => const { &under(HAFFF, Bytes(0)).plus(HA030) },
-        0xA040                                     => const { &under(HAFFF, Bytes(0)).plus(HA040) },
-        0x0010 | 0x0013                            => const { &under(COLOURED, Bytes(12)) },
-        0x0011 | 0x0012                            => const { &under(COLOURED, Bytes(3)) },
-        0x0030                                     => const { &under(HA040, Bytes(2)) },
-        0x0031                                     => const { &under(HA040, Bytes(4)) },
-        0x4000                                     => const { &under(H3D3D, Name).plus(H4000) },
-        0x4010 | 0x4012 | 0x4013 | 0x4015 | 0x4017 => const { &under(H4000, Bytes(0)) },
-        0x4100                                     => const { &under(H4000, Bytes(0)).plus(H4100).once(1) },
-        0x4110                                     => const { &under(H4100, Vertices).once(1) },
-        0x4120                                     => const { &under(H4100, Faces).plus(H4120).once(2) },
-        0x4130                                     => const { &under(H4120, Group) },
-        0x4150                                     => const { &under(H4120, Smoothing).once(1) },
-        0x4140                                     => const { &under(H4100, Mapping).once(4) },
-        0x4160                                     => const { &under(H4100, Bytes(48)).once(8) },
-        0x4165                                     => const { &under(H4100, Bytes(1)).once(16) },
-        0x4600                                     => const { &under(H4000, Bytes(12)).plus(H4600).once(1) },
-        0x4610                                     => const { &under(H4600, Bytes(20)).plus(H4610).once(1) },
-        0x4620                                     => const { &under(H4600, Bytes(0)) },
-        0x4651                                     => const { &under(H4610, Bytes(0)) },
-        0x4653                                     => const { &under(H4610, Name) },
-        0x4656                                     => const { &under(H4610, Bytes(4)) },
-        0x4700                                     => const { &under(H4000, Bytes(32)).plus(H4700).once(1) },
-        _ => return None,
-    })
+    match NUMBERS[identifier as usize] {
+        0 => None,
+        number => Some(&TABLE[number as usize - 1]),
+    }
 }

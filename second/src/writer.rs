@@ -1,7 +1,7 @@
 //! The writer of a bare figure of one mesh: six chunks, flag words 0, from
 //! a name, a row of floats and a row of corners.
 
-use crate::bytes::{finite, highest};
+use crate::bytes::finite;
 use crate::{Number, Refusal, HEADER, LIMIT};
 
 /// The most numbers in a row: a count word holds 65,535 vertices or faces.
@@ -67,7 +67,8 @@ pub fn finite_row(floats: &[f32]) -> Result<(), Refusal> {
 
 /// 12 for a number that is not below a count; looked for in the same way.
 pub fn corners_row(corners: &[u16], count: usize) -> Result<(), Refusal> {
-    match corners.is_empty() || highest(corners.iter().copied()) < count {
+    let highest = corners.iter().copied().fold(0, u16::max);
+    match corners.is_empty() || usize::from(highest) < count {
         true => Ok(()),
         false => refused(Number::Index, corners, |corner| {
             usize::from(*corner) >= count

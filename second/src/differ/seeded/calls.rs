@@ -3,7 +3,7 @@
 
 use super::reader::{read, Read};
 use super::{writer, Error, Seeded};
-use crate::boundary::{refused, Boundary, Chunk};
+use crate::boundary::{answer, Boundary, Chunk};
 use crate::differ::facts::Mesh;
 use crate::{Number, Refusal};
 
@@ -68,13 +68,6 @@ impl Boundary for Seeded {
 
     fn write(&self, name: &[u8], vertices: &[f32], corners: &[u16], out: &mut [u8]) -> u64 {
         answer(writer::write(*self, name, vertices, corners, out))
-    }
-}
-
-fn answer(result: Result<usize, Refusal>) -> u64 {
-    match result {
-        Ok(count) => count as u64,
-        Err(refusal) => refused(refusal.number, refusal.place),
     }
 }
 
