@@ -4,7 +4,7 @@
 use second::boundary::Second;
 use second::differ::compare::Pair;
 use second::differ::run::{Failure, Plan, Tally};
-use second::differ::{c4ds, cobs, figures, slips};
+use second::differ::{c4ds, cobs, figures, slips, sums};
 
 /// A small run that prints nothing.
 const PLAN: Plan = Plan {
@@ -40,8 +40,15 @@ fn errors_in_slips_are_seen() {
             &mut Pair::new(Second, slips::erring::Erring { error }),
         )
     };
-    agrees(run(None), &[0, 1, 18, 19]);
+    agrees(run(None), &[0, 18]);
     all_seen(slips::erring::ERRORS, |error| run(Some(error)));
+}
+
+#[test]
+fn errors_in_sums_are_seen() {
+    let run = |error| sums::run(PLAN, &mut Pair::new(Second, sums::erring::Erring { error }));
+    agrees(run(None), &[0, 1, 19]);
+    all_seen(sums::erring::ERRORS, |error| run(Some(error)));
 }
 
 #[test]

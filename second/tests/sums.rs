@@ -1,16 +1,16 @@
 //! Fletcher's sums from their definition, the check of a file against an entry,
 //! and files in parts; each asked of both sides.
 
-use second::boundary::{refused, Second, SlipRight, Slips};
+use second::boundary::{refused, Second, SumRight, Summing};
 use second::LIMIT;
 
 /// The most that a state says of a length.
 const MOST: u64 = (1 << 48) - 1;
 
 /// What both sides answer, which is the same.
-fn both(call: impl Fn(&dyn Slips) -> u64) -> u64 {
+fn both(call: impl Fn(&dyn Summing) -> u64) -> u64 {
     let answer = call(&Second);
-    assert_eq!(call(&SlipRight::default()), answer, "right, left");
+    assert_eq!(call(&SumRight::default()), answer, "right, left");
     answer
 }
 

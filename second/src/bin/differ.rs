@@ -2,13 +2,13 @@
 //! some files turned, or all figures in some folders.
 
 use second::boundary::{
-    Boundary, C4dRight, CobRight, FigureRight, Right, Second, SlipRight, C4DS_LINKED, COBS_LINKED,
-    FIGURES_LINKED, LINKED, SLIPS_LINKED,
+    Boundary, C4dRight, CobRight, FigureRight, Right, Second, SlipRight, SumRight, C4DS_LINKED,
+    COBS_LINKED, FIGURES_LINKED, LINKED, SLIPS_LINKED, SUMS_LINKED,
 };
 use second::differ::compare::Pair;
 use second::differ::run::{add, run, words, Failure, Plan, Tally};
 use second::differ::seeded::{Seeded, ERRORS};
-use second::differ::{c4ds, cobs, figures, real, slips, turned};
+use second::differ::{c4ds, cobs, figures, real, slips, sums, turned};
 use std::path::Path;
 use std::process::ExitCode;
 use std::time::Instant;
@@ -79,7 +79,10 @@ fn plan(arguments: &[&str]) -> Option<Plan> {
 /// The runs over other formats: what they are over, whether the library under
 /// test has the calls, and the run.
 type Other = (&'static str, bool, fn(Plan) -> Result<Tally, Box<Failure>>);
-const OTHERS: [Other; 4] = [
+const OTHERS: [Other; 5] = [
+    ("sums", SUMS_LINKED, |plan| {
+        sums::run(plan, &mut Pair::new(Second, SumRight::default()))
+    }),
     ("slips", SLIPS_LINKED, |plan| {
         slips::run(plan, &mut Pair::new(Second, SlipRight::default()))
     }),

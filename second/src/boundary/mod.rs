@@ -21,6 +21,7 @@ mod c4ds;
 mod cobs;
 mod figures;
 mod slips;
+mod sums;
 
 pub(crate) use c4ds::c4d_list_of;
 pub use c4ds::{C4dRight, C4ds, C4DS_LINKED, OBJECT_BYTES};
@@ -28,6 +29,7 @@ pub(crate) use cobs::{cob_list_of, cob_sizes_of, cob_tables_of};
 pub use cobs::{CobRight, Cobs, COBS_LINKED, COB_RECORD_BYTES};
 pub use figures::{FigureRight, Figures, Rows, FIGURES_LINKED};
 pub use slips::{SlipRight, Slips, ENTRY_BYTES, SLIPS_LINKED};
+pub use sums::{SumRight, Summing, SUMS_LINKED};
 
 use crate::{bounding_box, check, list, name, tables, write, Refusal, RECORD};
 

@@ -1,39 +1,21 @@
-//! The calls over slips and sums.
+//! The calls over slips.
 
 use super::{answer, numbers, put, Second};
-use crate::{read_slip, sums, write_slip, Entry, Number, Refusal, Sums};
+use crate::{read_slip, write_slip, Entry, Number, Refusal};
 
 /// The bytes of one entry on the boundary: where its name stands, the name's
 /// length, the file's length, its sums.
 pub const ENTRY_BYTES: usize = 16;
 
-/// The calls over slips and sums.
+/// The calls over slips.
 pub trait Slips {
-    /// The first sum, and 256 times the second.
-    fn sums(&self, file: &[u8]) -> u64;
-    /// 0 if a file is that of an entry.
-    fn matches(&self, file: &[u8], length: u32, sums: u32) -> u64;
     /// The count of entries, now in the slice.
     fn slip_read(&self, slip: &[u8], entries: &mut [u8]) -> u64;
     /// The size of the slip, now in the slice.
     fn slip_write(&self, names: &[u8], entries: &[u8], out: &mut [u8]) -> u64;
-    /// The state of what stood before with a part behind it; never a refusal.
-    fn sum_add(&self, before: u64, part: &[u8]) -> u64;
-    /// The state of two parts joined; never a refusal.
-    fn sum_join(&self, first: u64, second: u64) -> u64;
-    /// 0 if what a state speaks of is the file of an entry.
-    fn sum_matches(&self, sum: u64, length: u32, sums: u32) -> u64;
 }
 
 impl Slips for Second {
-    fn sums(&self, file: &[u8]) -> u64 {
-        answer(sums(file).map(|sums| sums.number() as usize))
-    }
-
-    fn matches(&self, file: &[u8], length: u32, sums: u32) -> u64 {
-        answer(Sums::of(file).matches(length, sums).map(|()| 0))
-    }
-
     fn slip_read(&self, slip: &[u8], entries: &mut [u8]) -> u64 {
         answer(read_slip(slip).and_then(|read| {
             let count = read.len();
@@ -58,18 +40,6 @@ impl Slips for Second {
             out[..size].copy_from_slice(&slip);
             Ok(size)
         }))
-    }
-
-    fn sum_add(&self, before: u64, part: &[u8]) -> u64 {
-        Sums::of_state(before).followed_by(part).state()
-    }
-
-    fn sum_join(&self, first: u64, second: u64) -> u64 {
-        Sums::of_state(first).joined(Sums::of_state(second)).state()
-    }
-
-    fn sum_matches(&self, sum: u64, length: u32, sums: u32) -> u64 {
-        answer(Sums::of_state(sum).matches(length, sums).map(|()| 0))
     }
 }
 
@@ -104,8 +74,6 @@ mod linked {
     use crate::boundary::linked::{lend, read, Tds};
 
     extern "C" {
-        fn tds_sums(file: *const u8, file_len: usize) -> u64;
-        fn tds_matches(file: *const u8, file_len: usize, length: u32, sums: u32) -> u64;
         fn tds_slip_read(slip: *const u8, slip_len: usize, entries: *mut u8, len: usize) -> u64;
         fn tds_slip_write(
             names: *const u8,
@@ -115,21 +83,10 @@ mod linked {
             out: *mut u8,
             out_len: usize,
         ) -> u64;
-        fn tds_sum_add(before: u64, part: *const u8, part_len: usize) -> u64;
-        fn tds_sum_join(first: u64, second: u64) -> u64;
-        fn tds_sum_matches(sum: u64, length: u32, sums: u32) -> u64;
     }
 
     // As for the calls over figures: the slices live through each call.
     impl Slips for Tds {
-        fn sums(&self, file: &[u8]) -> u64 {
-            unsafe { tds_sums(read(file, &[0]), file.len()) }
-        }
-
-        fn matches(&self, file: &[u8], length: u32, sums: u32) -> u64 {
-            unsafe { tds_matches(read(file, &[0]), file.len(), length, sums) }
-        }
-
         fn slip_read(&self, slip: &[u8], entries: &mut [u8]) -> u64 {
             let (len, mut some) = (entries.len(), [0; 8]);
             let entries = lend(entries, &mut some);
@@ -142,18 +99,6 @@ mod linked {
             let (a, a_len) = (read(names, &[0]), names.len());
             let (b, b_len) = (read(entries, &[0]), entries.len());
             unsafe { tds_slip_write(a, a_len, b, b_len, out, len) }
-        }
-
-        fn sum_add(&self, before: u64, part: &[u8]) -> u64 {
-            unsafe { tds_sum_add(before, read(part, &[0]), part.len()) }
-        }
-
-        fn sum_join(&self, first: u64, second: u64) -> u64 {
-            unsafe { tds_sum_join(first, second) }
-        }
-
-        fn sum_matches(&self, sum: u64, length: u32, sums: u32) -> u64 {
-            unsafe { tds_sum_matches(sum, length, sums) }
         }
     }
 }

@@ -37,5 +37,6 @@ pub mod run;
 pub mod seeded;
 pub mod shrink;
 pub mod slips;
+pub mod sums;
 pub mod turned;
 pub mod writing;

@@ -1,10 +1,9 @@
-//! Both sides over slips and sums: grown slips and every bit of small ones
-//! turned, entries to be written, and files cut into parts.
+//! Both sides over slips: grown ones, every bit of small ones turned, and
+//! entries to be written.
 
 mod asked;
 pub mod erring;
 mod grow;
-mod parts;
 
 use super::compare::Pair;
 use super::lent::Difference;
@@ -18,7 +17,7 @@ const STREAM: u64 = 200;
 
 /// Runs all families of slips.
 pub fn run<L: Slips, R: Slips>(plan: Plan, pair: &mut Pair<L, R>) -> Result<Tally, Box<Failure>> {
-    let kinds: [Kind<Pair<L, R>>; 7] = [
+    let kinds: [Kind<Pair<L, R>>; 4] = [
         Kind("Slips", "slips, right and wrong", 500, 600, any),
         Kind(
             "SlipBits",
@@ -29,15 +28,6 @@ pub fn run<L: Slips, R: Slips>(plan: Plan, pair: &mut Pair<L, R>) -> Result<Tall
         ),
         Kind("SlipsLong", "1,000 entries and one more", 2, 24, long),
         Kind("Entries", "entries written", 500, 600, asked::entries),
-        Kind("Sums", "files against entries", 300, 300, parts::entry),
-        Kind("Parts", "files cut into parts", 300, 300, parts::cuts),
-        Kind(
-            "States",
-            "states of any kind joined",
-            500,
-            300,
-            parts::states,
-        ),
     ];
     plan.all(STREAM, &kinds, pair)
 }

@@ -1,16 +1,16 @@
 //! Sums on both sides: a file against its entry and against others, every cut
 //! of small files, some cuts of large ones, and states of any kind.
 
-use crate::boundary::{refused, Slips};
+use crate::boundary::{refused, Summing};
 use crate::differ::compare::Pair;
 use crate::differ::lent::{hex, spoken, Difference};
 use crate::differ::random::Random;
 
 /// Makes a call that lends nothing on both sides; the answer, if it is one.
-fn agree<L: Slips, R: Slips>(
+fn agree<L: Summing, R: Summing>(
     pair: &Pair<L, R>,
     words: impl FnOnce() -> String,
-    call: impl Fn(&dyn Slips) -> u64,
+    call: impl Fn(&dyn Summing) -> u64,
 ) -> Result<u64, Difference> {
     let [left, right] = [call(&pair.left), call(&pair.right)];
     match left == right {
@@ -59,7 +59,7 @@ fn file(random: &mut Random) -> Vec<u8> {
 }
 
 /// A file against its own entry, with one bit turned, and against others.
-pub fn entry<L: Slips, R: Slips>(
+pub fn entry<L: Summing, R: Summing>(
     _: u64,
     random: &mut Random,
     pair: &mut Pair<L, R>,
@@ -98,7 +98,7 @@ pub fn entry<L: Slips, R: Slips>(
 }
 
 /// A file cut into parts: each cut of a small one in two, and in many.
-pub fn cuts<L: Slips, R: Slips>(
+pub fn cuts<L: Summing, R: Summing>(
     _: u64,
     random: &mut Random,
     pair: &mut Pair<L, R>,
@@ -147,7 +147,7 @@ pub fn cuts<L: Slips, R: Slips>(
 }
 
 /// States that no file has: sum bytes of 255, lengths up to the most.
-pub fn states<L: Slips, R: Slips>(
+pub fn states<L: Summing, R: Summing>(
     _: u64,
     random: &mut Random,
     pair: &mut Pair<L, R>,

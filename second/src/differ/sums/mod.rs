@@ -1,0 +1,31 @@
+//! Both sides over sums: files against entries, files cut into parts, and
+//! states of any kind.
+
+pub mod erring;
+mod parts;
+
+use super::compare::Pair;
+use super::run::{Failure, Kind, Plan, Tally};
+use crate::boundary::Summing;
+
+/// The first stream of numbers of these families.
+const STREAM: u64 = 600;
+
+/// Runs all families of sums.
+pub fn run<L: Summing, R: Summing>(
+    plan: Plan,
+    pair: &mut Pair<L, R>,
+) -> Result<Tally, Box<Failure>> {
+    let kinds: [Kind<Pair<L, R>>; 3] = [
+        Kind("Sums", "files against entries", 300, 300, parts::entry),
+        Kind("Parts", "files cut into parts", 300, 300, parts::cuts),
+        Kind(
+            "States",
+            "states of any kind joined",
+            500,
+            300,
+            parts::states,
+        ),
+    ];
+    plan.all(STREAM, &kinds, pair)
+}
