@@ -11,7 +11,14 @@
 #include "longpath.h"
 #include "refusals.h"
 
-enum { OPTION_JSON = 256, OPTION_AGAINST, OPTION_COPY, OPTION_BATCH, OPTION_LOG };
+enum {
+    OPTION_JSON = 256,
+    OPTION_AGAINST,
+    OPTION_COPY,
+    OPTION_BATCH,
+    OPTION_LOG,
+    OPTION_WRITE_SLIP
+};
 
 static const struct option names[] = {
     {"help", no_argument, NULL, 'h'},

@@ -27,6 +27,7 @@ enum outcome {
     FOUND_MISSING,   /* on the slip or in the master, and not here */
     FOUND_EXTRA,     /* here, and not on the slip or in the master */
     FOUND_LEFT_BEHIND,
+    FOUND_BROKEN_SLIP,
     FOUND_UNCHECKED,
     OUTCOMES
 };
@@ -71,6 +72,10 @@ void report_free(struct report *report);
 
 /* Counts a finding and says it, where it is to be said. */
 void report_add(struct report *report, const struct finding *finding);
+
+/* The same, for one that is but words. */
+void report_found(struct report *report, enum outcome outcome, const char *path, const char *words,
+                  const char *remedy);
 
 /* Something was "not checked" or "not copied", and why. */
 void report_trouble(struct report *report, const char *path, const char *label,

@@ -537,7 +537,7 @@ memory=$RUN
 RUN=
 number=0
 for name in 'TOO LONG' 'NOT A FIGURE' TRAILING SHORT OVERRUN STRAY MISPLACED TWICE NAME LENGTH NUMBER \
-    INDEX COUNT MISSING 'NO ROOM' 'NO SUCH MESH' EMPTY; do
+    INDEX COUNT MISSING 'NO ROOM' 'NO SUCH MESH' EMPTY SLIP DIFFERS; do
     number=$((number + 1))
     stick --explain "$number"
     status_is 0
@@ -555,12 +555,12 @@ for name in 'TOO LONG' 'NOT A FIGURE' TRAILING SHORT OVERRUN STRAY MISPLACED TWI
     stick -q "samples/damaged/$file"
     has out ": refused: $name ($number): ${sentence%.}, at byte "
 done
-for number in 0 18 -1 x 5x '' 99999999999999999999; do
+for number in 0 31 -1 x 5x '' 99999999999999999999; do
     try "--explain $number"
     stick --explain "$number"
     status_is 2
     has err 'stick: there is no refusal '
-    has err 'They are numbered 1 to 17.'
+    has err 'They are numbered 1 to 19.'
 done
 RUN=$memory
 try '--explain by name'
