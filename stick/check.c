@@ -3,6 +3,7 @@
 
 #include <errno.h>
 #include <stdlib.h>
+#include <string.h>
 
 #include "slip.h"
 #include "stop.h"
@@ -20,8 +21,9 @@ struct check {
     struct slip slip;
     struct presence in_master;
     struct presence on_slip;
-    bool in_folder; /* the root is a folder, not one file */
-    bool readable;  /* its names could be read */
+    struct manifest *files; /* gets all files, if not NULL */
+    bool in_folder;         /* the root is a folder, not one file */
+    bool readable;          /* its names could be read */
     bool given_up;
     unsigned in_a_row;
     unsigned long figures; /* met so far, checked or not */
@@ -46,6 +48,17 @@ static void could_not_for_words(struct check *check, const char *path, const cha
     could_not(check, path, &trouble);
 }
 
+/* Takes a file up for a slip. */
+static void collect(struct check *check, const struct subject *subject) {
+    unsigned long long length = subject->sum >> 16;
+    if (length > UINT32_MAX) {
+        could_not_for_words(check, subject->path, "it is too big for a slip", "leave it off");
+    } else {
+        manifest_add(check->files, subject->below, strlen(subject->below), (uint32_t)length,
+                     (uint32_t)(subject->sum & 0xFFFF));
+    }
+}
+
 static void check_file(struct check *check, struct subject *subject) {
     struct row row = {check->root, CHECKING, check->figures, check->report->count[FOUND_REFUSED]};
     struct trouble trouble;
@@ -56,8 +69,12 @@ static void check_file(struct check *check, struct subject *subject) {
     }
     check->in_a_row = 0;
     check->report->from_memory = check->report->from_memory || !subject->settled;
-    if (!stopped()) { /* else it may not have been read to its end */
-        tell_of(check->report, subject, check->against->again);
+    if (stopped()) {
+        return; /* it may not have been read to its end */
+    }
+    tell_of(check->report, subject, check->against->again);
+    if (check->files != NULL) {
+        collect(check, subject);
     }
 }
 
@@ -90,11 +107,13 @@ static bool is_extra(struct check *check, const struct subject *subject) {
 
 /* A file is read if it can be judged by itself or compared with another. */
 static void judge_file(struct check *check, struct subject *subject) {
+    bool to_collect = check->files != NULL && subject->kind == KIND_OTHER;
     check->figures += subject->kind == KIND_FIGURE || subject->kind == KIND_NO_READER;
     if (is_extra(check, subject)) {
         return;
     }
-    if (subject->kind == KIND_FIGURE || subject->master != NULL || subject->entry != NULL) {
+    if (subject->kind == KIND_FIGURE || subject->master != NULL || subject->entry != NULL ||
+        to_collect) {
         check_file(check, subject);
     } else {
         pass_by(check, subject);
@@ -129,7 +148,7 @@ static void look_at_file(struct check *check, const struct entry *entry) {
                               .list = check->report->style->list,
                               .master = master,
                               .entry = presence_meet(&check->on_slip, below)};
-    subject.summed = subject.entry != NULL;
+    subject.summed = subject.entry != NULL || check->files != NULL;
     if (subject.kind == KIND_LEFT_BEHIND) {
         report_found(check->report, FOUND_LEFT_BEHIND, entry->path, NULL, "delete it");
     } else if (check->in_folder && is_slip(below)) {
@@ -245,8 +264,10 @@ static void take_slip(struct check *check) {
     check->report->bare = slip->state == SLIP_NONE && check->in_master.manifest == NULL;
 }
 
-void check_stick(const char *root, const struct against *against, struct report *report) {
-    struct check check = {.root = root, .against = against, .report = report, .readable = true};
+void check_stick(const char *root, const struct against *against, struct manifest *files,
+                 struct report *report) {
+    struct check check = {
+        .root = root, .against = against, .report = report, .files = files, .readable = true};
     struct entry entry;
     presence_start(&check.in_master, against->folder == NULL ? NULL : against->manifest);
     take_slip(&check);

@@ -112,7 +112,7 @@ static const struct refusal table[] = {
      "there twice. The place is where the bad entry begins, or 0 for the first bytes.\n",
      "copy the slip again",
      "Copy the slip again from the master and check once more. If the new copy is\n"
-     "broken too, the master's slip is: it must be made anew.\n"},
+     "broken too, delete it on the master and write it anew (--write-slip).\n"},
     {TDS_DIFFERS, "DIFFERS", "a file is not the one that the slip speaks of",
      "The slip has the length and two sums of each file. Of this file one of them is\n"
      "another (place 0: the length, 1: the sums), so at least one of its bytes is. A\n"

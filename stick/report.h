@@ -56,13 +56,14 @@ struct report {
     struct screen *screen;
     size_t job;
     unsigned long count[OUTCOMES];
-    unsigned long figures; /* those that the reader accepted or refused */
-    struct names near;     /* files that are almost named as figures */
-    struct names unknown;  /* files of no known kind that nothing was said about */
-    unsigned long folders; /* 1; the sum of several reports has more */
-    unsigned long unwell;  /* of a sum: those in which not all is well */
-    unsigned long bare;    /* folders with nothing to compare with: structure only */
-    bool from_memory;      /* some file could not be read from the stick itself */
+    unsigned long figures;    /* those that the reader accepted or refused */
+    struct names near;        /* files that are almost named as figures */
+    struct names unknown;     /* files of no known kind that nothing was said about */
+    unsigned long folders;    /* 1; the sum of several reports has more */
+    unsigned long unwell;     /* of a sum: those in which not all is well */
+    unsigned long bare;       /* folders with nothing to compare with: structure only */
+    unsigned long slip_files; /* on the slips that were written */
+    bool from_memory;         /* some file could not be read from the stick itself */
     bool unfinished;
 };
 

@@ -16,8 +16,7 @@ bool is_slip(const char *below) {
     return strcasecmp(below, SLIP_NAME) == 0;
 }
 
-/* Whether a name is fit for a slip: as on a label, 1 to 63 plain characters. */
-static bool fits_slip(const uint8_t *name, size_t length) {
+bool fits_slip(const uint8_t *name, size_t length) {
     for (size_t i = 0; i < length; i++) {
         if (name[i] < ' ' || name[i] > '~') {
             return false;

@@ -71,6 +71,10 @@ static void add_uncovered(struct text *line, const struct report *report) {
         text_format(line, "; structure only on %lu of %lu: no slip there", report->bare,
                     report->folders);
     }
+    if (report->slip_files > 0) {
+        text_format(line, "; a slip was written, with %lu file%s", report->slip_files,
+                    report->slip_files == 1 ? "" : "s");
+    }
     if (report->unknown.count > 0) {
         text_format(line, "; %lu of no known kind not looked at", report->unknown.count);
     }

@@ -579,7 +579,7 @@ try '--help'
 stick --help
 status_is 0
 lines err 0
-for option in --help --version --quiet --list --explain --verbose --json --against --copy --batch --log FOLDER; do has out "$option"; done
+for option in --help --version --quiet --list --explain --verbose --json --against --copy --write-slip --batch --log FOLDER; do has out "$option"; done
 widest=$(awk '{ if (length($0) > most) most = length($0) } END { print most }' "$T/out")
 if [ "$widest" -le 80 ]; then pass; else fail "a line of $widest characters"; fi
 try '--version'
