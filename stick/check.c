@@ -3,10 +3,11 @@
 
 #include <errno.h>
 #include <stdlib.h>
+#include <string.h>
 
-#include "refusals.h"
+#include "slip.h"
 #include "stop.h"
-#include "subject.h"
+#include "tell.h"
 #include "walk.h"
 
 enum { MOST_IN_A_ROW = 3 }; /* so often the stick may fail to answer before it is given up */
@@ -17,9 +18,12 @@ struct check {
     struct report *report;
     struct checker checker;
     struct walk walk;
-    bool *seen;     /* of each name in the manifest */
-    bool in_folder; /* the root is a folder, not one file */
-    bool readable;  /* its names could be read */
+    struct slip slip;
+    struct presence in_master;
+    struct presence on_slip;
+    struct manifest *files; /* gets all files, if not NULL */
+    bool in_folder;         /* the root is a folder, not one file */
+    bool readable;          /* its names could be read */
     bool given_up;
     unsigned in_a_row;
     unsigned long figures; /* met so far, checked or not */
@@ -44,47 +48,14 @@ static void could_not_for_words(struct check *check, const char *path, const cha
     could_not(check, path, &trouble);
 }
 
-static void found(struct check *check, enum outcome outcome, const char *path, const char *words,
-                  const char *remedy) {
-    struct finding finding = {.outcome = outcome, .path = path, .words = words, .remedy = remedy};
-    report_add(check->report, &finding);
-}
-
-static void say_refused(struct check *check, const struct subject *subject) {
-    const struct refusal *refusal = refusal_of(TDS_REFUSAL(subject->answer));
-    bool as_master = subject->comparison.wanted && !subject->comparison.different;
-    struct finding finding = {.outcome = FOUND_REFUSED,
-                              .path = subject->path,
-                              .answer = subject->answer,
-                              .remedy = refusal == NULL ? NULL : refusal->remedy};
-    if (as_master) {
-        finding.remedy = "the master is damaged in the same way: tell whoever made the figure";
-    }
-    report_add(check->report, &finding);
-}
-
-static void say_different(struct check *check, const struct subject *subject) {
-    struct text words = {0};
-    text_format(&words, "differs from the master, at byte %llu", subject->comparison.at);
-    found(check, FOUND_DIFFERENT, subject->path, words.bytes, check->against->again);
-    text_free(&words);
-}
-
-static void say_good(struct check *check, const struct subject *subject) {
-    bool listed = subject->kind == KIND_FIGURE && check->report->style->list;
-    struct finding finding = {
-        .outcome = FOUND_OK, .path = subject->path, .totals = listed ? &subject->totals : NULL};
-    report_add(check->report, &finding);
-}
-
-static void say_read(struct check *check, const struct subject *subject) {
-    check->report->figures += subject->kind == KIND_FIGURE;
-    if (TDS_REFUSED(subject->answer)) {
-        say_refused(check, subject);
-    } else if (subject->comparison.different) {
-        say_different(check, subject);
+/* Takes a file up for a slip. */
+static void collect(struct check *check, const struct subject *subject) {
+    unsigned long long length = subject->sum >> 16;
+    if (length > UINT32_MAX) {
+        could_not_for_words(check, subject->path, "it is too big for a slip", "leave it off");
     } else {
-        say_good(check, subject);
+        manifest_add(check->files, subject->below, strlen(subject->below), (uint32_t)length,
+                     (uint32_t)(subject->sum & 0xFFFF));
     }
 }
 
@@ -98,17 +69,18 @@ static void check_file(struct check *check, struct subject *subject) {
     }
     check->in_a_row = 0;
     check->report->from_memory = check->report->from_memory || !subject->settled;
-    if (!stopped()) { /* else it may not have been read to its end */
-        say_read(check, subject);
+    if (stopped()) {
+        return; /* it may not have been read to its end */
+    }
+    tell_of(check->report, subject, check->against->again);
+    if (check->files != NULL) {
+        collect(check, subject);
     }
 }
 
 /* A file that is not read, since there is nothing to judge it by. */
 static void pass_by(struct check *check, const struct subject *subject) {
-    if (check->against->folder != NULL) {
-        found(check, FOUND_EXTRA, subject->path, "not in the master",
-              "delete it, or see that it is the right master");
-    } else if (subject->kind == KIND_NO_READER) {
+    if (subject->kind == KIND_NO_READER) {
         could_not_for_words(check, subject->path, "there is no reader for this kind of figure yet",
                             "compare it with the master (--against)");
     } else if (subject->kind == KIND_NEAR_FIGURE) {
@@ -118,46 +90,74 @@ static void pass_by(struct check *check, const struct subject *subject) {
     }
 }
 
-/* The path of the master's file of the same name, which counts as seen; NULL if there is none. */
-static char *in_master(struct check *check, const struct entry *entry) {
-    const struct against *against = check->against;
-    struct text path = {0};
-    size_t number = against->folder == NULL
-                        ? NOT_EXPECTED
-                        : manifest_find(against->manifest,
-                                        check->in_folder ? entry->below : last_name(entry->path));
-    if (number == NOT_EXPECTED) {
-        return NULL;
+/* Whether it is said of a file that it does not belong on this stick. */
+static bool is_extra(struct check *check, const struct subject *subject) {
+    if (check->in_master.manifest != NULL && subject->master == NULL) {
+        report_found(check->report, FOUND_EXTRA, subject->path, "not in the master",
+                     "delete it, or see that it is the right master");
+        return true;
     }
-    check->seen[number] = true;
-    text_path(&path, against->folder, against->manifest->names[number]);
-    return path.bytes;
+    if (check->on_slip.manifest != NULL && subject->entry == NULL) {
+        report_found(check->report, FOUND_EXTRA, subject->path, "not on the slip",
+                     "delete it, unless it belongs there and the slip is an old one");
+        return true;
+    }
+    return false;
 }
 
 /* A file is read if it can be judged by itself or compared with another. */
-static void judge_or_pass_by(struct check *check, struct subject *subject) {
+static void judge_file(struct check *check, struct subject *subject) {
+    bool to_collect = check->files != NULL && subject->kind == KIND_OTHER;
     check->figures += subject->kind == KIND_FIGURE || subject->kind == KIND_NO_READER;
-    if (subject->master != NULL ||
-        (subject->kind == KIND_FIGURE && check->against->folder == NULL)) {
+    if (is_extra(check, subject)) {
+        return;
+    }
+    if (subject->kind == KIND_FIGURE || subject->master != NULL || subject->entry != NULL ||
+        to_collect) {
         check_file(check, subject);
     } else {
         pass_by(check, subject);
     }
 }
 
+/* The slip has been read already; here it is only compared with the master's, if that has one. */
+static void look_at_slip(struct check *check, struct subject *subject) {
+    subject->summed = false;
+    subject->entry = NULL;
+    if (subject->master != NULL) {
+        check_file(check, subject);
+    }
+}
+
+/* The path of the master's file of the same name, or NULL if there is none. */
+static char *master_of(struct check *check, const char *name) {
+    const struct expected *file = presence_meet(&check->in_master, name);
+    struct text path = {0};
+    if (file != NULL) {
+        text_path(&path, check->against->folder, file->name);
+    }
+    return path.bytes;
+}
+
 static void look_at_file(struct check *check, const struct entry *entry) {
-    char *master = in_master(check, entry);
+    const char *below = check->in_folder ? entry->below : last_name(entry->path);
+    char *master = master_of(check, below);
     struct subject subject = {.path = entry->path,
+                              .below = below,
                               .kind = kind_of(entry->path),
                               .list = check->report->style->list,
-                              .master = master};
+                              .master = master,
+                              .entry = presence_meet(&check->on_slip, below)};
+    subject.summed = subject.entry != NULL || check->files != NULL;
     if (subject.kind == KIND_LEFT_BEHIND) {
-        found(check, FOUND_LEFT_BEHIND, entry->path, NULL, "delete it");
+        report_found(check->report, FOUND_LEFT_BEHIND, entry->path, NULL, "delete it");
+    } else if (check->in_folder && is_slip(below)) {
+        look_at_slip(check, &subject);
     } else {
         if (!check->in_folder && subject.kind != KIND_NO_READER) {
             subject.kind = KIND_FIGURE; /* it was asked for, whatever its name */
         }
-        judge_or_pass_by(check, &subject);
+        judge_file(check, &subject);
     }
     free(master);
 }
@@ -166,7 +166,7 @@ static void look_at_folder(struct check *check, const struct entry *entry) {
     enum kind kind = kind_of(entry->path);
     if (*entry->below != '\0' && kind == KIND_LEFT_BEHIND) {
         walk_pass_over(&check->walk);
-        found(check, FOUND_LEFT_BEHIND, entry->path, NULL, "delete it");
+        report_found(check->report, FOUND_LEFT_BEHIND, entry->path, NULL, "delete it");
     } else if (kind == KIND_FIGURE || kind == KIND_NO_READER) {
         could_not_for_words(check, entry->path,
                             "it is a folder, though it is named as a figure (what is in it is "
@@ -179,7 +179,8 @@ static void look_at_folder(struct check *check, const struct entry *entry) {
  */
 static void look_at_other(struct check *check, const struct entry *entry) {
     struct trouble trouble;
-    free(in_master(check, entry));
+    presence_meet(&check->in_master, entry->below);
+    presence_meet(&check->on_slip, entry->below);
     check->figures += kind_of(entry->path) == KIND_FIGURE;
     if (entry->kind == ENTRY_LINK) {
         trouble_of_system(&trouble, ELOOP);
@@ -211,12 +212,12 @@ static void look_at(struct check *check, const struct entry *entry) {
 }
 
 /* What should have been met and was not. */
-static void say_missing(struct check *check) {
+static void say_missing(struct check *check, const struct presence *presence) {
     struct text path = {0};
-    for (size_t i = 0; check->against->folder != NULL && i < check->against->manifest->count; i++) {
-        if (!check->seen[i]) {
-            text_path(&path, check->root, check->against->manifest->names[i]);
-            found(check, FOUND_MISSING, path.bytes, NULL, "copy it again");
+    for (size_t i = 0; presence->manifest != NULL && i < presence->manifest->count; i++) {
+        if (!presence->met[i]) {
+            text_path(&path, check->root, presence->manifest->entries[i].name);
+            report_found(check->report, FOUND_MISSING, path.bytes, NULL, "copy it again");
         }
     }
     text_free(&path);
@@ -240,18 +241,36 @@ static void at_end(struct check *check) {
         could_not_for_words(check, check->root, "there is no figure (.3ds) in this folder",
                             "see that it is the right folder, and that the edition was copied");
     }
-    say_missing(check);
+    /* What the master has is on its slip too, and is said once. */
+    say_missing(check, check->in_master.manifest != NULL ? &check->in_master : &check->on_slip);
 }
 
-void check_stick(const char *root, const struct against *against, struct report *report) {
-    struct check check = {.root = root, .against = against, .report = report, .readable = true};
-    size_t expected = against->folder == NULL ? 0 : against->manifest->count;
-    struct entry entry;
-    check.seen = need_memory(NULL, expected * sizeof *check.seen);
-    for (size_t i = 0; i < expected; i++) {
-        check.seen[i] = false;
+/* The slip of this stick, if it has one that can be used. */
+static void take_slip(struct check *check) {
+    struct slip *slip = &check->slip;
+    slip_read(slip, check->root);
+    check->report->from_memory = check->report->from_memory || !slip->settled;
+    if (slip->state == SLIP_UNREADABLE) {
+        could_not(check, slip->path, &slip->trouble);
+    } else if (slip->state == SLIP_BROKEN) {
+        struct text words = {0};
+        text_format(&words, "the slip itself is broken (%d), at byte %lu",
+                    TDS_REFUSAL(slip->answer), (unsigned long)TDS_PLACE(slip->answer));
+        report_found(check->report, FOUND_BROKEN_SLIP, slip->path, words.bytes,
+                     "copy the slip again");
+        text_free(&words);
     }
-    report->bare = against->folder == NULL;
+    presence_start(&check->on_slip, slip->state == SLIP_GOOD ? &slip->manifest : NULL);
+    check->report->bare = slip->state == SLIP_NONE && check->in_master.manifest == NULL;
+}
+
+void check_stick(const char *root, const struct against *against, struct manifest *files,
+                 struct report *report) {
+    struct check check = {
+        .root = root, .against = against, .report = report, .files = files, .readable = true};
+    struct entry entry;
+    presence_start(&check.in_master, against->folder == NULL ? NULL : against->manifest);
+    take_slip(&check);
     checker_start(&check.checker);
     walk_start(&check.walk, root);
     while (!stopped() && !check.given_up && walk_next(&check.walk, &entry)) {
@@ -261,5 +280,7 @@ void check_stick(const char *root, const struct against *against, struct report 
     at_end(&check);
     walk_free(&check.walk);
     checker_free(&check.checker);
-    free(check.seen);
+    presence_free(&check.in_master);
+    presence_free(&check.on_slip);
+    slip_free(&check.slip);
 }

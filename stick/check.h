@@ -14,8 +14,10 @@ struct against {
 
 /*
  * Checks every figure below this folder, or this file whatever its name; links are not followed.
- * All that cannot be looked at is reported, and the rest still checked.
+ * All that cannot be looked at is reported, and the rest still checked. A slip in the folder is
+ * used. If `files` is not NULL, it gets every file with its length and sums, for a slip.
  */
-void check_stick(const char *root, const struct against *against, struct report *report);
+void check_stick(const char *root, const struct against *against, struct manifest *files,
+                 struct report *report);
 
 #endif

@@ -117,7 +117,7 @@ static bool copy_all(struct copying *copying, const struct manifest *manifest,
     }
     for (size_t i = 0; i < manifest->count; i++) {
         struct row row = {copying->stick, COPYING, i + 1, 0};
-        set_paths(copying, manifest->names[i]);
+        set_paths(copying, manifest->entries[i].name);
         screen_row(copying->report->screen, copying->report->job, &row);
         if (!stands(copying->to.bytes) && !copy_file(copying, trouble)) {
             return false;

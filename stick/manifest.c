@@ -1,4 +1,4 @@
-/* What should be on a stick: a sorted list of names. */
+/* What should be on a stick: a sorted list of names, and which of them were met. */
 #include "manifest.h"
 
 #include <stdlib.h>
@@ -8,60 +8,92 @@
 #include "kinds.h"
 #include "walk.h"
 
-void manifest_add(struct manifest *manifest, const char *name) {
+void manifest_add(struct manifest *manifest, const char *name, size_t name_length, uint32_t length,
+                  uint32_t sums) {
+    char *copy = need_memory(NULL, name_length + 1);
+    memcpy(copy, name, name_length);
+    copy[name_length] = '\0';
     if (manifest->count == manifest->room) {
         manifest->room = 2 * manifest->room + 16;
-        manifest->names = need_memory(manifest->names, manifest->room * sizeof *manifest->names);
+        manifest->entries =
+            need_memory(manifest->entries, manifest->room * sizeof *manifest->entries);
     }
-    manifest->names[manifest->count] = need_copy(name);
+    manifest->entries[manifest->count] = (struct expected){copy, length, sums};
     manifest->count++;
 }
 
 static int by_letters(const void *left, const void *right) {
-    return strcasecmp(*(char *const *)left, *(char *const *)right);
+    return strcasecmp(((const struct expected *)left)->name,
+                      ((const struct expected *)right)->name);
 }
 
 void manifest_sort(struct manifest *manifest) {
     if (manifest->count > 0) {
-        qsort(manifest->names, manifest->count, sizeof *manifest->names, by_letters);
+        qsort(manifest->entries, manifest->count, sizeof *manifest->entries, by_letters);
     }
 }
 
 void manifest_free(struct manifest *manifest) {
     for (size_t i = 0; i < manifest->count; i++) {
-        free(manifest->names[i]);
+        free(manifest->entries[i].name);
     }
-    free(manifest->names);
+    free(manifest->entries);
     *manifest = (struct manifest){0};
 }
 
-/* Where a master has names that differ only in their letters' case, the very name is looked for. */
+/* Where names differ only in their letters' case, the very name is looked for. */
 static size_t best_of(const struct manifest *manifest, size_t first, const char *name) {
     for (size_t i = first; i < manifest->count; i++) {
-        if (strcasecmp(manifest->names[i], name) != 0) {
+        if (strcasecmp(manifest->entries[i].name, name) != 0) {
             break;
         }
-        if (strcmp(manifest->names[i], name) == 0) {
+        if (strcmp(manifest->entries[i].name, name) == 0) {
             return i;
         }
     }
     return first;
 }
 
-size_t manifest_find(const struct manifest *manifest, const char *name) {
+/* The first place in the sorted list that a name does not stand before. */
+static size_t place_of(const struct manifest *manifest, const char *name) {
     size_t low = 0, high = manifest->count;
     while (low < high) {
         size_t middle = low + (high - low) / 2;
-        if (strcasecmp(manifest->names[middle], name) < 0) {
+        if (strcasecmp(manifest->entries[middle].name, name) < 0) {
             low = middle + 1;
         } else {
             high = middle;
         }
     }
-    if (low == manifest->count || strcasecmp(manifest->names[low], name) != 0) {
-        return NOT_EXPECTED;
+    return low;
+}
+
+void presence_start(struct presence *presence, const struct manifest *manifest) {
+    size_t count = manifest == NULL ? 0 : manifest->count;
+    *presence = (struct presence){manifest, need_memory(NULL, count * sizeof *presence->met)};
+    for (size_t i = 0; i < count; i++) {
+        presence->met[i] = false;
     }
-    return best_of(manifest, low, name);
+}
+
+void presence_free(struct presence *presence) {
+    free(presence->met);
+    *presence = (struct presence){0};
+}
+
+const struct expected *presence_meet(struct presence *presence, const char *name) {
+    const struct manifest *manifest = presence->manifest;
+    size_t place = manifest == NULL ? 0 : place_of(manifest, name);
+    if (manifest == NULL || place == manifest->count ||
+        strcasecmp(manifest->entries[place].name, name) != 0) {
+        return NULL;
+    }
+    place = best_of(manifest, place, name);
+    if (presence->met[place]) {
+        return NULL; /* a second file for it, whose name has letters of another case */
+    }
+    presence->met[place] = true;
+    return &manifest->entries[place];
 }
 
 /* What the walk met that is no file: all but folders is a problem. */
@@ -86,7 +118,7 @@ void manifest_of_folder(struct manifest *manifest, const char *folder, struct re
         if (*entry.below != '\0' && kind_of(entry.path) == KIND_LEFT_BEHIND) {
             walk_pass_over(&walk);
         } else if (entry.kind == ENTRY_FILE) {
-            manifest_add(manifest, *entry.below == '\0' ? last_name(entry.path) : entry.below);
+            manifest_add(manifest, entry.below, strlen(entry.below), 0, 0);
         } else {
             not_a_file(report, &entry);
         }

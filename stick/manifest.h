@@ -1,4 +1,4 @@
-/* What should be on a stick: the files of a master or an edition. */
+/* What should be on a stick: the files of a master, of an edition or of a slip. */
 #ifndef STICK_MANIFEST_H
 #define STICK_MANIFEST_H
 
@@ -6,22 +6,40 @@
 
 #include "report.h"
 
+/* A file that should be there; its length and sums are known from a slip only. */
+struct expected {
+    char *name; /* the path below the folder */
+    uint32_t length;
+    uint32_t sums;
+};
+
 struct manifest {
-    char **names; /* paths below the folder; sorted once manifest_sort was called */
+    struct expected *entries; /* sorted once manifest_sort was called */
     size_t count;
     size_t room;
 };
 
-#define NOT_EXPECTED ((size_t)-1)
-
-void manifest_add(struct manifest *manifest, const char *name);
+void manifest_add(struct manifest *manifest, const char *name, size_t name_length, uint32_t length,
+                  uint32_t sums);
 void manifest_sort(struct manifest *manifest);
 void manifest_free(struct manifest *manifest);
 
-/* The number of a name, or NOT_EXPECTED. Letters of either case are the same, as FAT has it. */
-size_t manifest_find(const struct manifest *manifest, const char *name);
-
 /* All files below a folder, but for what other computers leave. What cannot be read is reported. */
 void manifest_of_folder(struct manifest *manifest, const char *folder, struct report *report);
+
+/* Which of the files in a manifest were met. */
+struct presence {
+    const struct manifest *manifest; /* NULL where nothing is expected */
+    bool *met;
+};
+
+void presence_start(struct presence *presence, const struct manifest *manifest);
+void presence_free(struct presence *presence);
+
+/*
+ * The file of this name, which counts as met; NULL if none is expected, or it was met before.
+ * Letters of either case are the same, as FAT has it.
+ */
+const struct expected *presence_meet(struct presence *presence, const char *name);
 
 #endif

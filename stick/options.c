@@ -11,7 +11,14 @@
 #include "longpath.h"
 #include "refusals.h"
 
-enum { OPTION_JSON = 256, OPTION_AGAINST, OPTION_COPY, OPTION_BATCH, OPTION_LOG };
+enum {
+    OPTION_JSON = 256,
+    OPTION_AGAINST,
+    OPTION_COPY,
+    OPTION_BATCH,
+    OPTION_LOG,
+    OPTION_WRITE_SLIP
+};
 
 static const struct option names[] = {
     {"help", no_argument, NULL, 'h'},
@@ -25,6 +32,7 @@ static const struct option names[] = {
     {"copy", required_argument, NULL, OPTION_COPY},
     {"batch", required_argument, NULL, OPTION_BATCH},
     {"log", required_argument, NULL, OPTION_LOG},
+    {"write-slip", no_argument, NULL, OPTION_WRITE_SLIP},
     {NULL, 0, NULL, 0},
 };
 
@@ -38,6 +46,7 @@ void print_help(void) {
            "      --against MASTER  compare every file with the one in the folder MASTER too\n"
            "      --copy EDITION    first copy what is in EDITION and not in a FOLDER yet,\n"
            "                        then check and compare; nothing there is changed\n"
+           "      --write-slip      where all is well, write a slip that says what is there\n"
            "      --batch N         N sticks one after another at the same FOLDER\n"
            "      --log FILE        where the batch is logged (stick-batch-DATE.log)\n"
            "  -v, --verbose         a line for each good file too\n"
@@ -116,6 +125,9 @@ static void take(struct options *options, int option) {
     case OPTION_JSON:
         options->style.json = true;
         break;
+    case OPTION_WRITE_SLIP:
+        options->write_slip = true;
+        break;
     case OPTION_LOG:
         options->log = optarg;
         break;
@@ -161,6 +173,9 @@ static void judge(struct options *options) {
         options->task = TASK_MISTAKE;
     } else if (options->against != NULL && options->edition != NULL) {
         mistake(options, "--copy compares with the edition already: leave ", "--against", " away");
+    } else if (options->write_slip && (options->against != NULL || options->edition != NULL)) {
+        mistake(options, "a slip is written for the edition itself: leave ",
+                options->edition != NULL ? "--copy" : "--against", " away");
     } else if (options->batch > 0 && options->count > 1) {
         mistake(options, "a batch has one folder: leave ", options->arguments[1], " away");
     }

@@ -16,6 +16,7 @@ struct options {
     struct style style;
     const char *against;           /* the master to compare with, or NULL */
     const char *edition;           /* what is to be copied first, or NULL */
+    bool write_slip;               /* for each folder in which all is well */
     unsigned long batch;           /* how many sticks one after another; 0 without --batch */
     const char *log;               /* of the batch, or NULL for the usual name */
     const struct refusal *explain; /* for TASK_EXPLAIN */

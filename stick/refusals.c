@@ -104,6 +104,21 @@ static const struct refusal table[] = {
      "A program asked the reader for the box around a mesh without vertices. The\n"
      "place is always 0.\n",
      PROGRAM, PROGRAM_ADVICE},
+    {TDS_SLIP, "SLIP", "the slip breaks the rules of slips",
+     "The slip is the small file on a stick that says what is on it. It begins with\n"
+     "the byte 1, says how long it is and how many files it speaks of, and has a name,\n"
+     "a length and two sums for each. Here something of that is not so, or a name is\n"
+     "there twice. The place is where the bad entry begins, or 0 for the first bytes.\n",
+     "copy the slip again",
+     "Copy the slip again from the master and check once more. If the new copy is\n"
+     "broken too, delete it on the master and write it anew (--write-slip).\n"},
+    {TDS_DIFFERS, "DIFFERS", "a file is not the one that the slip speaks of",
+     "The slip has the length and two sums of each file. Of this file one of them is\n"
+     "another (place 0: the length, 1: the sums), so at least one of its bytes is. A\n"
+     "single turned bit is always found so; a byte 0 that became 255 is not.\n",
+     "copy it again",
+     "Copy this file again from the master and check once more. If the new copy\n"
+     "differs too, the slip is older than the file: see that both are of one edition.\n"},
 };
 
 int refusal_last(void) {

@@ -13,8 +13,8 @@
 
 /* What each outcome is called in a line. */
 static const char *const labels[OUTCOMES] = {
-    "OK",         "refused", "differs", "missing", "not expected", "left by another computer",
-    "not checked"};
+    "OK",          "refused",    "differs", "missing", "not expected", "left by another computer",
+    "broken slip", "not checked"};
 
 void report_start(struct report *report, const struct style *style, struct screen *screen,
                   size_t job) {
@@ -127,6 +127,12 @@ void report_add(struct report *report, const struct finding *finding) {
     }
 }
 
+void report_found(struct report *report, enum outcome outcome, const char *path, const char *words,
+                  const char *remedy) {
+    struct finding finding = {.outcome = outcome, .path = path, .words = words, .remedy = remedy};
+    report_add(report, &finding);
+}
+
 void report_trouble(struct report *report, const char *path, const char *label,
                     const struct trouble *trouble) {
     struct finding finding = {.outcome = FOUND_UNCHECKED,
@@ -166,6 +172,7 @@ void report_join(struct report *sum, const struct report *report) {
     sum->folders += report->folders;
     sum->unwell += report_status(report) != 0;
     sum->bare += report->bare;
+    sum->slip_files += report->slip_files;
     sum->from_memory = sum->from_memory || report->from_memory;
     sum->unfinished = sum->unfinished || report->unfinished;
     names_join(&sum->near, &report->near);
@@ -175,7 +182,7 @@ void report_join(struct report *sum, const struct report *report) {
 int report_status(const struct report *report) {
     unsigned long wrong = report->count[FOUND_REFUSED] + report->count[FOUND_DIFFERENT] +
                           report->count[FOUND_MISSING] + report->count[FOUND_EXTRA] +
-                          report->count[FOUND_LEFT_BEHIND];
+                          report->count[FOUND_LEFT_BEHIND] + report->count[FOUND_BROKEN_SLIP];
     if (report->count[FOUND_UNCHECKED] > 0 || report->near.count > 0 || report->unfinished) {
         return 2;
     }

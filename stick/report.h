@@ -27,6 +27,7 @@ enum outcome {
     FOUND_MISSING,   /* on the slip or in the master, and not here */
     FOUND_EXTRA,     /* here, and not on the slip or in the master */
     FOUND_LEFT_BEHIND,
+    FOUND_BROKEN_SLIP,
     FOUND_UNCHECKED,
     OUTCOMES
 };
@@ -55,13 +56,14 @@ struct report {
     struct screen *screen;
     size_t job;
     unsigned long count[OUTCOMES];
-    unsigned long figures; /* those that the reader accepted or refused */
-    struct names near;     /* files that are almost named as figures */
-    struct names unknown;  /* files of no known kind that nothing was said about */
-    unsigned long folders; /* 1; the sum of several reports has more */
-    unsigned long unwell;  /* of a sum: those in which not all is well */
-    unsigned long bare;    /* folders with nothing to compare with: structure only */
-    bool from_memory;      /* some file could not be read from the stick itself */
+    unsigned long figures;    /* those that the reader accepted or refused */
+    struct names near;        /* files that are almost named as figures */
+    struct names unknown;     /* files of no known kind that nothing was said about */
+    unsigned long folders;    /* 1; the sum of several reports has more */
+    unsigned long unwell;     /* of a sum: those in which not all is well */
+    unsigned long bare;       /* folders with nothing to compare with: structure only */
+    unsigned long slip_files; /* on the slips that were written */
+    bool from_memory;         /* some file could not be read from the stick itself */
     bool unfinished;
 };
 
@@ -71,6 +73,10 @@ void report_free(struct report *report);
 
 /* Counts a finding and says it, where it is to be said. */
 void report_add(struct report *report, const struct finding *finding);
+
+/* The same, for one that is but words. */
+void report_found(struct report *report, enum outcome outcome, const char *path, const char *words,
+                  const char *remedy);
 
 /* Something was "not checked" or "not copied", and why. */
 void report_trouble(struct report *report, const char *path, const char *label,

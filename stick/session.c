@@ -8,6 +8,7 @@
 
 #include "copy.h"
 #include "longpath.h"
+#include "slip.h"
 #include "verdict.h"
 
 enum { MOST_READERS = 40 }; /* a batch */
@@ -38,7 +39,7 @@ static int check_edition(const struct options *options) {
     struct screen screen;
     int status;
     single_start(&screen, &report, options);
-    check_stick(options->edition, &nothing, &report);
+    check_stick(options->edition, &nothing, NULL, &report);
     status = report_status(&report);
     if (status != 0) {
         trouble_of_words(&trouble, "the edition itself is not well",
@@ -89,6 +90,26 @@ static bool is_file(const char *path) {
     return long_stat(path, 0, &status) == 0 && S_ISREG(status.st_mode);
 }
 
+/* A slip is written only for a folder in which all is well, and that has none yet. */
+static void check_and_write_slip(const struct session *session, const char *folder,
+                                 struct report *report) {
+    struct manifest files = {0};
+    struct trouble trouble;
+    check_stick(folder, &session->against, &files, report);
+    manifest_sort(&files);
+    if (report_status(report) != 0) {
+        trouble_of_words(&trouble, "not all is well in it", "see above");
+        report_trouble(report, folder, "no slip was written", &trouble);
+    } else if (report->bare == 0) {
+        trouble_of_words(&trouble, "there is one already, and it is left alone", "delete it first");
+        report_trouble(report, folder, "no slip was written", &trouble);
+    } else if (slip_write(folder, &files, report)) {
+        report->bare = 0;
+        report->slip_files = files.count;
+    }
+    manifest_free(&files);
+}
+
 static void work_on(struct round *round, size_t job) {
     const struct session *session = round->session;
     const char *folder = round->folders[job];
@@ -102,8 +123,10 @@ static void work_on(struct round *round, size_t job) {
     if (good && session->options->edition != NULL) {
         good = copy_edition(session->options->edition, &session->manifest, folder, report);
     }
-    if (good) {
-        check_stick(folder, &session->against, report);
+    if (good && session->options->write_slip) {
+        check_and_write_slip(session, folder, report);
+    } else if (good) {
+        check_stick(folder, &session->against, NULL, report);
     }
     if (round->count > 1 && *folder != '\0' && !is_file(folder)) {
         verdict_of_folder(report, folder); /* also where it is not there any more */

@@ -9,13 +9,16 @@ static bool take_block(struct subject *subject, struct checker *checker, bool fi
     if (first && subject->kind == KIND_FIGURE) {
         subject->answer = judge_figure(checker, length, subject->list ? &subject->totals : NULL);
     }
+    if (subject->summed) {
+        subject->sum = tds_sum_add(subject->sum, checker->block, length);
+    }
     return comparison_add(&subject->comparison, checker->block, length, trouble);
 }
 
 /* Whether there may be something behind the blocks so far that anyone wants to know. */
 static bool wants_more(const struct subject *subject, const struct reading *reading) {
-    return !reading->ended && !stopped() && subject->comparison.wanted &&
-           !subject->comparison.different;
+    bool compared = subject->comparison.wanted && !subject->comparison.different;
+    return !reading->ended && !stopped() && (subject->summed || compared);
 }
 
 static bool read_blocks(struct subject *subject, struct checker *checker, struct reading *reading,
@@ -51,6 +54,10 @@ bool subject_read(struct subject *subject, struct checker *checker, struct troub
     if (!reading_close(&reading, &later) && good) {
         *trouble = later;
         good = false;
+    }
+    if (subject->entry != NULL) {
+        subject->as_entry =
+            tds_sum_matches(subject->sum, subject->entry->length, subject->entry->sums);
     }
     return good;
 }

@@ -44,10 +44,9 @@ static void add_word(struct text *line, const struct report *report) {
 
 static void add_counts(struct text *line, const struct report *report) {
     static const char *const words[OUTCOMES] = {
-        [FOUND_DIFFERENT] = "differ",
-        [FOUND_MISSING] = "missing",
-        [FOUND_EXTRA] = "not expected here",
-        [FOUND_LEFT_BEHIND] = "left by another computer",
+        [FOUND_DIFFERENT] = "differ",        [FOUND_MISSING] = "missing",
+        [FOUND_EXTRA] = "not expected here", [FOUND_LEFT_BEHIND] = "left by another computer",
+        [FOUND_BROKEN_SLIP] = "broken slip",
     };
     unsigned long unchecked = report->count[FOUND_UNCHECKED] + report->near.count;
     text_format(line, "%lu figure%s checked, %lu refused", report->figures,
@@ -71,6 +70,10 @@ static void add_uncovered(struct text *line, const struct report *report) {
     } else if (report->bare > 0 && report->figures > 0) {
         text_format(line, "; structure only on %lu of %lu: no slip there", report->bare,
                     report->folders);
+    }
+    if (report->slip_files > 0) {
+        text_format(line, "; a slip was written, with %lu file%s", report->slip_files,
+                    report->slip_files == 1 ? "" : "s");
     }
     if (report->unknown.count > 0) {
         text_format(line, "; %lu of no known kind not looked at", report->unknown.count);
@@ -146,6 +149,7 @@ static void add_json(struct text *lines, const struct report *sum, double second
     json_number(lines, "missing", sum->count[FOUND_MISSING]);
     json_number(lines, "not_expected", sum->count[FOUND_EXTRA]);
     json_number(lines, "left_behind", sum->count[FOUND_LEFT_BEHIND]);
+    json_number(lines, "broken_slips", sum->count[FOUND_BROKEN_SLIP]);
     json_number(lines, "not_checked", sum->count[FOUND_UNCHECKED] + sum->near.count);
     json_number(lines, "of_no_known_kind", sum->unknown.count);
     json_number(lines, "structure_only", sum->bare);

@@ -62,6 +62,12 @@ edition() {
     cp samples/edition/*.3ds "$F"
 }
 
+# slip FOLDER: what the slip of this folder should be, in $T/slip.
+slip() {
+    (cd "$1" && find . -type f ! -iname stick.slip | sed 's/^..//' | LC_ALL=C sort -f | tr '\n' '\0' |
+        xargs -0 "$HELPERS/make_slip" .) >"$T/slip"
+}
+
 # turn FILE OFFSET: one bit of this byte is turned.
 turn() {
     byte=$(od -An -tu1 -j "$2" -N 1 "$1")

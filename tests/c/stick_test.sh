@@ -537,7 +537,7 @@ memory=$RUN
 RUN=
 number=0
 for name in 'TOO LONG' 'NOT A FIGURE' TRAILING SHORT OVERRUN STRAY MISPLACED TWICE NAME LENGTH NUMBER \
-    INDEX COUNT MISSING 'NO ROOM' 'NO SUCH MESH' EMPTY; do
+    INDEX COUNT MISSING 'NO ROOM' 'NO SUCH MESH' EMPTY SLIP DIFFERS; do
     number=$((number + 1))
     stick --explain "$number"
     status_is 0
@@ -555,12 +555,12 @@ for name in 'TOO LONG' 'NOT A FIGURE' TRAILING SHORT OVERRUN STRAY MISPLACED TWI
     stick -q "samples/damaged/$file"
     has out ": refused: $name ($number): ${sentence%.}, at byte "
 done
-for number in 0 18 -1 x 5x '' 99999999999999999999; do
+for number in 0 31 -1 x 5x '' 99999999999999999999; do
     try "--explain $number"
     stick --explain "$number"
     status_is 2
     has err 'stick: there is no refusal '
-    has err 'They are numbered 1 to 17.'
+    has err 'They are numbered 1 to 19.'
 done
 RUN=$memory
 try '--explain by name'
@@ -579,7 +579,7 @@ try '--help'
 stick --help
 status_is 0
 lines err 0
-for option in --help --version --quiet --list --explain --verbose --json --against --copy --batch --log FOLDER; do has out "$option"; done
+for option in --help --version --quiet --list --explain --verbose --json --against --copy --write-slip --batch --log FOLDER; do has out "$option"; done
 widest=$(awk '{ if (length($0) > most) most = length($0) } END { print most }' "$T/out")
 if [ "$widest" -le 80 ]; then pass; else fail "a line of $widest characters"; fi
 try '--version'

@@ -1,0 +1,96 @@
+/* Finding and reading the slip of a stick; the library knows what is in it. */
+#include "slip.h"
+
+#include <stdlib.h>
+#include <string.h>
+#include <strings.h>
+
+#include "folder.h"
+#include "reading.h"
+#include "tds.h"
+
+enum { LONGEST_NAME = 63 };
+#define BAD_NAME ((uint64_t)24 << 32) /* TEXT, of document 02 */
+
+bool is_slip(const char *below) {
+    return strcasecmp(below, SLIP_NAME) == 0;
+}
+
+bool fits_slip(const uint8_t *name, size_t length) {
+    for (size_t i = 0; i < length; i++) {
+        if (name[i] < ' ' || name[i] > '~') {
+            return false;
+        }
+    }
+    return length >= 1 && length <= LONGEST_NAME;
+}
+
+/* The path of the slip in a folder, or NULL. */
+static char *find(const char *folder) {
+    struct text path = {0};
+    struct folder names;
+    folder_read(&names, folder, true);
+    for (size_t i = 0; i < names.count && path.bytes == NULL; i++) {
+        if (is_slip(names.names[i])) {
+            text_path(&path, folder, names.names[i]);
+        }
+    }
+    folder_free(&names);
+    return path.bytes;
+}
+
+/* Reads the file; one byte over the longest slip shows that it is none. */
+static bool read_bytes(struct slip *slip, uint8_t *bytes, size_t *length) {
+    struct reading reading;
+    bool good;
+    if (!reading_open(&reading, slip->path, FROM_STICK, &slip->trouble)) {
+        return false;
+    }
+    slip->settled = reading.settled;
+    good = reading_block(&reading, bytes, TDS_LONGEST_SLIP + 1, length, &slip->trouble);
+    return reading_close(&reading, &slip->trouble) && good;
+}
+
+/* Takes the entries over, unless a name is not fit. An entry begins a byte before its name. */
+static void take_entries(struct slip *slip, const uint8_t *bytes, const uint8_t *entries,
+                         size_t count) {
+    for (size_t i = 0; i < count && slip->state == SLIP_GOOD; i++) {
+        uint32_t at = tds_get_entry(entries, i, TDS_ENTRY_NAME);
+        uint32_t length = tds_get_entry(entries, i, TDS_ENTRY_NAME_LENGTH);
+        manifest_add(&slip->manifest, (const char *)bytes + at, length,
+                     tds_get_entry(entries, i, TDS_ENTRY_LENGTH),
+                     tds_get_entry(entries, i, TDS_ENTRY_SUMS));
+        if (!fits_slip(bytes + at, length)) {
+            slip->state = SLIP_BROKEN;
+            slip->answer = BAD_NAME + at - 1;
+        }
+    }
+    manifest_sort(&slip->manifest);
+}
+
+void slip_read(struct slip *slip, const char *folder) {
+    uint8_t *bytes, *entries;
+    size_t length;
+    *slip = (struct slip){.path = find(folder), .settled = true};
+    if (slip->path == NULL) {
+        return;
+    }
+    bytes = need_memory(NULL, TDS_LONGEST_SLIP + 1);
+    entries = need_memory(NULL, TDS_MOST_ENTRIES * TDS_ENTRY_BYTES);
+    slip->state = SLIP_UNREADABLE;
+    if (read_bytes(slip, bytes, &length)) {
+        slip->answer = tds_slip_read(bytes, length, entries, TDS_MOST_ENTRIES * TDS_ENTRY_BYTES);
+        slip->state = TDS_REFUSED(slip->answer) ? SLIP_BROKEN : SLIP_GOOD;
+    }
+    if (slip->state == SLIP_GOOD) {
+        take_entries(slip, bytes, entries, (size_t)slip->answer);
+    }
+    free(bytes);
+    free(entries);
+}
+
+void slip_free(struct slip *slip) {
+    manifest_free(&slip->manifest);
+    free(slip->path);
+    *slip = (struct slip){0};
+}

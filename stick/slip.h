@@ -1,0 +1,42 @@
+/* The slip of a stick: one small file that says which files are on it, with lengths and sums. */
+#ifndef STICK_SLIP_H
+#define STICK_SLIP_H
+
+#include "manifest.h"
+
+/* Its name at the top of a stick; letters of either case are the same. */
+#define SLIP_NAME "stick.slip"
+
+enum slip_state {
+    SLIP_NONE,
+    SLIP_GOOD,
+    SLIP_BROKEN,    /* it breaks the rules of slips */
+    SLIP_UNREADABLE /* the stick did not hand it out */
+};
+
+struct slip {
+    enum slip_state state;
+    char *path;
+    struct manifest manifest; /* of a good one */
+    uint64_t answer;          /* the refusal of a broken one */
+    struct trouble trouble;   /* why it is unreadable */
+    bool settled;             /* it was read from the stick */
+};
+
+/* Looks for the slip of a folder and reads it, from the stick. */
+void slip_read(struct slip *slip, const char *folder);
+void slip_free(struct slip *slip);
+
+/* Whether this path below a folder is its slip. */
+bool is_slip(const char *below);
+
+/* Whether a name is fit for a slip: as on a label, 1 to 63 plain characters. */
+bool fits_slip(const uint8_t *name, size_t length);
+
+/*
+ * Writes a new slip for a folder in which these files are. Answers whether it stands there; else it
+ * was reported why not, and nothing has changed.
+ */
+bool slip_write(const char *folder, const struct manifest *manifest, struct report *report);
+
+#endif

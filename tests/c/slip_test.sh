@@ -1,0 +1,161 @@
+#!/bin/sh
+# A stick with a slip: what is seen by it that the figures alone do not tell.
+# shellcheck source=tests/c/stick_common.sh
+. tests/c/stick_common.sh
+
+# A figure whose coordinates can change without breaking a rule: byte 42 is in one.
+edition edition
+mkdir "$F/texts"
+printf 'read me\n' >"$F/texts/README.TXT"
+head -c 3000000 /dev/zero | tr '\0' 'x' >"$F/texts/film.bin"
+: >"$F/empty"
+triangle >"$F/triangle.3ds"
+E=$F
+slip "$E"
+cp "$T/slip" "$E/stick.slip"
+
+# fresh NAME: a copy of the edition with its slip, in $F.
+fresh() {
+    F=$T/$1
+    cp -R "$E" "$F"
+}
+
+try 'a stick that is as its slip says'
+fresh good
+stick "$F"
+status_is 0
+last "PASS: 7 figures checked, 0 refused, $seconds"
+
+try 'missing, exchanged, added and changed files are seen'
+fresh other
+rm "$F/vice.3ds" "$F/texts/README.TXT"
+cp "$F/saw.3ds" "$F/plane.3ds"
+triangle >"$F/new.3ds"
+echo new >"$F/new.txt"
+turn "$F/triangle.3ds" 42
+turn "$F/texts/film.bin" 2999999
+printf x >>"$F/empty"
+stick "$F"
+status_is 1
+lines err 0
+matches out "$F/vice.3ds: missing: copy it again"
+matches out "$F/texts/README.TXT: missing: copy it again"
+matches out "$F/plane.3ds: differs from the slip \(another length\): copy it again"
+matches out "$F/new.3ds: not on the slip: delete it, unless it belongs there and the slip is an old one"
+matches out "$F/new.txt: not on the slip: .*"
+matches out "$F/triangle.3ds: differs from the slip \(other contents\): copy it again"
+matches out "$F/texts/film.bin: differs from the slip \(other contents\): copy it again"
+matches out "$F/empty: differs from the slip \(another length\): copy it again"
+last "DO NOT SEAL: 6 figures checked, 0 refused, 4 differ, 2 missing, 2 not expected here, $seconds: see above"
+try 'without the slip none of it is seen'
+rm "$F/stick.slip"
+stick "$F"
+status_is 0
+has out 'structure only: no slip on this stick'
+
+try 'each file is read once'
+fresh once
+if traced count "$T/bytes" "$F/adze.3ds" "$F"; then
+    size=$(wc -c <"$F/adze.3ds")
+    if [ "$(cat "$T/bytes")" -eq "$size" ]; then pass; else fail "$(cat "$T/bytes") bytes of $size"; fi
+fi
+
+try 'letters of either case are the same, as FAT has it'
+fresh case
+mv "$F/texts" "$F/TEXTS"
+mv "$F/TEXTS/README.TXT" "$F/TEXTS/readme.txt"
+mv "$F/adze.3ds" "$F/ADZE.3DS"
+mv "$F/stick.slip" "$F/STICK.SLIP"
+stick "$F"
+status_is 0
+
+cp "$F/ADZE.3DS" "$F/Adze.3ds"
+if [ "$(find "$F" -iname adze.3ds | wc -l)" -eq 2 ]; then
+    stick "$F"
+    status_is 1
+    matches out "$F/Adze.3ds: not on the slip: .*"
+fi
+
+try 'a slip that is broken'
+fresh broken
+turn "$F/stick.slip" 0
+turn "$F/triangle.3ds" 42
+stick "$F"
+status_is 1
+matches out "$F/stick.slip: the slip itself is broken \(18\), at byte 0: copy the slip again"
+last "DO NOT SEAL: 7 figures checked, 0 refused, 1 broken slip, $seconds: see above; .*"
+fresh cut
+truncate -s -1 "$F/stick.slip"
+stick "$F"
+status_is 1
+has out "$F/stick.slip: the slip itself is broken"
+: >"$F/stick.slip"
+stick "$F"
+status_is 1
+has out "$F/stick.slip: the slip itself is broken (18), at byte 0"
+head -c 400000 /dev/zero >"$F/stick.slip"
+stick "$F"
+status_is 1
+has out "$F/stick.slip: the slip itself is broken (18), at byte 0"
+try 'a slip with a name that does not fit'
+mkdir "$T/unfit"
+triangle >"$T/unfit/t.3ds"
+slip "$T/unfit"
+cp "$T/slip" "$T/unfit/stick.slip"
+for byte in '\0' '\037' '\177' '\351'; do
+    # shellcheck disable=SC2059
+    printf "$byte" | dd of="$T/unfit/stick.slip" bs=1 seek=9 conv=notrunc 2>/dev/null
+    stick "$T/unfit"
+    status_is 1
+    matches out "$T/unfit/stick.slip: the slip itself is broken \(24\), at byte 7: copy the slip again"
+done
+try 'a slip that cannot be read'
+fresh unread
+faulty "read:$EIO:unread/stick.slip" "$F"
+status_is 2
+has err "$F/stick.slip: not checked: the stick stopped answering"
+rm "$F/stick.slip"
+ln -s "$E/stick.slip" "$F/stick.slip"
+stick "$F"
+status_is 2
+has err "$F/stick.slip: not checked: it is a link"
+
+try 'a figure that is refused, and as the slip has it'
+mkdir "$T/wrong"
+triangle >"$T/wrong/t.3ds"
+slip "$T/wrong"
+cp "$T/slip" "$T/wrong/stick.slip"
+turn "$T/wrong/t.3ds" 2
+stick "$T/wrong"
+status_is 1
+matches out "$T/wrong/t.3ds: refused: .*: copy this figure again"
+slip "$T/wrong"
+cp "$T/slip" "$T/wrong/stick.slip"
+stick "$T/wrong"
+status_is 1
+matches out "$T/wrong/t.3ds: refused: .*: the slip has it so too: tell whoever made the figure"
+
+try 'an edition with a slip is copied with it'
+mkdir "$T/copied"
+stick --copy "$E" "$T/copied"
+status_is 0
+last "PASS: 7 figures checked, 0 refused, $seconds"
+same 'the slip' "$E/stick.slip" "$T/copied/stick.slip"
+stick "$T/copied"
+status_is 0
+lacks out 'structure only'
+try 'against a master, the slip of the stick is compared too'
+stick --against "$E" "$T/copied"
+status_is 0
+rm "$T/copied/stick.slip"
+stick --against "$E" "$T/copied"
+status_is 1
+matches out "$T/copied/stick.slip: missing: copy it again"
+
+try 'several sticks, some with a slip'
+cp "$E/stick.slip" "$T/copied"
+stick "$T/copied" samples/edition
+status_is 0
+last "PASS: 2 folders, 13 figures checked, 0 refused, $seconds; structure only on 1 of 2: no slip there"
+
+finish slip_test
