@@ -36,7 +36,8 @@ pub fn all(size: usize) -> Vec<Figure> {
 fn mixed(size: usize) -> Vec<Vec<u8>> {
     let numbers = (0..size as u32 / 37).map(|number| number.wrapping_mul(2_654_435_761));
     let numbers = numbers.filter(|number| second::row((number >> 16) as u16).is_none());
-    let chunks = numbers.map(|number| chunk((number >> 16) as u16, &[7; 63][..number as usize % 64]));
+    let chunks =
+        numbers.map(|number| chunk((number >> 16) as u16, &[7; 63][..number as usize % 64]));
     chunks.collect()
 }
 

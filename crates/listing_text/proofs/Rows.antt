@@ -7,27 +7,27 @@ use native.Mathlib.Omega.{arith}
 use lib.ListN.{length, drop, getD}
 use lib.Seq.{getD-drop}
 use Rattle.studio_rules.specs.declared.Record.{Record}
-use Rattle.studio_rules.specs.Gives.{flat}
+use Rattle.studio_rules.specs.Gives.{recordNumbers, flat}
 use Rattle.listing_text.specs.Lines.{chunkLine, lines, lineAt, rowLines}
 
 -- the record after the first stands six numbers further on
-at-drop : (row : List ℕ) (j k : ℕ) → getD (drop 6 row) (j + k) 0 ≡ getD row (6 + j + k) 0
+at-drop : (row : List ℕ) (j k : ℕ) → getD (drop recordNumbers row) (j + k) 0 ≡ getD row (recordNumbers + j + k) 0
 at-drop row j k =
-    let e : 6 + j + k ≡ 6 + (j + k) = omega arith in
-    rw e (getD-drop 6 row (j + k) 0)
+    let e : recordNumbers + j + k ≡ recordNumbers + (j + k) = omega arith in
+    rw e (getD-drop recordNumbers row (j + k) 0)
 
-line-drop : (row : List ℕ) (j : ℕ) → lineAt (drop 6 row) j ≡ lineAt row (6 + j)
-line-drop row j = rw (at-drop row j 3, getD-drop 6 row j 0, at-drop row j 1, at-drop row j 2)
+line-drop : (row : List ℕ) (j : ℕ) → lineAt (drop recordNumbers row) j ≡ lineAt row (recordNumbers + j)
+line-drop row j = rw (at-drop row j 3, getD-drop recordNumbers row j 0, at-drop row j 1, at-drop row j 2)
 
-lines-suc : (row : List ℕ) (i : ℕ) → rowLines (suc i) row ≡ rowLines i row ++ lineAt row (6 * i)
+lines-suc : (row : List ℕ) (i : ℕ) → rowLines (suc i) row ≡ rowLines i row ++ lineAt row (recordNumbers * i)
 lines-suc row zero = append-nil (lineAt row 0)
 lines-suc row (suc i) =
-    let j : 6 * suc i ≡ 6 + 6 * i = omega arith in
-    ap (λ (l : List ℕ). lineAt row 0 ++ l) (lines-suc (drop 6 row) i) ∙
-    rw (j, line-drop row (6 * i)) (sym (append-assoc (lineAt row 0) (rowLines i (drop 6 row)) (lineAt row (6 + 6 * i))))
+    let j : recordNumbers * suc i ≡ recordNumbers + recordNumbers * i = omega arith in
+    ap (λ (l : List ℕ). lineAt row 0 ++ l) (lines-suc (drop recordNumbers row) i) ∙
+    rw (j, line-drop row (recordNumbers * i)) (sym (append-assoc (lineAt row 0) (rowLines i (drop recordNumbers row)) (lineAt row (recordNumbers + recordNumbers * i))))
 
 -- the lines of the first i + 1 records
-pub lines-more : (row : List ℕ) (i : ℕ) → rowLines (i + 1) row ≡ rowLines i row ++ lineAt row (6 * i)
+pub lines-more : (row : List ℕ) (i : ℕ) → rowLines (i + 1) row ≡ rowLines i row ++ lineAt row (recordNumbers * i)
 lines-more row i = rw (add-one i) (lines-suc row i)
 
 -- a row that begins with records has their lines

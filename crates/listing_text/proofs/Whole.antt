@@ -15,7 +15,7 @@ use Rattle.studio_rules.specs.declared.Checked.{Checked}
 use Rattle.studio_rules.specs.Layout.{Run, figure}
 use Rattle.shared_words.specs.Conditions.{Answer, refused, accepted}
 use Rattle.studio_rules.specs.Walk.{verdict}
-use Rattle.studio_rules.specs.Gives.{recordCount, list, flat}
+use Rattle.studio_rules.specs.Gives.{recordNumbers, recordCount, list, flat}
 use Rattle.studio_rules.specs.Encodings.{flatRecords}
 use Rattle.shared_words.specs.Effects.{leaving, filled}
 use Rattle.studio_rules.specs.Calls.{countsOf, listOf, listCall}
@@ -29,7 +29,7 @@ pub record Shown (s row : List ℕ) (counts : Counts) : Type 0 where
   pub is : listing s ≡ countsLine (length s) counts ++ rowLines (counts .records) row
   pub few : counts .records ≤ 1024
 
-module _ (row : List ℕ) (room : length row / 6 ≡ 1024) where
+module _ (row : List ℕ) (room : length row / recordNumbers ≡ 1024) where
   no-room-of : (size : ℕ) (kids : Run) (r : Refusal) (t : Bool) →
       cond t (leaving (Checked.Accepted (countsOf kids)) (filled (flat (list kids)) row)) (leaving (Checked.Refused (NoRoom (recordCount (figure kids)))) row) .answer ≡ Checked.Refused r →
       cond t (countsLine size (countsOf kids) ++ lines (list kids)) (refusalLine (NoRoom (recordCount (figure kids)))) ≡ refusalLine r

@@ -4,6 +4,7 @@ use mathlib.Core.List.{List, [], _∷_, _++_}
 use lib.ListN.{drop, getD}
 use Rattle.studio_rules.specs.declared.Record.{Record}
 use Rattle.studio_rules.specs.declared.Counts.{Counts}
+use Rattle.studio_rules.specs.Gives.{recordNumbers}
 use Rattle.shared_words.specs.declared.Refusal.{Refusal}
 use Rattle.shared_words.specs.Refusals.{numberOf, placeOf}
 use Rattle.listing_printing.specs.Text.{decimal, fourDigits}
@@ -45,11 +46,11 @@ abbrev pub lines : List Record → List ℕ
 lines [] = []
 lines (r ∷ rs) = chunkLine (r .depth) (r .identifier) (r .offset) (r .len) ++ lines rs
 
--- the line of the record that stands at position j of a flat row, six numbers a record
+-- the line of the record that stands at position j of a flat row
 abbrev pub lineAt : List ℕ → ℕ → List ℕ
 lineAt row j = chunkLine (getD row (j + 3) 0) (getD row j 0) (getD row (j + 1) 0) (getD row (j + 2) 0)
 
 -- the lines of the first n records of a flat row
 abbrev pub rowLines : ℕ → List ℕ → List ℕ
 rowLines zero row = []
-rowLines (suc n) row = lineAt row 0 ++ rowLines n (drop 6 row)
+rowLines (suc n) row = lineAt row 0 ++ rowLines n (drop recordNumbers row)

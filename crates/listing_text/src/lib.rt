@@ -6,18 +6,20 @@ use listing_printing::put_decimal;
 use listing_printing::put_four_digits;
 use listing_printing::put_text;
 use shared_words::Refusal;
+use studio_list_rows::RECORD_NUMBERS;
 use studio_rules::Checked;
 use studio_rules::Counts;
 ghost use Prim.Native.Nat.{_+_, _*_, _<_, _≤_};
 ghost use lib.ListN.{length};
 ghost use Rattle.io.specs.Counts.{Counts as Io·Counts};
 ghost use Rattle.shared_numbers.specs.Put.{Put};
+ghost use Rattle.studio_rules.specs.Gives.{recordNumbers};
 ghost use Rattle.listing_text.specs.Lines.{field, refusalLine, countsLine, chunkLine, rowLines};
 ghost use Rattle.listing_input.specs.Within.{Within};
 ghost use Rattle.listing_text.specs.Listing.{listing, printed};
 
 // The numbers of the program's row of 1,024 records.
-const ROW: usize = 6144;
+const ROW: usize = 1024 * RECORD_NUMBERS;
 
 // Room for any listing: a first line of at most 87 bytes, and 1,024 lines of at most 68.
 pub const ROOM: usize = 69719;
@@ -75,14 +77,14 @@ fn put_chunk(depth: u32, id: u32, offset: u32, len: u32, at: usize, out: &mut [u
 
 // The lines of the first n records of a flat row.
 fn put_chunks(row: &[u32], n: usize, at: usize, out: &mut [u8]) -> usize
-    requires { ⌜ (6 * n ≤ length (now row)) × (at + 68 * n ≤ length (now out)) ⌝ }
+    requires { ⌜ (recordNumbers * n ≤ length (now row)) × (at + 68 * n ≤ length (now out)) ⌝ }
     ensures text { λ r. ⌜ Put (now (out .entry)) at (rowLines n (now (row .entry))) (now (out .exit)) r ⌝ }
     ensures within { λ r. ⌜ r ≤ at + 68 * n ⌝ }
 {
     let mut next = at;
     let mut i = 0usize;
     while i < n {
-        let j = 6 * i;
+        let j = RECORD_NUMBERS * i;
         next = put_chunk(row[j + 3], row[j], row[j + 1], row[j + 2], next, out);
         i += 1;
     }

@@ -1,5 +1,7 @@
 // The list of an accepted file's known chunks: six numbers for each, into a lent row of numbers or of bytes.
 use shared_words::Refusal;
+use studio_list_rows::RECORD_BYTES;
+use studio_list_rows::RECORD_NUMBERS;
 use studio_rules::Checked;
 ghost use mathlib.Core.Path.{_≡_};
 ghost use Rattle.studio_rules.specs.Encodings.{flatRecords, recordBytes};
@@ -34,7 +36,7 @@ pub fn list(file: &[u8], row: &mut [u32]) -> Checked
     ensures filled { λ r. ⌜ now (row .exit) ≡ listCall flatRecords (now (file .entry)) (now (row .entry)) .rows ⌝ }
 {
     let mut unused = [0u8; 0];
-    let room = row.len() / 6;
+    let room = row.len() / RECORD_NUMBERS;
     list_rows(file, row, &mut unused, room)
 }
 
@@ -44,6 +46,6 @@ pub fn list_bytes(file: &[u8], row: &mut [u8]) -> Checked
     ensures filled { λ r. ⌜ now (row .exit) ≡ listCall recordBytes (now (file .entry)) (now (row .entry)) .rows ⌝ }
 {
     let mut unused = [0u32; 0];
-    let room = row.len() / 24;
+    let room = row.len() / RECORD_BYTES;
     list_rows(file, &mut unused, row, room)
 }

@@ -9,7 +9,7 @@ use lib.ListN.{length, set}
 use lib.Seq.{sets}
 use Rattle.studio_rules.specs.declared.Record.{Record}
 use Rattle.shared_words.specs.Bytes.{packed}
-use Rattle.studio_rules.specs.Gives.{flat}
+use Rattle.studio_rules.specs.Gives.{recordNumbers, flat}
 use Rattle.shared_words.proofs.Bytes.{length-packed, packed-append}
 use Rattle.studio_list_rows.specs.Lent.{Lent, Room, written}
 
@@ -37,7 +37,7 @@ flat-even = record { appends = appends; size = size }
     appends [] b = refl
     appends (r ∷ a) b = rw (appends a b)
 
-    size : (a : List Record) → length (flat a) ≡ 6 * length a
+    size : (a : List Record) → length (flat a) ≡ recordNumbers * length a
     size [] = refl
     size (r ∷ a) = omega (arith, size a)
 

@@ -1,19 +1,25 @@
-// One record of the list, six numbers, into the rows that a caller lends: one of numbers and one of bytes.
+// One record of the list into the rows that a caller lends: one of numbers and one of bytes.
 use shared_numbers::put_long;
 use studio_rules::Record;
 ghost use mathlib.Core.Path.{_≡_};
 ghost use mathlib.Core.List.{[], _∷_};
-ghost use Prim.Native.Nat.{_+_, _≤_};
+ghost use Prim.Native.Nat.{_+_, _*_, _≤_};
 ghost use lib.ListN.{length};
 ghost use lib.Seq.{sets};
 ghost use Rattle.shared_words.specs.Bytes.{packed};
 ghost use Rattle.studio_rules.specs.Rules.{limit};
-ghost use Rattle.studio_rules.specs.Gives.{flat};
+ghost use Rattle.studio_rules.specs.Gives.{recordNumbers, flat};
 ghost use Rattle.studio_list_rows.specs.Lent.{lent, Room, written};
 
-// A record as six numbers, from i on.
+// How many numbers a record has.
+pub const RECORD_NUMBERS: usize = 6;
+
+// The bytes of them, four to a number.
+pub const RECORD_BYTES: usize = 4 * RECORD_NUMBERS;
+
+// A record as numbers, from i on.
 fn put_numbers(records: &mut [u32], i: usize, r: Record)
-    requires { ⌜ i + 6 ≤ length (now records) ⌝ }
+    requires { ⌜ i + recordNumbers ≤ length (now records) ⌝ }
     ensures { λ _. ⌜ now (records .exit) ≡ sets (now (records .entry)) i (flat (r ∷ [])) ⌝ }
 {
     records[i] = r.identifier;
@@ -26,7 +32,7 @@ fn put_numbers(records: &mut [u32], i: usize, r: Record)
 
 // The same as bytes, four to a number.
 fn put_bytes(bytes: &mut [u8], i: usize, r: Record)
-    requires { ⌜ i + 24 ≤ length (now bytes) ⌝ }
+    requires { ⌜ i + 4 * recordNumbers ≤ length (now bytes) ⌝ }
     ensures { λ _. ⌜ now (bytes .exit) ≡ sets (now (bytes .entry)) i (packed 4 (flat (r ∷ []))) ⌝ }
 {
     let offset = put_long(r.identifier, i, bytes);
@@ -43,9 +49,9 @@ pub fn put_record(records: &mut [u32], bytes: &mut [u8], next: usize, r: Record)
     ensures { λ _. ⌜ lent (now (records .exit)) (now (bytes .exit)) ≡ written (lent (now (records .entry)) (now (bytes .entry))) next (r ∷ []) ⌝ }
 {
     if records.len() != 0 {
-        put_numbers(records, 6 * next, r);
+        put_numbers(records, RECORD_NUMBERS * next, r);
     }
     if bytes.len() != 0 {
-        put_bytes(bytes, 24 * next, r);
+        put_bytes(bytes, RECORD_BYTES * next, r);
     }
 }

@@ -16,7 +16,7 @@ use Rattle.studio_rules.specs.declared.Checked.{Checked}
 use Rattle.studio_rules.specs.Layout.{Run, figure}
 use Rattle.shared_words.specs.Conditions.{Answer, refused, accepted}
 use Rattle.studio_rules.specs.Walk.{verdict}
-use Rattle.studio_rules.specs.Gives.{recordCount, list, flat}
+use Rattle.studio_rules.specs.Gives.{recordNumbers, recordCount, list, flat}
 use Rattle.shared_words.specs.Encodings.{beside, plainRow}
 use Rattle.studio_rules.specs.Encodings.{flatRecords}
 use Rattle.shared_words.specs.Effects.{Effect, leaving, filled}
@@ -36,13 +36,13 @@ pub record Outcome (row : List ℕ) (table : List Record) (answer : Checked) (ro
   pub records : List Record
   pub counted : taken answer ≡ length records
   pub numbers : row′ ≡ filled (flat records) row
-  pub row-fits : 6 * length records ≤ length row
+  pub row-fits : recordNumbers * length records ≤ length row
   pub table-fits : length records ≤ length table
   pub answers : answer ≡ x .answer
   pub fills : filled records table ≡ x .rows
 
 module _ {row : List ℕ} {table : List Record} {answer : Checked} {row′ : List ℕ} where
-  leaves : (rs : List Record) (a : Checked) → taken a ≡ length rs → 6 * length rs ≤ length row → length rs ≤ length table → leaving answer row′ ≡ leaving a (filled (flat rs) row) →
+  leaves : (rs : List Record) (a : Checked) → taken a ≡ length rs → recordNumbers * length rs ≤ length row → length rs ≤ length table → leaving answer row′ ≡ leaving a (filled (flat rs) row) →
       Outcome row table answer row′ (leaving a (filled rs table))
   leaves rs a n h k e = record {
     records = rs;
@@ -55,19 +55,19 @@ module _ {row : List ℕ} {table : List Record} {answer : Checked} {row′ : Lis
   }
 
   -- an accepted file, with room or without
-  judged : (kids : Run) (t : Bool) → leb (recordCount (figure kids)) (min (length table) (length row / 6)) ≡ t → leaving answer row′ ≡ listOf (beside (length table) flatRecords) row (accepted kids) →
-      Outcome row table answer row′ (listOf (beside (length row / 6) plainRow) table (accepted kids))
-  judged kids false h e = rw (min-comm (length row / 6) (length table), h) (leaves [] (Checked.Refused (NoRoom (recordCount (figure kids)))) refl (omega arith) (omega arith) (rw h at e))
+  judged : (kids : Run) (t : Bool) → leb (recordCount (figure kids)) (min (length table) (length row / recordNumbers)) ≡ t → leaving answer row′ ≡ listOf (beside (length table) flatRecords) row (accepted kids) →
+      Outcome row table answer row′ (listOf (beside (length row / recordNumbers) plainRow) table (accepted kids))
+  judged kids false h e = rw (min-comm (length row / recordNumbers) (length table), h) (leaves [] (Checked.Refused (NoRoom (recordCount (figure kids)))) refl (omega arith) (omega arith) (rw h at e))
   judged kids true h e =
       let n = length-records 0 0 0 0 (figure kids) in
-      let m = leb-true (recordCount (figure kids)) (min (length table) (length row / 6)) h in
-      rw (min-comm (length row / 6) (length table), h) (leaves (list kids) (Checked.Accepted (countsOf kids)) (sym n) (omega arith) (omega arith) (rw h at e))
+      let m = leb-true (recordCount (figure kids)) (min (length table) (length row / recordNumbers)) h in
+      rw (min-comm (length row / recordNumbers) (length table), h) (leaves (list kids) (Checked.Accepted (countsOf kids)) (sym n) (omega arith) (omega arith) (rw h at e))
 
-  at-outcome : (v : Answer Run) → leaving answer row′ ≡ listOf (beside (length table) flatRecords) row v → Outcome row table answer row′ (listOf (beside (length row / 6) plainRow) table v)
+  at-outcome : (v : Answer Run) → leaving answer row′ ≡ listOf (beside (length table) flatRecords) row v → Outcome row table answer row′ (listOf (beside (length row / recordNumbers) plainRow) table v)
   at-outcome (refused r) = leaves [] (Checked.Refused r) refl (omega arith) (omega arith)
-  at-outcome (accepted kids) = judged kids (leb (recordCount (figure kids)) (min (length table) (length row / 6))) refl
+  at-outcome (accepted kids) = judged kids (leb (recordCount (figure kids)) (min (length table) (length row / recordNumbers))) refl
 
-  pub outcome : (s : List ℕ) → leaving answer row′ ≡ listCall (beside (length table) flatRecords) s row → Outcome row table answer row′ (listCall (beside (length row / 6) plainRow) s table)
+  pub outcome : (s : List ℕ) → leaving answer row′ ≡ listCall (beside (length table) flatRecords) s row → Outcome row table answer row′ (listCall (beside (length row / recordNumbers) plainRow) s table)
   unfolding listCall
   outcome s = at-outcome (verdict s)
 

@@ -5,16 +5,17 @@ use mathlib.Core.List.{List}
 use lib.ListN.{getD}
 use Rattle.studio_rules.specs.declared.Record.{Record}
 use Rattle.studio_rules.specs.declared.Checked.{Checked}
+use Rattle.studio_rules.specs.Gives.{recordNumbers}
 
 -- record number k of a flat row
 abbrev pub recordNo : List ℕ → ℕ → Record
 recordNo row k = record {
-  identifier = getD row (6 * k) 0;
-  offset = getD row (6 * k + 1) 0;
-  len = getD row (6 * k + 2) 0;
-  depth = getD row (6 * k + 3) 0;
-  parent = getD row (6 * k + 4) 0;
-  own = getD row (6 * k + 5) 0;
+  identifier = getD row (recordNumbers * k) 0;
+  offset = getD row (recordNumbers * k + 1) 0;
+  len = getD row (recordNumbers * k + 2) 0;
+  depth = getD row (recordNumbers * k + 3) 0;
+  parent = getD row (recordNumbers * k + 4) 0;
+  own = getD row (recordNumbers * k + 5) 0;
 }
 
 -- how many records an answer says are in the row

@@ -1,5 +1,6 @@
 // The list of an accepted file's known chunks as a lent table of records. There is no heap, so the numbers go through a
 // lent flat row, and both must have room.
+use studio_list_rows::RECORD_NUMBERS;
 use studio_rules::Checked;
 use studio_rules::Record;
 ghost use mathlib.Core.Path.{_≡_};
@@ -8,6 +9,7 @@ ghost use lib.ListN.{length};
 ghost use Rattle.shared_words.specs.Encodings.{beside};
 ghost use Rattle.studio_rules.specs.Encodings.{flatRecords};
 ghost use Rattle.shared_words.specs.Effects.{leaving};
+ghost use Rattle.studio_rules.specs.Gives.{recordNumbers};
 ghost use Rattle.studio_rules.specs.Calls.{listCall};
 ghost use Rattle.studio_list_table.specs.Numbers.{recordNo, taken};
 ghost use Rattle.studio_list_table.specs.Listed.{inTable, inRow};
@@ -17,8 +19,8 @@ fn list_beside(file: &[u8], row: &mut [u32], room: usize) -> Checked
     ensures { λ r. ⌜ leaving r (now (row .exit)) ≡ listCall (beside room flatRecords) (now (file .entry)) (now (row .entry)) ⌝ }
 {
     let mut end = row.len();
-    if room < end / 6 {
-        end = 6 * room;
+    if room < end / RECORD_NUMBERS {
+        end = RECORD_NUMBERS * room;
     }
     studio_list::list(file, &mut row[..end])
 }
@@ -35,10 +37,10 @@ fn records_in(listed: Checked) -> usize
 
 // Record number i of a flat row.
 fn record_at(row: &[u32], i: usize) -> Record
-    requires { ⌜ 6 * i + 6 ≤ length (now row) ⌝ }
+    requires { ⌜ recordNumbers * i + recordNumbers ≤ length (now row) ⌝ }
     ensures { λ r. ⌜ r ≡ recordNo (now (row .entry)) i ⌝ }
 {
-    let at = 6 * i;
+    let at = RECORD_NUMBERS * i;
     Record {
         identifier: row[at],
         offset: row[at + 1],

@@ -3,10 +3,10 @@ use c_codes::checked_code;
 use studio_rules::Record;
 ghost use mathlib.Core.Path.{_≡_};
 ghost use Prim.Native.Nat.{_/_, _%_};
-ghost use lib.ListN.{length};
-ghost use Rattle.shared_words.specs.Encodings.{beside, plainRow, numberBytes};
-ghost use Rattle.studio_rules.specs.Encodings.{flatRecords, recordBytes};
+ghost use Rattle.shared_words.specs.Encodings.{numberBytes};
+ghost use Rattle.studio_rules.specs.Encodings.{recordBytes};
 ghost use Rattle.studio_rules.specs.Calls.{checkCall, listCall, tablesCall, nameCall, boxCall};
+ghost use Rattle.studio_list_table.specs.Listed.{inTable, inRow};
 ghost use Rattle.studio_mesh_tables.specs.Rows.{rows};
 ghost use Rattle.studio_write.specs.Write.{writeCall};
 ghost use Rattle.c_codes.specs.Codes.{recordsOr, sizesOr, sizeOr};
@@ -37,9 +37,9 @@ pub extern "C" fn tds_list(file: &[u8], records: &mut [u8]) -> u64
 // The count of records that now stand in the front of the table, and their numbers in the front of the row, or a refusal.
 #[no_mangle]
 pub extern "C" fn tds_records(file: &[u8], row: &mut [u32], table: &mut [Record]) -> u64
-    ensures answer { λ n. ⌜ n ≡ recordsOr (listCall (beside (length (now (row .entry)) / 6) plainRow) (now (file .entry)) (now (table .entry)) .answer) ⌝ }
-    ensures table { λ _. ⌜ now (table .exit) ≡ listCall (beside (length (now (row .entry)) / 6) plainRow) (now (file .entry)) (now (table .entry)) .rows ⌝ }
-    ensures row { λ _. ⌜ now (row .exit) ≡ listCall (beside (length (now (table .entry))) flatRecords) (now (file .entry)) (now (row .entry)) .rows ⌝ }
+    ensures answer { λ n. ⌜ n ≡ recordsOr (inTable (now (file .entry)) (now (row .entry)) (now (table .entry)) .answer) ⌝ }
+    ensures table { λ _. ⌜ now (table .exit) ≡ inTable (now (file .entry)) (now (row .entry)) (now (table .entry)) .rows ⌝ }
+    ensures row { λ _. ⌜ now (row .exit) ≡ inRow (now (file .entry)) (now (row .entry)) (now (table .entry)) .rows ⌝ }
 {
     checked_code(studio_list_table::list_records(file, row, table))
 }

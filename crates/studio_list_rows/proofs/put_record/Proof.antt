@@ -7,7 +7,7 @@ use native.Mathlib.Omega.{arith}
 use lib.ListN.{length}
 use lib.Seq.{sets, length-sets}
 use Rattle.shared_words.specs.Bytes.{packed}
-use Rattle.studio_rules.specs.Gives.{flat}
+use Rattle.studio_rules.specs.Gives.{recordNumbers, flat}
 use borrow.Author.Needs.{needs}
 use Rattle.studio_list_rows.proofs.Rows.{sets-empty}
 use Rattle.studio_list_rows.proofs.put_record.Statement.{statement}
@@ -25,15 +25,15 @@ empty-stays [] i xs e = sym (sets-empty i xs)
 empty-stays (x ∷ row) i xs e = absurd (omega arith)
 
 numbers-put : (c : lts.Joined1 calls reads.Pre reads.Post) → let x = c .before .before .before .args in
-    c .if1 .records ≡ sets (x .records .now) (6 * x .next) (flat (x .r ∷ []))
+    c .if1 .records ≡ sets (x .records .now) (recordNumbers * x .next) (flat (x .r ∷ []))
 numbers-put c =
     let x = c .before .before .before .args in
-    ⊎-elim (λ w. w .5 ∙ w .2 .ensures) (λ w. w .1 ∙ empty-stays (x .records .now) (6 * x .next) (flat (x .r ∷ [])) (w .0 .left)) (c .if1 .came)
+    ⊎-elim (λ w. w .5 ∙ w .2 .ensures) (λ w. w .1 ∙ empty-stays (x .records .now) (recordNumbers * x .next) (flat (x .r ∷ [])) (w .0 .left)) (c .if1 .came)
 
 numbers-kept : (c : lts.Joined1 calls reads.Pre reads.Post) → length (c .if1 .records) ≡ length (c .before .before .before .args .records .now)
 numbers-kept c =
     let x = c .before .before .before .args in
-    ap length (numbers-put c) ∙ length-sets (x .records .now) (6 * x .next) (flat (x .r ∷ []))
+    ap length (numbers-put c) ∙ length-sets (x .records .now) (recordNumbers * x .next) (flat (x .r ∷ []))
 
 mul-put-numbers : tie.Need-mul-put-numbers
 mul-put-numbers c = search needs
@@ -63,7 +63,7 @@ returns-2 : tie.Need-returns-2
 returns-2 c =
     let x = c .before .before .before .before .args in
     let n = numbers-put (c .before) in
-    let b = empty-stays (x .bytes .now) (24 * x .next) (packed 4 (flat (x .r ∷ []))) (c .if2 .left) in
+    let b = empty-stays (x .bytes .now) (4 * recordNumbers * x .next) (packed 4 (flat (x .r ∷ []))) (c .if2 .left) in
     cc
 
 pub put-record-spec : {M : Type 1} → statement M

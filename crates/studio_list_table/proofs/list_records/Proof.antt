@@ -82,6 +82,7 @@ use Rattle.studio_list_table.proofs.list_records as list-records
 use Rattle.studio_list_table.proofs.list_records.Statement as stated
 use Rattle.studio_list_table.proofs.list_records.Code as code
 use Rattle.studio_list_table.proofs.list_records.Code.Mir as mir-of
+use Rattle.studio_rules.specs.Gives.{recordNumbers}
 
 abbrev Arg : Type 0
 Arg = RefT (List ℕ) × (RefT (List ℕ) × (RefT (List Record) × Unit {0}))
@@ -230,7 +231,7 @@ module _ {M : Type 1} (𝓤 : URA M) (H : Heap 𝓤) (A : Atoms 𝓤) (W : Given
     total : n ≡ length (left .records)
     total = n-is ∙ left .counted
 
-    row-fits : 6 * n ≤ length l
+    row-fits : recordNumbers * n ≤ length l
     row-fits = omega (arith, total, left .row-fits)
 
     table-fits : n ≤ length ys
@@ -245,7 +246,7 @@ module _ {M : Type 1} (𝓤 : URA M) (H : Heap 𝓤) (A : Atoms 𝓤) (W : Given
 
     goes-read : (i : ℕ) → i < n → ent 𝓤 (sep 𝓤 (A .lft (ν ∷ []) fullShare) (sem 𝓤 H A Numbers)) (RecordAt 𝓤 H A mem run .pre (to-read i))
     goes-read i small =
-        let within : 6 * i + 6 ≤ length l = omega (arith, row-fits) in
+        let within : recordNumbers * i + recordNumbers ≤ length l = omega (arith, row-fits) in
         let fits : i < 2 ^ 64 = omega arith in
         qed W (‵ (flft (ν ∷ []) fullShare) ∷ ‵ Numbers ∷ []) ∵ nothing ! $ move ! (1 ∷ 0 ∷ []) $ join ! $ says ! within $ frame ! $
         nothing ! $ owned ! usize (Is usize) (uint-makes 𝓤 H A W w64) i _ (refl, fits) $ fjoin ! $ move ! (1 ∷ 0 ∷ []) $ fjoin ! $ done !
