@@ -49,8 +49,11 @@ count-of-requires c κs =
 returns : tie.Need-returns
 returns c =
     let x = c .before .before .before .before .before in
-    let g = c .before .r .given in
-    (λ p rest h. opened-fault p (x .args .at) (x .args .id) (slice (x .args .at + 6) (x .args .stop) (x .args .file .now)) rest (g .0 .0) (subst (Judges p (x .args .at) (x .args .id) (slice (x .args .at + 6) (x .args .stop) (x .args .file .now))) (g .1) (c .before .before .before .judge .ensures p h)), tt)
+    let g = c .before .r .given in (
+      λ p rest h. opened-fault p (x .args .at) (x .args .id) (slice (x .args .at + 6) (x .args .stop) (x .args .file .now)) rest (g .0 .0)
+          (subst (Judges p (x .args .at) (x .args .id) (slice (x .args .at + 6) (x .args .stop) (x .args .file .now))) (g .1) (c .before .before .before .judge .ensures p h)),
+      tt,
+    )
 
 returns-2 : tie.Need-returns-2
 returns-2 c =
@@ -60,7 +63,8 @@ returns-2 c =
     let u = sym (plus-is (x .args .id) (x .pre .3)) ∙ ap plusIn (sym (x .pre .4)) ∙ sym (c .before .before .may-have-children .ensures) ∙ c .before .if1 .taken in
     let n = c .count-of .ensures in (
       λ p rest h. subst (λ (y : Step). HeadIs (x .args .at) y (Head.Enter (x .args .id) (x .args .row) (c .count-of .result) (x .args .at + 6 + g .0 .0) (x .args .stop)))
-          (sym (opened-enters p (x .args .at) (x .args .id) (slice (x .args .at + 6) (x .args .stop) (x .args .file .now)) rest (g .0 .0) (subst (Judges p (x .args .at) (x .args .id) (slice (x .args .at + 6) (x .args .stop) (x .args .file .now))) (g .1) (c .before .before .before .before .before .before .judge .ensures p h))))
+          (sym (opened-enters p (x .args .at) (x .args .id) (slice (x .args .at + 6) (x .args .stop) (x .args .file .now)) rest (g .0 .0)
+          (subst (Judges p (x .args .at) (x .args .id) (slice (x .args .at + 6) (x .args .stop) (x .args .file .now))) (g .1) (c .before .before .before .before .before .before .judge .ensures p h))))
           (head-enter (x .args .file .now) (x .args .at) (x .args .stop) (g .0 .0) (x .args .id) (x .args .row) rest (x .pre .0) (x .pre .1) f u (x .pre .4) (c .count-of .result) n),
       (omega arith, omega arith, omega arith, n .small),
     )
@@ -72,7 +76,8 @@ returns-3 c =
     let f = judged-ends (x .args .file .now) (x .args .at) (x .args .id) (x .args .stop) (x .args .count) (x .pre .0) (x .pre .1) (x .pre .2) _ (c .before .before .before .before .before .judge .ensures) (g .0 .0) (g .1) in
     let u = sym (plus-is (x .args .id) (x .pre .3)) ∙ ap plusIn (sym (x .pre .4)) ∙ sym (c .before .may-have-children .ensures) ∙ c .if1 .left in (
       λ p rest h. subst (λ (y : Step). HeadIs (x .args .at) y (Head.Leaf (x .args .stop)))
-          (sym (opened-enters p (x .args .at) (x .args .id) (slice (x .args .at + 6) (x .args .stop) (x .args .file .now)) rest (g .0 .0) (subst (Judges p (x .args .at) (x .args .id) (slice (x .args .at + 6) (x .args .stop) (x .args .file .now))) (g .1) (c .before .before .before .before .before .judge .ensures p h))))
+          (sym (opened-enters p (x .args .at) (x .args .id) (slice (x .args .at + 6) (x .args .stop) (x .args .file .now)) rest (g .0 .0)
+          (subst (Judges p (x .args .at) (x .args .id) (slice (x .args .at + 6) (x .args .stop) (x .args .file .now))) (g .1) (c .before .before .before .before .before .judge .ensures p h))))
           (head-leaf (x .args .file .now) (x .args .at) (x .args .stop) (g .0 .0) (x .args .id) (x .args .row) rest (x .pre .0) (x .pre .1) f u),
       (omega arith, omega arith),
     )

@@ -21,13 +21,17 @@ cast-len : tie.Need-cast-len
 cast-len c = search needs
 
 returns-2 : tie.Need-returns-2
-returns-2 c = (header-short (c .before .before .before .before .args .file .now) (c .before .before .before .before .args .at) (c .before .before .before .before .args .end) (c .before .before .before .before .pre .0) (c .before .before .before .before .pre .1) (omega arith) (c .before .long-at .result) (c .before .long-at .ensures .is) (omega arith), tt)
+returns-2 c =
+    let x = c .before .before .before .before in
+    (header-short (x .args .file .now) (x .args .at) (x .args .end) (x .pre .0) (x .pre .1) (omega arith) (c .before .long-at .result) (c .before .long-at .ensures .is) (omega arith), tt)
 
 sub-if3 : tie.Need-sub-if3
 sub-if3 c = search needs
 
 returns-3 : tie.Need-returns-3
-returns-3 c = (header-overrun (c .before .before .before .before .before .args .file .now) (c .before .before .before .before .before .args .at) (c .before .before .before .before .before .args .end) (c .before .before .before .before .before .pre .0) (c .before .before .before .before .before .pre .1) (omega arith) (c .before .before .long-at .result) (c .before .before .long-at .ensures .is) (omega arith) (omega arith), tt)
+returns-3 c =
+    let x = c .before .before .before .before .before in
+    (header-overrun (x .args .file .now) (x .args .at) (x .args .end) (x .pre .0) (x .pre .1) (omega arith) (c .before .before .long-at .result) (c .before .before .long-at .ensures .is) (omega arith) (omega arith), tt)
 
 word-at-requires : tie.Need-word-at-requires
 word-at-requires c κs = search needs
@@ -39,10 +43,11 @@ add-t11 : tie.Need-add-t11
 add-t11 c = search needs
 
 returns-4 : tie.Need-returns-4
-returns-4 c = (
-  header-fine (c .before .before .before .before .before .before .args .file .now) (c .before .before .before .before .before .before .args .at) (c .before .before .before .before .before .before .args .end) (c .before .before .before .before .before .before .pre .0) (c .before .before .before .before .before .before .pre .1) (omega arith) (c .before .before .before .long-at .result) (c .before .before .before .long-at .ensures .is) (omega arith) (omega arith) (c .word-at .result) (c .word-at .ensures .is),
-  omega (arith, c .word-at .ensures .small),
-)
+returns-4 c =
+    let x = c .before .before .before .before .before .before in (
+      header-fine (x .args .file .now) (x .args .at) (x .args .end) (x .pre .0) (x .pre .1) (omega arith) (c .before .before .before .long-at .result) (c .before .before .before .long-at .ensures .is) (omega arith) (omega arith) (c .word-at .result) (c .word-at .ensures .is),
+      omega (arith, c .word-at .ensures .small),
+    )
 
 pub read-header-spec : {M : Type 1} → statement M
 read-header-spec =

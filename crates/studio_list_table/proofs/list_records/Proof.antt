@@ -401,7 +401,8 @@ module _ {M : Type 1} (𝓤 : URA M) (H : Heap 𝓤) (A : Atoms 𝓤) (W : Given
       use3 W (raw (ListBeside 𝓤 H A mem run .pre (to-list ν δ))) (goes-list ν δ) $
       calls-at ! (fmOf 𝓤 H (W .laws) 𝓣) (ListBeside 𝓤 H A mem run) (known .lists) (to-list ν δ)
       (and-then ! (load ! (from ! (stop !)) (look ! 36 refl)) (and-then ! (load ! (from ! (stop !)) (look ! 20 refl)) (and-then ! (load ! (from ! (stop !)) (look ! 18 refl)) (no-more !)))) (λ v.
-      use1 W (later (some (λ (r : Checked). ((‵ (flft κ₀ q₀) ⊛ ‵ (flft (ν ∷ []) fullShare) ⊛ ‵ ftrue) ⊛ ‵ (E.the-row .own r (v ∷ []))) ⊛ raw (ensured 𝓤 H A list-beside.ended (list-beside.clauses 𝓤 H A mem run) (κ₀, (ν ∷ [], tt)) (fx, (R δ xs, (length ys, tt))) tt r))))
+      use1 W (later (some (λ (r : Checked). ((‵ (flft κ₀ q₀) ⊛ ‵ (flft (ν ∷ []) fullShare) ⊛ ‵ ftrue) ⊛ ‵ (E.the-row .own r (v ∷ []))) ⊛
+      raw (ensured 𝓤 H A list-beside.ended (list-beside.clauses 𝓤 H A mem run) (κ₀, (ν ∷ [], tt)) (fx, (R δ xs, (length ys, tt))) tt r))))
       (id⊢ 𝓤 _) $
       await ! tt $ pick ! (λ r. split ! $
       move ! (1 ∷ []) $

@@ -69,7 +69,23 @@ lent-table = tyRef erased mut (pointee (T.the-row .written))
 
 -- the function, its locals' types as below: they are not computed at each step
 abbrev spelt : Fn
-spelt = record { lifetimes = 3; outlives = []; params = 3; locals = local (tyInt w64) valueLocal ∷ local (sliceTy (tyRef (named 0) imm (tyInt w8))) valueLocal ∷ local (sliceTy (tyRef (named 1) mut (tyInt w32))) valueLocal ∷ local (sliceTy (tyRef (named 2) mut (pointee (T.the-row .written)))) valueLocal ∷ local E′.mir valueLocal ∷ local lent-row valueLocal ∷ local (sliceTy lent-row) valueLocal ∷ local lent-table valueLocal ∷ local (sliceTy lent-table) valueLocal ∷ []; body = mir-of.t-1 }
+spelt = record {
+  lifetimes = 3;
+  outlives = [];
+  params = 3;
+  locals =
+      local (tyInt w64) valueLocal ∷
+      local (sliceTy (tyRef (named 0) imm (tyInt w8))) valueLocal ∷
+      local (sliceTy (tyRef (named 1) mut (tyInt w32))) valueLocal ∷
+      local (sliceTy (tyRef (named 2) mut (pointee (T.the-row .written)))) valueLocal ∷
+      local E′.mir valueLocal ∷
+      local lent-row valueLocal ∷
+      local (sliceTy lent-row) valueLocal ∷
+      local lent-table valueLocal ∷
+      local (sliceTy lent-table) valueLocal ∷
+      [];
+  body = mir-of.t-1;
+}
 
 -- the contracts that the proof cites
 module _ {M : Type 1} (𝓤 : URA M) (H : Heap 𝓤) (A : Atoms 𝓤) (mem : Memory → SProp 𝓤) (run : Routine → Fun 𝓤) where
