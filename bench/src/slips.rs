@@ -3,7 +3,7 @@
 
 use crate::calls::accepted;
 use crate::measure::{both, Times};
-use second::boundary::{Right, Slips};
+use second::boundary::{Right, Slips, Summing};
 use second::{read_slip, write_slip, Entry, MOST_ENTRIES};
 use std::hint::black_box;
 
