@@ -51,6 +51,10 @@ static void add_name(struct text *line, const char *name) {
     text_free(&whole);
 }
 
+static bool at_work(const struct row *row) {
+    return row->working == CHECKING || row->working == COPYING;
+}
+
 static void add_row(struct text *line, const struct row *row, bool named) {
     static const char *const doing[] = {"waiting", "checking figure", "copying file", "done"};
     if (named) {
@@ -58,13 +62,13 @@ static void add_row(struct text *line, const struct row *row, bool named) {
         text_add(line, ": ");
     }
     text_add(line, doing[row->working]);
-    if (row->working == CHECKING || row->working == COPYING) {
+    if (at_work(row)) {
         text_format(line, " %lu", row->at);
     }
     if (row->working == CHECKING || row->bad > 0) {
         text_format(line, ", %lu refused so far", row->bad);
     }
-    text_add(line, row->working == CHECKING || row->working == COPYING ? " ..." : "");
+    text_add(line, at_work(row) ? " ..." : "");
 }
 
 /* A character takes no more columns than it has bytes, so bytes are counted; none is cut in two. */
@@ -103,7 +107,7 @@ static void draw(struct progress *progress, const struct row *rows, size_t count
 /* Without a way back to earlier lines, only the first stick that is worked on is shown. */
 static const struct row *first_at_work(const struct row *rows, size_t count) {
     for (size_t i = 0; i + 1 < count; i++) {
-        if (rows[i].working != DONE) {
+        if (at_work(&rows[i])) {
             return &rows[i];
         }
     }
