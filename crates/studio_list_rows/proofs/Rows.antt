@@ -1,4 +1,4 @@
--- Records in a row: six numbers after six, and records after others.
+-- Records in a row: seven numbers after seven, and records after others.
 use mathlib.Core.Path.{_≡_, refl, sym, ap, _∙_}
 use mathlib.Core.List.{List, [], _∷_, _++_}
 use Prim.Native.Nat.{ℕ, suc, _+_, _*_, _≤_}
@@ -13,10 +13,11 @@ use Rattle.studio_rules.specs.Gives.{recordNumbers, flat}
 use Rattle.shared_words.proofs.Bytes.{length-packed, packed-append}
 use Rattle.studio_list_rows.specs.Lent.{Lent, Room, written}
 
--- six stores, one after the other
-pub six-stores : (row : List ℕ) (i id at len depth parent own : ℕ) →
-    set (set (set (set (set (set row i id) (i + 1) at) (i + 2) len) (i + 3) depth) (i + 4) parent) (i + 5) own ≡ sets row i (id ∷ at ∷ len ∷ depth ∷ parent ∷ own ∷ [])
-six-stores row i id at len depth parent own = simp towards-suc
+-- seven stores, one after the other
+pub seven-stores : (row : List ℕ) (i id at len depth parent own next : ℕ) →
+    set (set (set (set (set (set (set row i id) (i + 1) at) (i + 2) len) (i + 3) depth) (i + 4) parent) (i + 5) own) (i + 6) next ≡
+    sets row i (id ∷ at ∷ len ∷ depth ∷ parent ∷ own ∷ next ∷ [])
+seven-stores row i id at len depth parent own next = simp towards-suc
 
 -- an empty row stays empty
 pub sets-empty : (i : ℕ) (xs : List ℕ) → sets [] i xs ≡ []
@@ -30,7 +31,7 @@ pub record Even (k : ℕ) (f : List Record → List ℕ) : Type 0 where
   pub appends : (a b : List Record) → f (a ++ b) ≡ f a ++ f b
   pub size : (a : List Record) → length (f a) ≡ k * length a
 
-pub flat-even : Even 6 flat
+pub flat-even : Even recordNumbers flat
 flat-even = record { appends = appends; size = size }
   where
     appends : (a b : List Record) → flat (a ++ b) ≡ flat a ++ flat b
@@ -41,7 +42,7 @@ flat-even = record { appends = appends; size = size }
     size [] = refl
     size (r ∷ a) = omega (arith, size a)
 
-pub bytes-even : Even 24 (λ rs. packed 4 (flat rs))
+pub bytes-even : Even (4 * recordNumbers) (λ rs. packed 4 (flat rs))
 bytes-even = record {
   appends = λ a b. ap (packed 4) (flat-even .appends a b) ∙ packed-append 4 (flat a) (flat b);
   size = λ a. length-packed 4 (flat a) ∙ omega (arith, flat-even .size a);
