@@ -1,9 +1,9 @@
 -- The chunk of record number i of an accepted file: where its length field stands, and the file with another value there.
 use mathlib.Core.Path.{_≡_, refl, sym, ap, _∙_}
-use Prim.Native.Nat.{ℕ, zero, suc, _+_, _≤_, _<_}
+use Prim.Native.Nat.{ℕ, _+_, _≤_}
 use native.Mathlib.Omega.{arith}
-use mathlib.Core.List.{List, [], _∷_, _++_}
-use mathlib.Core.Option.{some, Option·some-ne-none}
+use mathlib.Core.List.{List, _++_}
+use mathlib.Core.Option.{some}
 use lib.ListN.{length, getElem?}
 use Rattle.studio_rules.specs.declared.Record.{Record}
 use Rattle.shared_words.specs.Bytes.{Bytes}

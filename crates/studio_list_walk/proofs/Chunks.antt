@@ -13,7 +13,7 @@ use Rattle.studio_rules.specs.Table.{listed, plus, shape}
 use Rattle.studio_rules.specs.OwnData.{ownSize}
 use Rattle.studio_rules.specs.Layout.{Run, end, skip, known, size, bytes}
 use Rattle.studio_rules.specs.Rules.{noChild}
-use Rattle.studio_rules.specs.Parses.{Place, within, Parses, Fits}
+use Rattle.studio_rules.specs.Parses.{Place, within, Fits}
 use Rattle.studio_rules.specs.Gives.{recordCount, recordsOf}
 use Rattle.shared_words.proofs.Bools.{and-parts, or-second}
 use Rattle.shared_numbers.specs.Numbers.{wordAt}

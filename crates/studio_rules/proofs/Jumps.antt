@@ -13,8 +13,8 @@ use borrow.Author.Tests.{leb-true, leb-false}
 use Rattle.studio_rules.specs.declared.Record.{Record}
 use Rattle.studio_rules.specs.Layout.{Run, end, skip, known, figure, size}
 use Rattle.studio_rules.specs.Gives.{recordCount, recordOf, recordsOf, list}
-use Rattle.studio_rules.specs.Theorems.{StepsOver, BranchesNest, SiblingsApart}
-use Rattle.studio_rules.proofs.At.{in-range, at-front, at-back, Which, which}
+use Rattle.studio_rules.specs.Theorems.{StepsOver, BranchesNest, SiblingsApart, Inside, child, deeper, BranchExactly}
+use Rattle.studio_rules.proofs.At.{there, in-range, at-front, at-back, Which, which}
 
 pub length-records : (o depth parent next : ℕ) (t : Run) → length (recordsOf o depth parent next t) ≡ recordCount t
 length-records o depth parent next end = refl
@@ -149,3 +149,37 @@ siblings-apart kids i j r q g k z m e = go (leb (r .next) j) refl
     go : (t : Bool) → leb (r .next) j ≡ t → r .next ≤ j
     go true h = leb-true (r .next) j h
     go false h = absurd (omega (arith, branches-nest kids i j r q g k m (leb-false (r .next) j h) .1, parent-earlier kids i r g z))
+
+-- ---- what is inside a record
+
+module _ (kids : Run) (i : ℕ) (r : Record) (h : getElem? (list kids) i ≡ some r) where
+  -- of those below n
+  inside-below : (n j : ℕ) → j < n → i < j → j < r .next → Inside (list kids) i j
+  inside-below zero j m g k = absurd (omega arith)
+  inside-below (suc n) j m g k =
+      let q = there (list kids) j (omega (arith, nested 0 0 0 0 (figure kids) i r h .within)) in
+      let z : 0 < j = omega arith in
+      let b = branches-nest kids i j r (q .0) h (q .1) g k .1 in
+      let e = parent-earlier kids j (q .0) (q .1) z in
+      go (inside-below n) q z b e (leb (q .0 .parent) i) refl
+    where
+      go : ((p : ℕ) → p < n → i < p → p < r .next → Inside (list kids) i p) → (q : (x : Record) × (getElem? (list kids) j ≡ some x)) → 0 < j →
+          i ≤ q .0 .parent → q .0 .parent < j → (t : Bool) → leb (q .0 .parent) i ≡ t → Inside (list kids) i j
+      go below q z b e true u = child (q .1) z (omega (arith, leb-true (q .0 .parent) i u))
+      go below q z b e false u = deeper (q .1) z (below (q .0 .parent) (omega arith) (leb-false (q .0 .parent) i u) (omega arith))
+
+  inside-within : (j : ℕ) → Inside (list kids) i j → (i < j) × (j < r .next)
+  inside-within j (child {q = q} k z e) =
+      let s = steps-over kids j q k in
+      let p = parent-earlier kids j q k z in
+      let same : s .1 .0 ≡ r = Option·some-injective (s .1 .0) r (sym (s .1 .1) ∙ rw e h) in
+      (omega arith, omega (arith, s .0, s .1 .2, rw same at (s .1 .2)))
+  inside-within j (deeper {q = q} k z u) =
+      let s = steps-over kids j q k in
+      let p = parent-earlier kids j q k z in
+      let w = inside-within (q .parent) u in
+      let b = branches-nest kids i (q .parent) r (s .1 .0) h (s .1 .1) (w .0) (w .1) .0 in
+      (omega (arith, w .0), omega (arith, s .0, s .1 .2))
+
+pub branch-exactly : BranchExactly
+branch-exactly kids i r h j = (λ b. inside-below kids i r h (suc j) j (omega arith) (b .0) (b .1), inside-within kids i r h j)

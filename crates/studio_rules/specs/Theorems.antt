@@ -52,6 +52,15 @@ BranchesNest = (kids : Run) (i j : ℕ) (r q : Record) → getElem? (list kids) 
 abbrev pub SiblingsApart : Type 0
 SiblingsApart = (kids : Run) (i j : ℕ) (r q : Record) → getElem? (list kids) i ≡ some r → getElem? (list kids) j ≡ some q → 0 < i → i < j → q .parent ≡ r .parent → r .next ≤ j
 
+-- record j is inside record i, at any depth: i is its parent, or its parent is inside i
+pub data Inside (rs : List Record) (i : ℕ) : ℕ → Type 0 where
+  child : {j : ℕ} {q : Record} → getElem? rs j ≡ some q → 0 < j → q .parent ≡ i → Inside rs i j
+  deeper : {j : ℕ} {q : Record} → getElem? rs j ≡ some q → 0 < j → Inside rs i (q .parent) → Inside rs i j
+
+-- A step goes over just the branch: what is inside record i is what is numbered above i and below its seventh number.
+abbrev pub BranchExactly : Type 0
+BranchExactly = (kids : Run) (i : ℕ) (r : Record) → getElem? (list kids) i ≡ some r → (j : ℕ) → ((i < j) × (j < r .next)) ↔ Inside (list kids) i j
+
 -- the chunks that m marks, as they stand in the file that has them
 abbrev pub putIn : Marked → List Piece
 putIn m = pieces 0 (figureOf m)
