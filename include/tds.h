@@ -53,6 +53,15 @@
 extern "C" {
 #endif
 
+/*
+ * The version of this header, 65536 * major + 256 * minor + patch; tds_version answers that of the
+ * library, in the same way. Where the major numbers differ a program must not go on: memory that is
+ * lent may be filled in another way than it was built for. (Version 1 had six numbers a record, and
+ * no tds_version.) CHANGELOG.md says what came with each.
+ */
+#define TDS_VERSION (65536 * 2 + 256 * 0 + 0)
+uint64_t tds_version(void);
+
 /* No file longer than this is a figure. One byte more is enough to hand to tds_check to be told. */
 #define TDS_LONGEST_FILE 1048576
 
@@ -112,11 +121,13 @@ uint64_t tds_check(const uint8_t *file, size_t file_len);
  * Answers the count of records and fills as many, from the start of the slice; or refuses with 1 to
  * 14, or 15 with the records needed (place). Room is records_len / TDS_RECORD_BYTES records.
  *
- * A record is six numbers, in the order of enum tds_record; tds_get_record reads one of them.
+ * A record is seven numbers, in the order of enum tds_record; tds_get_record reads one of them. The
+ * last is for stepping over a branch: the records inside a chunk, at any depth, are those with a
+ * number above its own and below its TDS_RECORD_NEXT.
  */
 uint64_t tds_list(const uint8_t *file, size_t file_len, uint8_t *records, size_t records_len);
 
-#define TDS_RECORD_NUMBERS 6
+#define TDS_RECORD_NUMBERS 7
 #define TDS_RECORD_BYTES (4 * TDS_RECORD_NUMBERS)
 
 enum tds_record {
@@ -125,10 +136,11 @@ enum tds_record {
     TDS_RECORD_LENGTH = 2, /* its length, with its header and all that is inside it */
     TDS_RECORD_DEPTH = 3,  /* 0 for 4D4D, 1 for the chunks in it, and so on */
     TDS_RECORD_PARENT = 4, /* the record number, from 0, of the chunk around it; 0 for 4D4D */
-    TDS_RECORD_OWN = 5     /* bytes of its own data: no header, no chunks inside it */
+    TDS_RECORD_OWN = 5,    /* bytes of its own data: no header, no chunks inside it */
+    TDS_RECORD_NEXT = 6    /* its own number, plus one, plus the count of records inside it */
 };
 
-/* One record of the list as a struct: the same six numbers, in the same order. */
+/* One record of the list as a struct: the same seven numbers, in the same order. */
 struct tds_chunk {
     uint32_t identifier;
     uint32_t offset;
@@ -136,6 +148,7 @@ struct tds_chunk {
     uint32_t depth;
     uint32_t parent;
     uint32_t own;
+    uint32_t next;
 };
 
 /*
@@ -145,9 +158,9 @@ struct tds_chunk {
  * table_len are in elements, and both are the machine's own numbers, aligned as the language wants
  * them; file_len is bytes. Room is what both have room for: the smaller of row_len /
  * TDS_RECORD_NUMBERS and table_len records. Answers the count of records and fills as many from the
- * start of the table, and the same numbers, six a record, from the start of the row; what is behind
- * keeps its contents. Or refuses with 1 to 14, or 15 with the records needed (place), and changes
- * neither.
+ * start of the table, and the same numbers, seven a record, from the start of the row; what is
+ * behind keeps its contents. Or refuses with 1 to 14, or 15 with the records needed (place), and
+ * changes neither.
  */
 uint64_t tds_records(const uint8_t *file, size_t file_len, uint32_t *row, size_t row_len,
                      struct tds_chunk *table, size_t table_len);

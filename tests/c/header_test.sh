@@ -62,13 +62,14 @@ END
 if "$CC" -Iinclude -c "$T/names.c" -o "$T/names.o" >"$T/out" 2>"$T/err"
 then pass; else fail 'they are not those of document 01'; fi
 
-try 'the struct of a record has its six numbers where the list has them'
+try 'the struct of a record has its seven numbers where the list has them'
 cat >"$T/chunk.c" <<'END'
 #include "tds.h"
 #define AT(field, number) typedef char field[offsetof(struct tds_chunk, field) == 4 * (number) ? 1 : -1];
 AT(identifier, TDS_RECORD_ID) AT(offset, TDS_RECORD_OFFSET) AT(length, TDS_RECORD_LENGTH)
 AT(depth, TDS_RECORD_DEPTH) AT(parent, TDS_RECORD_PARENT) AT(own, TDS_RECORD_OWN)
-typedef char whole[sizeof(struct tds_chunk) == TDS_RECORD_BYTES ? 1 : -1];
+AT(next, TDS_RECORD_NEXT)
+typedef char whole[sizeof(struct tds_chunk) == TDS_RECORD_BYTES && TDS_RECORD_BYTES == 28 ? 1 : -1];
 int main(void) { return 0; }
 END
 if "$CC" -Iinclude -c "$T/chunk.c" -o "$T/chunk.o" >"$T/out" 2>"$T/err"
