@@ -54,7 +54,7 @@ triangle >"$F/t.3ds"
 for name in a.3ds.part b.3ds~ 'c.3ds ' d.3DS.bak; do triangle >"$F/$name"; done
 stick "$F"
 status_is 2
-matches out "not checked: 4 files almost named as a figure: $F/a.3ds.part, $F/b.3ds~, $F/c.3ds , $F/d.3DS.bak: copy the figure again, and delete this"
+matches out "not checked: 4 files almost named as a figure: $F/a.3ds.part, $F/b.3ds~, $F/c.3ds\\\\x20, $F/d.3DS.bak: copy the figure again, and delete this"
 unsealed 1 0 4
 lines err 0
 stick --quiet "$F"
@@ -390,6 +390,22 @@ if [ -w /dev/full ]; then
 else
     skip 'there is no /dev/full'
 fi
+
+try 'closed streams are not taken over by the figures'
+edition closed_streams
+for stream in 1 2; do
+    # shellcheck disable=SC2016
+    ASAN_OPTIONS=$TRACED_ASAN timeout 60 "$HELPERS/traced" 'do' "readlink /proc/\$PROCESS/fd/$stream >'$T/seen'" "$F/adze.3ds" \
+        sh -c "exec $RUN '$S' '$F' $stream>&-" >"$T/out" 2>"$T/err"
+    status=$?
+    if [ "$status" -eq 125 ]; then skip 'nothing may be traced'; continue; fi
+    if [ "$(cat "$T/seen")" = /dev/null ]; then pass; else fail "stream $stream is $(cat "$T/seen")"; fi
+done
+# shellcheck disable=SC2086
+$RUN "$S" samples/edition >&- 2>"$T/err"
+status=$?
+status_is 2
+has err 'stick: what was found could not be written: Bad file descriptor'
 
 try 'a reader of the lines that has gone away'
 mkfifo "$T/closed"
