@@ -8,8 +8,7 @@
 
 #include "escape.h"
 #include "json.h"
-#include "refusals.h"
-#include "tds.h"
+#include "tds_words.h"
 
 /* What each outcome is called in a line. */
 static const char *const labels[OUTCOMES] = {
@@ -44,14 +43,9 @@ static void add_totals(struct text *line, const struct totals *totals) {
 }
 
 static void add_refusal(struct text *line, uint64_t answer) {
-    const struct refusal *refusal = refusal_of(TDS_REFUSAL(answer));
-    text_add(line, ": refused: ");
-    if (refusal != NULL) {
-        text_format(line, "%s (%d): %s", refusal->name, refusal->number, refusal->sentence);
-    } else {
-        text_format(line, "%d", TDS_REFUSAL(answer));
-    }
-    text_format(line, ", at byte %lu", (unsigned long)TDS_PLACE(answer));
+    int refusal = TDS_REFUSAL(answer);
+    text_format(line, ": refused: %s (%d): %s, at byte %lu", tds_refusal_name(refusal), refusal,
+                tds_refusal_words(refusal), (unsigned long)TDS_PLACE(answer));
 }
 
 static void add_words(struct text *line, const struct finding *finding) {
@@ -85,17 +79,17 @@ static void say_plainly(struct report *report, const struct finding *finding) {
 }
 
 static void say_as_json(struct report *report, const struct finding *finding) {
-    const struct refusal *refusal = refusal_of(TDS_REFUSAL(finding->answer));
+    int refusal = TDS_REFUSAL(finding->answer);
     struct text line = {0};
     json_begin(&line);
     json_path(&line, "path", finding->path);
     json_string(&line, "result", label_of(finding));
     if (finding->answer != 0) {
-        json_number(&line, "refusal", (unsigned long)TDS_REFUSAL(finding->answer));
-        json_string(&line, "name", refusal == NULL ? NULL : refusal->name);
+        json_number(&line, "refusal", (unsigned long)refusal);
+        json_string(&line, "name", tds_refusal_name(refusal));
         json_number(&line, "place", TDS_PLACE(finding->answer));
     }
-    json_string(&line, "words", refusal == NULL ? finding->words : refusal->sentence);
+    json_string(&line, "words", refusal == 0 ? finding->words : tds_refusal_words(refusal));
     json_string(&line, "remedy", finding->remedy);
     json_string(&line, "detail", finding->detail);
     if (finding->totals != NULL) {

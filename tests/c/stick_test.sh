@@ -553,7 +553,8 @@ memory=$RUN
 RUN=
 number=0
 for name in 'TOO LONG' 'NOT A FIGURE' TRAILING SHORT OVERRUN STRAY MISPLACED TWICE NAME LENGTH NUMBER \
-    INDEX COUNT MISSING 'NO ROOM' 'NO SUCH MESH' EMPTY SLIP DIFFERS; do
+    INDEX COUNT MISSING 'NO ROOM' 'NO SUCH MESH' EMPTY SLIP DIFFERS HEADER OWNER SIZE FATHER TEXT FORM ORDER \
+    COMBINATION MATERIAL 'SAME NAME' 'NO MATERIAL'; do
     number=$((number + 1))
     stick --explain "$number"
     status_is 0
@@ -563,11 +564,11 @@ for name in 'TOO LONG' 'NOT A FIGURE' TRAILING SHORT OVERRUN STRAY MISPLACED TWI
     widest=$(awk '{ if (length($0) > most) most = length($0) } END { print most }' "$T/out")
     if [ "$widest" -le 80 ]; then pass; else fail "a line of $widest characters"; fi
     sentence=$(sed -n "1s/^Refusal $number, $name: //p" "$T/out")
-    [ "$number" -gt 14 ] && continue
+    case $number in 15 | 16 | 17 | 29 | 30) continue ;; esac # mistakes of programs
     page=$(sed -n "/^\\.B $number $name\$/{n;p;}" stick/stick.1)
     if [ "$page" = "$sentence" ]; then pass; else fail "the manual page says: $page"; fi
     file=$(sed -n "s/ $number [0-9]*\$//p" samples/damaged/expected.txt | head -n 1)
-    [ "$number" -eq 1 ] && continue
+    [ -z "$file" ] && continue
     stick -q "samples/damaged/$file"
     has out ": refused: $name ($number): ${sentence%.}, at byte "
 done
@@ -576,7 +577,7 @@ for number in 0 31 -1 x 5x '' 99999999999999999999; do
     stick --explain "$number"
     status_is 2
     has err 'stick: there is no refusal '
-    has err 'They are numbered 1 to 19.'
+    has err 'They are numbered 1 to 30.'
 done
 RUN=$memory
 try '--explain by name'
