@@ -29,17 +29,13 @@ static const char *label_of(const struct finding *finding) {
     return finding->label == NULL ? labels[finding->outcome] : finding->label;
 }
 
-static void add_count(struct text *line, unsigned long count, const char *one, const char *many) {
-    text_format(line, "%lu %s", count, count == 1 ? one : many);
-}
-
 static void add_totals(struct text *line, const struct totals *totals) {
-    text_add(line, ": accepted: ");
-    add_count(line, totals->meshes, "mesh", "meshes");
-    text_add(line, ", ");
-    add_count(line, totals->vertices, "vertex", "vertices");
-    text_add(line, ", ");
-    add_count(line, totals->faces, "face", "faces");
+    text_add(line, ": accepted");
+    for (size_t i = 0; i < totals->kinds; i++) {
+        const struct thing *thing = &totals->things[i];
+        text_format(line, "%s%lu %s", i == 0 ? ": " : ", ", thing->count,
+                    thing->count == 1 ? thing->one : thing->many);
+    }
 }
 
 static void add_refusal(struct text *line, uint64_t answer) {
@@ -92,10 +88,8 @@ static void say_as_json(struct report *report, const struct finding *finding) {
     json_string(&line, "words", refusal == 0 ? finding->words : tds_refusal_words(refusal));
     json_string(&line, "remedy", finding->remedy);
     json_string(&line, "detail", finding->detail);
-    if (finding->totals != NULL) {
-        json_number(&line, "meshes", finding->totals->meshes);
-        json_number(&line, "vertices", finding->totals->vertices);
-        json_number(&line, "faces", finding->totals->faces);
+    for (size_t i = 0; finding->totals != NULL && i < finding->totals->kinds; i++) {
+        json_number(&line, finding->totals->things[i].many, finding->totals->things[i].count);
     }
     json_end(&line);
     screen_line(report->screen, report->job, TO_OUTPUT, line.bytes);

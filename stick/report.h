@@ -32,11 +32,14 @@ enum outcome {
     OUTCOMES
 };
 
-/* What --list says of an accepted figure. */
+/* What --list says of an accepted figure: how many there are of some things, as "3 meshes". */
+enum { MOST_THINGS = 3 };
 struct totals {
-    unsigned long meshes;
-    unsigned long vertices;
-    unsigned long faces;
+    struct thing {
+        const char *one, *many; /* what it is called */
+        unsigned long count;
+    } things[MOST_THINGS];
+    size_t kinds; /* of things */
 };
 
 /* What was found out about one file or folder. */
