@@ -10,11 +10,28 @@
 
 /* Files and folders that other computers put on every stick they see. */
 static const char *const left_behind[] = {
-    ".DS_Store",         ".Trashes",     ".Spotlight-V100",
-    ".fseventsd",        ".apdisk",      ".TemporaryItems",
-    ".AppleDouble",      "Thumbs.db",    "desktop.ini",
-    "ehthumbs.db",       "$RECYCLE.BIN", "System Volume Information",
-    "IndexerVolumeGuid", "autorun.inf",  ".DocumentRevisions-V100",
+    ".DS_Store",
+    ".Trashes",
+    ".Spotlight-V100",
+    ".fseventsd",
+    ".apdisk",
+    ".TemporaryItems",
+    ".AppleDouble",
+    ".DocumentRevisions-V100",
+    ".VolumeIcon.icns",
+    ".metadata_never_index",
+    "Icon\r",
+    "Thumbs.db",
+    "ehthumbs.db",
+    "desktop.ini",
+    "autorun.inf",
+    "$RECYCLE.BIN",
+    "RECYCLER",
+    "System Volume Information",
+    "IndexerVolumeGuid",
+    "LOST.DIR",
+    ".android_secure",
+    ".directory",
 };
 #define COUNT(row) (sizeof(row) / sizeof((row)[0]))
 

@@ -160,6 +160,7 @@ void report_join(struct report *sum, const struct report *report) {
     sum->folders += report->folders;
     sum->unwell += report_status(report) != 0;
     sum->bare += report->bare;
+    sum->slips += report->slips;
     sum->slip_files += report->slip_files;
     sum->from_memory = sum->from_memory || report->from_memory;
     sum->unfinished = sum->unfinished || report->unfinished;

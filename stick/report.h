@@ -65,7 +65,8 @@ struct report {
     unsigned long folders;    /* 1; the sum of several reports has more */
     unsigned long unwell;     /* of a sum: those in which not all is well */
     unsigned long bare;       /* folders with nothing to compare with: structure only */
-    unsigned long slip_files; /* on the slips that were written */
+    unsigned long slips;      /* that were written */
+    unsigned long slip_files; /* on them */
     bool from_memory;         /* some file could not be read from the stick itself */
     bool unfinished;
 };

@@ -78,7 +78,8 @@ triangle >"$F/adze.3ds"
 echo AppleDouble >"$F/._adze.3ds"
 echo '{' >"$F/Thumbs.db"
 echo '{' >"$F/.DS_Store"
-mkdir "$F/.Trashes" "$F/System Volume Information"
+mkdir "$F/.Trashes" "$F/System Volume Information" "$F/lost.dir" "$F/.Trash-1000"
+: >"$F/$(printf 'Icon\r')"
 echo bad >"$F/.Trashes/gone.3ds"
 stick "$F"
 status_is 1
@@ -87,9 +88,12 @@ matches out "$F/Thumbs.db: left by another computer: delete it"
 matches out "$F/\.DS_Store: left by another computer: delete it"
 matches out "$F/\.Trashes: left by another computer: delete it"
 matches out "$F/System Volume Information: left by another computer: delete it"
-lines out 6
+matches out "$F/lost.dir: left by another computer: delete it"
+matches out "$F/\.Trash-1000: left by another computer: delete it"
+has out "$F/Icon\\x0D: left by another computer: delete it"
+lines out 9
 lines err 0
-last "DO NOT SEAL: 1 figure checked, 0 refused, 5 left by another computer, $seconds: see above; structure only: no slip on this stick"
+last "DO NOT SEAL: 1 figure checked, 0 refused, 8 left by another computer, $seconds: see above; structure only: no slip on this stick"
 
 try 'the order is that of the names'
 folder order
