@@ -117,4 +117,18 @@ int main(void) { return 0; }
 END
 if "$CC" -Iinclude -c "$T/chunk.c" -o "$T/chunk.o" >"$T/out" 2>"$T/err"
 then pass; else fail 'they stand elsewhere'; fi
+try 'the manual page has every call and every refusal of the header'
+sed -n 's/^\(TDS_INLINE \)\{0,1\}[a-z].*[ *]\(tds_[a-z0-9_]*\)(.*/\2/p' include/tds.h include/tds_words.h | grep -v texts >"$T/calls"
+sed -n '/^enum tds_refusal/,/^};/s/^ *\(TDS_[A-Z_]*\) = [1-9].*/\1/p' include/tds.h >>"$T/calls"
+if [ "$(wc -l <"$T/calls")" -ge 41 ]; then pass; else fail 'the calls are not found in the header'; fi
+while read -r call; do
+    if grep -qw -e "$call" include/tds.3; then pass; else fail "not $call"; fi
+done <"$T/calls"
+try 'the manual pages are well written'
+if ! command -v groff >/dev/null; then skip 'there is no groff'; else
+    for page in stick/stick.1 include/tds.3; do
+        groff -t -man -ww -z -Tutf8 "$page" >"$T/out" 2>"$T/err"
+        lines err 0
+    done
+fi
 finish header_test
