@@ -62,7 +62,7 @@ IS(122, TDS_VERTICES(122 + 65536u * 65535u)) IS(65535, TDS_FACES(122 + 65536u * 
 int main(void) { return 0; }
 END
 if "$CC" -Iinclude -c "$T/names.c" -o "$T/names.o" >"$T/out" 2>"$T/err"
-then pass; else fail 'they are not those of document 01'; fi
+then pass; else fail 'they are not those of docs/FORMAT.md'; fi
 
 try 'the words of the refusals: all from 1 to 30, by the names that the header has for the numbers'
 {
