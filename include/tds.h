@@ -22,8 +22,8 @@
  *
  * ANSWERS. Each call answers one 64-bit number. Below 2^32 it is the answer proper, as each call
  * says; from 2^32 on it is a refusal: its number (enum tds_refusal) times 2^32, plus its place. The
- * macros TDS_REFUSED, TDS_REFUSAL and TDS_PLACE take it apart. (tds_sum_add and tds_sum_join alone
- * never refuse: all 64 bits of theirs are the answer.)
+ * macros TDS_REFUSED, TDS_REFUSAL and TDS_PLACE take it apart; tds_words.h has the numbers in
+ * words. (tds_sum_add and tds_sum_join alone never refuse: all 64 bits of theirs are the answer.)
  *
  * WHAT IS FILLED. Numbers go out little-endian, on every machine: four bytes each, corners two
  * bytes. Floats are the 4 bytes of an IEEE 754 single, bit for bit as in the file. tds_get2,
