@@ -25,10 +25,10 @@ static bool can_be_asked(const struct stat *status) {
     return major(status->st_dev) != 0 && (geteuid() == 0 || geteuid() == status->st_uid);
 }
 
-/* Whether any of these pages is in memory. */
+/* Whether any of these pages is in memory. (PROT_NONE: nothing is to be read by asking.) */
 static bool piece_is_held(int file, off_t from, size_t length) {
     unsigned char pages[PAGES] = {0};
-    void *piece = mmap(NULL, length, PROT_READ, MAP_SHARED, file, from);
+    void *piece = mmap(NULL, length, PROT_NONE, MAP_SHARED, file, from);
     bool held = false;
     if (piece == MAP_FAILED) {
         return false;
