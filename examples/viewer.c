@@ -17,6 +17,7 @@
 #include <string.h>
 
 #include "tds.h"
+#include "tds_words.h"
 
 /* One byte more than the longest figure, so that tds_check sees when a file is longer. */
 static uint8_t file[TDS_LONGEST_FILE + 1];
@@ -39,8 +40,9 @@ static int read_file(const char *path) {
 }
 
 static int refused(uint64_t answer) {
-    fprintf(stderr, "viewer: not shown: refusal %d, place %lu\n", TDS_REFUSAL(answer),
-            (unsigned long)TDS_PLACE(answer));
+    int refusal = TDS_REFUSAL(answer);
+    fprintf(stderr, "viewer: not shown: %s (refusal %d, place %lu)\n", tds_refusal_words(refusal),
+            refusal, (unsigned long)TDS_PLACE(answer));
     return 1;
 }
 

@@ -14,14 +14,16 @@
  * You need check nothing beforehand: any bytes of any length have an answer.
  *
  * SLICES. Each pointer is followed by the length of what it points to. It may have any alignment
- * where it points to bytes, and (NULL, 0) is an empty slice. The slices of a call must not overlap:
+ * where it points to bytes, and (NULL, 0) is an empty slice. NULL with a length above 0 is not: as
+ * with any pointer to less memory than its length says, nothing looks for it, and the program will
+ * mostly end there. The slices of a call must not overlap:
  * neither two slices lent to be filled, nor one of them and the file (or, for the calls that write,
  * what is to be written). The slices that are only read may overlap one another.
  *
  * ANSWERS. Each call answers one 64-bit number. Below 2^32 it is the answer proper, as each call
  * says; from 2^32 on it is a refusal: its number (enum tds_refusal) times 2^32, plus its place. The
- * macros TDS_REFUSED, TDS_REFUSAL and TDS_PLACE take it apart. (tds_sum_add and tds_sum_join alone
- * never refuse: all 64 bits of theirs are the answer.)
+ * macros TDS_REFUSED, TDS_REFUSAL and TDS_PLACE take it apart; tds_words.h has the numbers in
+ * words. (tds_sum_add and tds_sum_join alone never refuse: all 64 bits of theirs are the answer.)
  *
  * WHAT IS FILLED. Numbers go out little-endian, on every machine: four bytes each, corners two
  * bytes. Floats are the 4 bytes of an IEEE 754 single, bit for bit as in the file. tds_get2,
@@ -34,6 +36,12 @@
  * WHAT IS NEVER DONE. No call allocates memory, keeps or uses any state between calls, reads
  * anything but the slices it was given, writes anything but the slices it was lent, touches files,
  * prints, or ends the program. So all calls may be made from any number of threads at once.
+ *
+ * COST. Every call is linear in the lengths it is given, whatever is in the bytes; only the two
+ * calls about a whole slip compare names two by two, which takes 0.1 s at worst. Each call that
+ * reads a figure checks all of it first, in less than a millisecond for the longest: tds_list,
+ * tds_records and those about one mesh take up to twice that. tds_sum_join and tds_sum_matches read
+ * no bytes. Stack: a few kilobytes.
  *
  * ORDER OF REFUSALS. First what is wrong with the file (1 to 14; the first fault met, walking the
  * file from its start, a chunk's own faults before those inside it); then 16; then 17; then 15. So

@@ -1,6 +1,6 @@
 /*
- * The files that the boundary is tried with: document 01's bench samples, and one for each refusal.
- * All answers are written down here by hand, from the rules.
+ * The files that the boundary is tried with: the samples of docs/FORMAT.md, and one for each
+ * refusal. All answers are written down here by hand, from the rules.
  */
 #include "cases.h"
 
@@ -9,7 +9,7 @@
 
 #define REFUSAL(number, place) ((uint64_t)(number) << 32 | (place))
 
-/* The triangle of document 01, 86 bytes. */
+/* The triangle of docs/FORMAT.md, 86 bytes. */
 static const uint8_t triangle[] = {
     0x4D, 0x4D, 0x56, 0,    0, 0, 0x3D, 0x3D, 0x50, 0,    0,    0,             /* 0, 6 */
     0x00, 0x40, 0x4A, 0,    0, 0, 0x41, 0x00, 0x00, 0x41, 0x42, 0, 0, 0,       /* 12, 20 */
