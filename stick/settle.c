@@ -12,6 +12,7 @@
 #include <sys/mman.h>
 #include <sys/stat.h>
 #include <sys/sysmacros.h>
+#include <time.h>
 #include <unistd.h>
 
 enum { PAGES = 4096 };   /* asked about at a time */
@@ -79,6 +80,8 @@ int settle(int file) {
         error = drop(file);
     }
     for (int i = 0; i < MORE_TRIES && error == EBUSY; i++) {
+        const struct timespec pause = {.tv_nsec = 1000 * 1000};
+        nanosleep(&pause, NULL);
         error = drop(file);
     }
     return error;
