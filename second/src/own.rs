@@ -1,7 +1,8 @@
 //! A known chunk's own data: how long the row wants it, whether the body
-//! agrees (9, 10), and what its numbers must be (11; 12 for a 4130).
+//! agrees (9, 24, 10), and what its numbers must be (11; 12 for a 4130).
 
 use crate::bytes::{all_finite, corners_below, first_word, name_length, words_below};
+use crate::label::fits_label;
 use crate::table::{Own, Row};
 use crate::{Number, Refusal, HEADER};
 
@@ -96,10 +97,12 @@ impl Mesh {
     }
 }
 
-/// The length of the name a body begins with, or 9.
+/// The length of the name a body begins with, or 9 or 24.
 #[inline(never)]
 fn named(body: &[u8], at: usize) -> Result<usize, Refusal> {
-    name_length(body).ok_or(Number::Name.at(at))
+    let length = name_length(body).ok_or(Number::Name.at(at))?;
+    Number::Text.unless(fits_label(&body[..length - 1]), at)?;
+    Ok(length)
 }
 
 /// The length that own data must have, if the body agrees with the row, or 10.

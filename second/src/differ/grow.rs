@@ -1,6 +1,7 @@
 //! Valid figures, grown at random: every row of the table in every place it
 //! may stand, in any order, with private chunks between.
 
+use super::names;
 use super::node::Node;
 use super::random::Random;
 use crate::{row, Own};
@@ -145,8 +146,7 @@ impl Grower<'_> {
             39 => self.random.below(300),
             _ => self.random.from_to(1, 12),
         };
-        let mut name = self.random.bytes(length);
-        name.iter_mut().for_each(|byte| *byte = (*byte).max(1));
+        let mut name = names::name(length, self.random);
         name.push(0);
         name
     }

@@ -4,6 +4,7 @@
 mod accepted;
 mod bytes;
 mod calls;
+mod labels;
 mod refused;
 mod rows;
 mod tree;
@@ -33,6 +34,7 @@ pub fn cases() -> Vec<Case> {
     cases.extend(accepted::cases());
     cases.extend(refused::cases());
     cases.extend(rows::cases());
+    cases.extend(labels::cases());
     cases.extend(bytes::cases());
     cases.extend(writings::cases());
     cases

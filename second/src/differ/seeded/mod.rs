@@ -5,6 +5,7 @@ mod calls;
 mod misread;
 mod own;
 mod reader;
+mod text;
 mod writer;
 
 pub use misread::{errors as misread_rows, Misread};
@@ -62,7 +63,13 @@ errors! {
     WriterRoomOff WriterInfinityAllowed WriterMinusInfinityAllowed WriterCountPlace
     WriterNumberPlace WriterIndexPlace WriterLimitOff WriterLimitNotJudged;
 
-    "next": NextWithoutOne NextIsCount NextOfUnlistedToo NextOfChildrenOnly
+    "next": NextWithoutOne NextIsCount NextOfUnlistedToo NextOfChildrenOnly;
+
+    "labels": TextNotJudged TextOf64 TextOf62 TextSpaceRefused TextTildeRefused Text127Allowed
+    Text128Allowed Text31Allowed TextBeforeName TextAfterLength TextBeforeTwice TextLongBeforeName
+    TextOfGroupsUnjudged TextOfSpotsUnjudged TextOfMaterialsUnjudged TextOfObjectsUnjudged TextPlace
+    TextFirst63Only WriterTextNotJudged WriterTextBeforeName WriterTextAfterCount
+    WriterTextAtFirstBad WriterTextAt63 WriterTextOf64
 }
 
 /// The plain reader, with an error or without.

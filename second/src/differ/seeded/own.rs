@@ -7,7 +7,7 @@ use crate::differ::facts::Mesh;
 use crate::{Number, Own, Refusal, Row};
 
 impl Reader<'_> {
-    /// The length of own data, or 9 or 10.
+    /// The length of own data, or 9, 24 or 10.
     pub fn own(&self, row: Row, at: usize, length: usize) -> Result<usize, Refusal> {
         let body = &self.file[at + 6..at + length];
         let own = match row.own {
@@ -36,7 +36,12 @@ impl Reader<'_> {
         if row.own == Own::Group && own < body.len() && self.makes(Error::IndexBeforeLength) {
             self.group(&body[..own], at)?;
         }
-        match own == body.len() || (own < body.len() && longer) {
+        let fits = own == body.len() || (own < body.len() && longer);
+        if fits && matches!(row.own, Own::Name | Own::Group) {
+            let name = body.split(|byte| *byte == 0).next();
+            self.text(name.unwrap_or_default(), at)?;
+        }
+        match fits {
             true if row.holds == 0 => Ok(body.len()),
             true => Ok(own),
             false if self.number_first(row, body) => Err(Number::Number.at(at)),
@@ -51,7 +56,7 @@ impl Reader<'_> {
         self.makes(Error::NumberBeforeLength) && floats && body.len() > 2 && bad(body)
     }
 
-    /// The length of a name, or 9.
+    /// The length of a name, or 9 or 24.
     fn named(&self, body: &[u8], at: usize, least: usize) -> Result<usize, Refusal> {
         let searched = match self.seeded.error {
             Some(Error::NameBeyondChunk) => &self.file[at + 6..],
@@ -59,11 +64,12 @@ impl Reader<'_> {
         };
         match searched.iter().position(|byte| *byte == 0) {
             Some(0) if self.makes(Error::EmptyNameRefused) => Err(Number::Name.at(at)),
-            Some(zero) => Ok(zero + 1),
+            Some(zero) if self.makes(Error::TextAfterLength) => Ok(zero + 1),
+            Some(zero) => self.text(&searched[..zero], at).map(|()| zero + 1),
             None if self.makes(Error::LengthBeforeName) && body.len() < least => {
                 Err(Number::Length.at(at))
             }
-            None => Err(Number::Name.at(at)),
+            None => Err(self.nameless(body, at)),
         }
     }
 

@@ -213,8 +213,10 @@ impl Reader<'_> {
         if self.makes(Error::TwiceEachAlone) && row.under == place::H4000 && once != 0 {
             once = 1 << (self.word(at) >> 8 & 7);
         }
-        if self.makes(Error::LengthBeforeTwice) {
-            self.own(row, at, length)?;
+        let own = self.own(row, at, length);
+        let text = own.is_err_and(|refusal| refusal.number == Number::Text as u32);
+        if self.makes(Error::LengthBeforeTwice) || text && self.makes(Error::TextBeforeTwice) {
+            own?;
         }
         let name = self.word(at) == 0xA000 && self.makes(Error::TwiceAcrossParents);
         if once & *met != 0 || (name && self.met_in_file != 0) {
