@@ -25,7 +25,7 @@ impl Entries {
 pub struct Mesh {
     pub vertices: Entries,
     pub faces: Entries,
-    mapping: Option<Entries>,
+    pub mapping: Option<Entries>,
 }
 
 impl Mesh {
@@ -79,8 +79,9 @@ impl Mesh {
         }
     }
 
-    /// What is judged at the mesh's end: its corners, then its mapping count.
-    pub fn close(&self, file: &[u8]) -> Result<(), Refusal> {
+    /// What is judged at the mesh's end: its corners, then its mapping count,
+    /// which is that of the vertices, or may be less if it need not be whole.
+    pub fn close(&self, file: &[u8], mapped_whole: bool) -> Result<(), Refusal> {
         let start = self.faces.start();
         let faces = match self.faces.count {
             0 => &[],
@@ -88,12 +89,11 @@ impl Mesh {
         };
         let below = corners_below(faces, self.vertices.count);
         Number::Index.unless(below, self.faces.chunk)?;
-        match self.mapping {
-            Some(mapping) if mapping.count != self.vertices.count => {
-                Err(Number::Count.at(mapping.chunk))
-            }
-            _ => Ok(()),
-        }
+        let Some(mapping) = self.mapping else {
+            return Ok(());
+        };
+        let (m, n) = (mapping.count, self.vertices.count);
+        Number::Count.unless(m == n || (m < n && !mapped_whole), mapping.chunk)
     }
 }
 

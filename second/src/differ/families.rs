@@ -10,7 +10,7 @@ use super::lent::Difference;
 use super::node::Node;
 use super::random::Random;
 use super::writing::Writing;
-use super::{damage, harm, long, rows};
+use super::{damage, harm, long, rows, versions};
 use crate::boundary::Boundary;
 use crate::{row, LIMIT};
 
@@ -21,6 +21,7 @@ pub enum Family {
     Rows,
     Faults,
     Names,
+    Versions,
     Damage,
     Gaps,
     Boxes,
@@ -32,11 +33,12 @@ pub enum Family {
 }
 
 /// Each family, its share of all cases in ten thousand, and what it is.
-pub const FAMILIES: [(Family, u64, &str); 12] = [
+pub const FAMILIES: [(Family, u64, &str); 13] = [
     (Family::Grown, 1_700, "valid figures"),
     (Family::Rows, 1_500, "each row in each place"),
     (Family::Faults, 2_000, "each two faults at one chunk"),
     (Family::Names, 400, "names that no label takes"),
+    (Family::Versions, 800, "versions and mapping lists"),
     (Family::Damage, 1_800, "bits, lengths, bytes damaged"),
     (Family::Gaps, 700, "private chunks in gaps"),
     (Family::Boxes, 300, "boxes of floats of note"),
@@ -62,6 +64,7 @@ pub fn make(family: Family, index: u64, random: &mut Random) -> Subject {
         Family::Rows => rows::tried(spread(rows::CASES), random).bytes(),
         Family::Faults => faulty(spread(harm::CASES), random),
         Family::Names => harm::misnamed(random).bytes(),
+        Family::Versions => versions::figure(random).bytes(),
         Family::Damage => damaged(random),
         Family::Boxes => floats(random),
         Family::Soup => soup(0x4D4D, 0, random).bytes(),

@@ -47,4 +47,5 @@ pub mod shrink;
 pub mod slips;
 pub mod sums;
 pub mod turned;
+pub mod versions;
 pub mod writing;

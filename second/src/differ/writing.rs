@@ -143,6 +143,7 @@ impl Writing {
             meshes: vec![facts::Mesh {
                 vertices: floats.collect(),
                 corners: words.collect(),
+                mapping: vec![],
                 name: [18, name as u32],
             }],
         }

@@ -8,6 +8,7 @@ mod labels;
 mod refused;
 mod rows;
 mod tree;
+mod versions;
 mod writings;
 
 use super::compare::Pair;
@@ -35,6 +36,7 @@ pub fn cases() -> Vec<Case> {
     cases.extend(refused::cases());
     cases.extend(rows::cases());
     cases.extend(labels::cases());
+    cases.extend(versions::cases());
     cases.extend(bytes::cases());
     cases.extend(writings::cases());
     cases

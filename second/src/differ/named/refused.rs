@@ -52,6 +52,13 @@ fn mesh(parts: Vec<Node>) -> Node {
     figure(vec![meshed("m", parts)])
 }
 
+/// The same in a figure whose version asks for as many pairs as vertices.
+fn mapped(which: usize, name: &str, parts: Vec<Node>, number: u32) -> Fault {
+    let mut root = mesh(parts);
+    root.children.push(Node::leaf(0x0002, vec![3, 0, 0, 0]));
+    at(&[0, 0, 0, which], name, root, number)
+}
+
 /// A chunk without its last byte of own data, and one with a byte more.
 fn shorter(mut node: Node) -> Node {
     node.own.pop();
@@ -144,10 +151,10 @@ fn mapping() -> Vec<Fault> {
     let bad = || faces(&[[0, 0, 2]], vec![]);
     let (less, more) = (|| pairs(&[0.0; 2]), || pairs(&[0.0; 6]));
     vec![
-        part(0, "a 4140 without a 4110", vec![less()], 13),
-        part(1, "a pair too few", vec![good(), less()], 13),
-        part(0, "a pair too many", vec![more(), good()], 13),
-        part(0, "no pairs", vec![pairs(&[]), good()], 13),
+        mapped(0, "a 4140 without a 4110", vec![less()], 13),
+        mapped(1, "a pair too few", vec![good(), less()], 13),
+        mapped(0, "a pair too many", vec![more(), good()], 13),
+        mapped(0, "no pairs", vec![pairs(&[]), good()], 13),
         part(2, "13 against 12", vec![more(), good(), bad()], 12),
         part(2, "13 against 10 behind it", vec![more(), good(), Node::leaf(0x4160, vec![0; 47])], 10),
     ]

@@ -6,6 +6,7 @@ mod misread;
 mod own;
 mod reader;
 mod text;
+mod version;
 mod writer;
 
 pub use misread::{errors as misread_rows, Misread};
@@ -69,7 +70,11 @@ errors! {
     Text128Allowed Text31Allowed TextBeforeName TextAfterLength TextBeforeTwice TextLongBeforeName
     TextOfGroupsUnjudged TextOfSpotsUnjudged TextOfMaterialsUnjudged TextOfObjectsUnjudged TextPlace
     TextFirst63Only WriterTextNotJudged WriterTextBeforeName WriterTextAfterCount
-    WriterTextAtFirstBad WriterTextAt63 WriterTextOf64
+    WriterTextAtFirstBad WriterTextAt63 WriterTextOf64;
+
+    "mapping": VersionAbsentIsNew Version3IsOld Version2IsNew VersionSigned VersionIsAByte VersionOfLast
+    VersionOfAnyLength VersionStopsAtOther VersionBeforeEditOnly VersionInside VersionLostAtBadHeader
+    PairsWithoutList PairsNotCompleted PairsOfOnes PairsOfFirst PairsRoomInVertices PairsRoomOfPart
 }
 
 /// The plain reader, with an error or without.

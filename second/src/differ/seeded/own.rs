@@ -94,7 +94,7 @@ impl Reader<'_> {
                 let vertices = floats.to_vec();
                 self.parts.vertices = Some(vertices);
             }
-            Own::Mapping => self.parts.mapping = count(&data).map(|count| (at, count)),
+            Own::Mapping => self.parts.mapping = Some((at, data[2..].to_vec())),
             Own::Group => self.group(&data, at)?,
             Own::Faces => return self.faces(data, at),
             _ => (),
@@ -153,7 +153,7 @@ impl Reader<'_> {
         }
     }
 
-    fn vertices(&self) -> usize {
+    pub fn vertices(&self) -> usize {
         self.parts
             .vertices
             .as_ref()
@@ -185,22 +185,6 @@ impl Reader<'_> {
         }
     }
 
-    /// The count of a 4140.
-    fn mapping(&self) -> Result<(), Refusal> {
-        if self.parts.vertices.is_none() && self.makes(Error::MappingAloneUnjudged) {
-            return Ok(());
-        }
-        let good = |m| match self.seeded.error {
-            Some(Error::MappingAtMost) => m <= self.vertices(),
-            Some(Error::MappingAtLeast) => m >= self.vertices(),
-            _ => m == self.vertices(),
-        };
-        match self.parts.mapping {
-            Some((at, m)) if !good(m) => Err(Number::Count.at(at)),
-            _ => Ok(()),
-        }
-    }
-
     /// The end of a mesh.
     pub fn close(&mut self, at: usize) -> Result<(), Refusal> {
         match self.seeded.error {
@@ -227,12 +211,32 @@ impl Reader<'_> {
         let faces = parts.faces.chunks_exact(8);
         let mut corners: Vec<u8> = faces.flat_map(|face| face[..words].to_vec()).collect();
         corners.truncate(parts.faces.len() / 8 * 6);
+        let vertices = parts.vertices.unwrap_or_default();
+        let mapping = self.completed(parts.mapping, vertices.len() / 12 * 8);
         self.read.meshes.push(Mesh {
-            vertices: parts.vertices.unwrap_or_default(),
+            vertices,
             corners,
+            mapping,
             name: self.name,
         });
         Ok(())
+    }
+}
+
+impl Reader<'_> {
+    /// The mapping table of so many bytes: what is missing is zero, and without a
+    /// 4140 there is none.
+    fn completed(&self, pairs: Option<(usize, Vec<u8>)>, bytes: usize) -> Vec<u8> {
+        let all = self.makes(Error::PairsWithoutList);
+        let Some((_, mut pairs)) = pairs.or(all.then_some((0, vec![]))) else {
+            return vec![];
+        };
+        match self.seeded.error {
+            Some(Error::PairsNotCompleted) => (),
+            Some(Error::PairsOfOnes) => pairs.resize(bytes, 0x3F),
+            _ => pairs.resize(bytes, 0),
+        }
+        pairs
     }
 }
 

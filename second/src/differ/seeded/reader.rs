@@ -22,7 +22,7 @@ pub struct Parts {
     pub vertices: Option<Vec<u8>>,
     pub faces: Vec<u8>,
     pub faces_at: usize,
-    pub mapping: Option<(usize, usize)>,
+    pub mapping: Option<(usize, Vec<u8>)>,
     /// A refusal put off to the mesh's end, by mistake.
     pub put_off: Option<Refusal>,
 }
@@ -107,7 +107,7 @@ impl Reader<'_> {
         usize::from(self.file[at]) + 256 * usize::from(self.file[at + 1])
     }
 
-    fn length(&self, at: usize) -> usize {
+    pub fn length(&self, at: usize) -> usize {
         let more = if self.makes(Error::LengthExcludesHeader) {
             6
         } else {
