@@ -179,12 +179,12 @@ try 'a folder with no figure in it'
 folder none
 stick "$F"
 status_is 2
-matches err "stick: $F: not checked: there is no figure \(\.3ds\) in this folder: see that it is the right folder, and that the edition was copied"
+matches err "stick: $F: not checked: there is no figure in this folder: see that it is the right folder, and that the edition was copied"
 mkdir "$F/below"
 echo text >"$F/below/notes.txt"
 stick "$F" samples/edition
 status_is 2
-matches err "stick: $F: not checked: there is no figure \(\.3ds\) in this folder: see that it is the right folder, and that the edition was copied"
+matches err "stick: $F: not checked: there is no figure in this folder: see that it is the right folder, and that the edition was copied"
 lines err 1
 unsealed 6 0 1
 
