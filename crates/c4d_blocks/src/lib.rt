@@ -1,0 +1,76 @@
+// Chunks and sub-chunks in a slice: what the header at a position tells. The three kinds of header differ in how many bytes they
+// have for the identifier and for the size.
+use shared_big_endian::long_at;
+use shared_big_endian::word_at;
+ghost use Prim.Native.Nat.{_≤_};
+ghost use lib.ListN.{length};
+ghost use Rattle.c4d_rules.specs.Blocks.{chunkHeader, materialHeader, objectHeader};
+ghost use Rattle.c4d_blocks.specs.Headers.{Sees};
+
+pub struct Head {
+    pub id: usize,
+    pub len: usize,
+}
+
+// What stands between a position and an end: a whole block, or not even one.
+pub enum Seen {
+    Cut,
+    Block(Head),
+}
+
+// A chunk: four letters and a size.
+pub fn chunk_at(file: &[u8], at: usize, to: usize) -> Seen
+    requires { ⌜ (at ≤ to) × (to ≤ length (now file)) ⌝ }
+    ensures { λ r. ⌜ Sees chunkHeader (now (file .entry)) at to r ⌝ }
+{
+    let left = to - at;
+    if left < 8 {
+        return Seen::Cut;
+    }
+    let len = long_at(file, at + 4);
+    if left - 8 < len {
+        return Seen::Cut;
+    }
+    Seen::Block(Head {
+        id: long_at(file, at),
+        len: len,
+    })
+}
+
+// A sub-chunk of MAT4: a word and a size of two bytes.
+pub fn material_at(file: &[u8], at: usize, to: usize) -> Seen
+    requires { ⌜ (at ≤ to) × (to ≤ length (now file)) ⌝ }
+    ensures { λ r. ⌜ Sees materialHeader (now (file .entry)) at to r ⌝ }
+{
+    let left = to - at;
+    if left < 4 {
+        return Seen::Cut;
+    }
+    let len = word_at(file, at + 2);
+    if left - 4 < len {
+        return Seen::Cut;
+    }
+    Seen::Block(Head {
+        id: word_at(file, at),
+        len: len,
+    })
+}
+
+// A sub-chunk of OBJ5: a byte and a size of three.
+pub fn object_at(file: &[u8], at: usize, to: usize) -> Seen
+    requires { ⌜ (at ≤ to) × (to ≤ length (now file)) ⌝ }
+    ensures { λ r. ⌜ Sees objectHeader (now (file .entry)) at to r ⌝ }
+{
+    let left = to - at;
+    if left < 4 {
+        return Seen::Cut;
+    }
+    let len = long_at(file, at) % 16777216;
+    if left - 4 < len {
+        return Seen::Cut;
+    }
+    Seen::Block(Head {
+        id: file[at] as usize,
+        len: len,
+    })
+}
