@@ -10,7 +10,6 @@ use Rattle.shared_words.specs.declared.Refusal.the-variants.{Overrun}
 use Rattle.shared_words.specs.Conditions.{broken}
 use Rattle.c4d_rules.specs.Blocks.{Block, Header, width, identifier}
 use Rattle.c4d_rules.specs.Read.{blockAt, blockConditions}
-use Rattle.c4d_blocks.specs.declared.Head.{Head}
 use Rattle.c4d_blocks.specs.declared.Seen.{Seen}
 
 -- the block at a position, where `to` is the end of what it stands in
@@ -31,4 +30,4 @@ pub record Tells (h : Header) (s : List ℕ) (at to id len : ℕ) : Type 0 where
 
 abbrev pub Sees : Header → List ℕ → ℕ → ℕ → Seen → Type 0
 Sees h s at to Seen.Cut = overrun h s at to ≡ some (Overrun at)
-Sees h s at to (Seen.Block head) = Tells h s at to (head .id) (head .len)
+Sees h s at to (Seen.Block id len) = Tells h s at to id len

@@ -7,15 +7,10 @@ ghost use lib.ListN.{length};
 ghost use Rattle.c4d_rules.specs.Blocks.{chunkHeader, materialHeader, objectHeader};
 ghost use Rattle.c4d_blocks.specs.Headers.{Sees};
 
-pub struct Head {
-    pub id: usize,
-    pub len: usize,
-}
-
-// What stands between a position and an end: a whole block, or not even one.
+// What stands between a position and an end: a whole block, its identifier and its size, or not even one.
 pub enum Seen {
     Cut,
-    Block(Head),
+    Block(usize, usize),
 }
 
 // A chunk: four letters and a size.
@@ -31,10 +26,7 @@ pub fn chunk_at(file: &[u8], at: usize, to: usize) -> Seen
     if left - 8 < len {
         return Seen::Cut;
     }
-    Seen::Block(Head {
-        id: long_at(file, at),
-        len: len,
-    })
+    Seen::Block(long_at(file, at), len)
 }
 
 // A sub-chunk of MAT4: a word and a size of two bytes.
@@ -50,10 +42,7 @@ pub fn material_at(file: &[u8], at: usize, to: usize) -> Seen
     if left - 4 < len {
         return Seen::Cut;
     }
-    Seen::Block(Head {
-        id: word_at(file, at),
-        len: len,
-    })
+    Seen::Block(word_at(file, at), len)
 }
 
 // A sub-chunk of OBJ5: a byte and a size of three.
@@ -69,8 +58,5 @@ pub fn object_at(file: &[u8], at: usize, to: usize) -> Seen
     if left - 4 < len {
         return Seen::Cut;
     }
-    Seen::Block(Head {
-        id: file[at] as usize,
-        len: len,
-    })
+    Seen::Block(file[at] as usize, len)
 }
