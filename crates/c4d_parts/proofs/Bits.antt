@@ -41,9 +41,9 @@ bits-small : (there : ℕ → Bool) (w id : ℕ) → bitsFrom there id w < 2 ^ w
 bits-small there zero id = rw (pow-zero 2) (omega arith)
 bits-small there (suc w) id = rw (pow-succ' 2 w) (omega (arith, bit-small (there id), bits-small there w (suc id)))
 
-bits-same : (f g : ℕ → Bool) (w id : ℕ) → ((j : ℕ) → id ≤ j → f j ≡ g j) → bitsFrom f id w ≡ bitsFrom g id w
+bits-same : (f g : ℕ → Bool) (w id : ℕ) → ((j : ℕ) → id ≤ j → j < id + w → f j ≡ g j) → bitsFrom f id w ≡ bitsFrom g id w
 bits-same f g zero id h = refl
-bits-same f g (suc w) id h = rw (h id (omega arith), bits-same f g w (suc id) (λ j l. h j (omega arith)))
+bits-same f g (suc w) id h = rw (h id (omega arith) (omega arith), bits-same f g w (suc id) (λ j l m. h j (omega arith) (omega arith)))
 
 -- g is f and one more
 bits-set : (f g : ℕ → Bool) (w k id : ℕ) → k < w → f (id + k) ≡ false → g (id + k) ≡ true → ((j : ℕ) → (j ≡ id + k → ⊥) → f j ≡ g j) →
@@ -51,7 +51,7 @@ bits-set : (f g : ℕ → Bool) (w k id : ℕ) → k < w → f (id + k) ≡ fals
 bits-set f g zero k id l p q h = absurd (omega arith)
 bits-set f g (suc w) zero id l p q h =
     let z : id + 0 ≡ id = omega arith in
-    let e = bits-same f g w (suc id) (λ j m. h j (λ (x : j ≡ id + 0). omega arith)) in
+    let e = bits-same f g w (suc id) (λ j m n. h j (λ (x : j ≡ id + 0). omega arith)) in
     rw (pow-zero 2, rw z at p, rw z at q, e) (omega arith)
 bits-set f g (suc w) (suc k) id l p q h =
     let s : suc id + k ≡ id + suc k = omega arith in
@@ -61,7 +61,7 @@ bits-set f g (suc w) (suc k) id l p q h =
 
 -- ---- of identifiers
 
-among-snoc : (x : ℕ) (ids : List ℕ) (id : ℕ) → among x (ids ++ (id ∷ [])) ≡ (among x ids || eqb x id)
+pub among-snoc : (x : ℕ) (ids : List ℕ) (id : ℕ) → among x (ids ++ (id ∷ [])) ≡ (among x ids || eqb x id)
 among-snoc x [] id = go (eqb x id)
   where
     go : (b : Bool) → (b || false) ≡ b
@@ -99,7 +99,14 @@ module _ (ids : List ℕ) (id : ℕ) where
 
   pub bits-again : isIn ids id ≡ true → bits (ids ++ (id ∷ [])) ≡ bits ids
   unfolding bits
-  bits-again h = bits-same (isIn (ids ++ (id ∷ []))) (isIn ids) 17 16 (λ j l. same-with h j)
+  bits-again h = bits-same (isIn (ids ++ (id ∷ []))) (isIn ids) 17 16 (λ j l m. same-with h j)
+
+  -- no bit stands for it
+  pub bits-other : (16 ≤ id → 32 < id) → bits (ids ++ (id ∷ [])) ≡ bits ids
+  unfolding bits
+  bits-other h =
+      bits-same (isIn (ids ++ (id ∷ []))) (isIn ids) 17 16
+      (λ j l m. among-snoc j ids id ∙ rw (ne-eqb j id (λ (e : j ≡ id). let n = h (omega arith) in omega arith)) (or-false (among j ids)))
 
   pub bits-more : 16 ≤ id → id ≤ 32 → isIn ids id ≡ false → bits ids + 2 ^ (id - 16) ≡ bits (ids ++ (id ∷ []))
   unfolding bits
