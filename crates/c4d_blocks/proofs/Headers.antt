@@ -48,6 +48,13 @@ module _ (s : List ℕ) (at : ℕ) (l : at + 4 ≤ length s) where
       let r : getD t 2 0 ≡ getD s (at + 3) 0 = getD-drop (at + 1) s 2 0 ∙ ap (λ (k : ℕ). getD s k 0) v in
       omega (arith, three-is t (omega (arith, length-drop (at + 1) s)), long-is s at l, b (at + 1), b (at + 2), b (at + 3))
 
+-- ---- a part of the file
+
+pub slice-is : (a n : ℕ) (s : List ℕ) → a + n ≤ length s → slice a (a + n) s ≡ take n (drop a s)
+slice-is a n s l =
+    let k : length (slice a (a + n) s) ≤ n = omega (arith, length-slice a (a + n) s l) in
+    sym (take-all n (slice a (a + n) s) k) ∙ front-slice n a (a + n) s (omega arith)
+
 -- ---- for every kind of header
 
 module _ (h : Header) (s : List ℕ) (at to : ℕ) (m : to ≤ length s) where
@@ -69,11 +76,9 @@ module _ (h : Header) (s : List ℕ) (at to : ℕ) (m : to ≤ length s) where
     size-bytes : drop (h .identifierBytes) (take (width h) (slice at to s)) ≡ take (h .sizeBytes) (drop (at + h .identifierBytes) s)
     size-bytes =
         let i = h .identifierBytes in
-        let e : at + i + h .sizeBytes ≡ at + width h = omega arith in
-        let n : length (slice (at + i) (at + width h) s) ≤ h .sizeBytes = omega (arith, length-slice (at + i) (at + width h) s (omega arith)) in
+        let e : at + width h ≡ at + i + h .sizeBytes = omega arith in
         ap (drop i) (take-slice (width h) at to s l) ∙ drop-slice i at (at + width h) s ∙
-        sym (take-all (h .sizeBytes) (slice (at + i) (at + width h) s) n) ∙
-        front-slice (h .sizeBytes) (at + i) (at + width h) s (omega arith)
+        ap (λ (k : ℕ). slice (at + i) k s) e ∙ slice-is (at + i) (h .sizeBytes) s (omega arith)
 
     pub told-at : told h (blockIn h s at to .head) ≡ beAt (at + h .identifierBytes) (h .sizeBytes) s
     unfolding blockAt
@@ -105,6 +110,7 @@ module _ (h : Header) (s : List ℕ) (at to : ℕ) (m : to ≤ length s) where
               (le-leb (width h + told h (blockIn h s at to .head)) (length (slice at to s)) (omega arith), tt),
             );
             id-is = i;
+            told-is = q;
             len-is = q ∙ sym (body-long k);
             fits = k;
             small = b;

@@ -8,7 +8,7 @@ use lib.ListN.{length, take, drop, length-take}
 use lib.Seq.{slice, slice-empty, length-slice, length-take-le}
 use Rattle.shared_words.specs.declared.Refusal.{Refusal}
 use Rattle.shared_words.specs.Conditions.{broken, refused, accepted, unless}
-use Rattle.shared_numbers.proofs.Slices.{drop-slice}
+use Rattle.shared_numbers.proofs.Slices.{drop-slice, take-slice}
 use Rattle.c4d_rules.specs.Blocks.{Header, width, size}
 use Rattle.c4d_rules.specs.Read.{Grammar, blockAt, withMore, step, walk}
 use Rattle.c4d_rules.proofs.Fuel.{walk-nil, walk-cons}
@@ -20,6 +20,14 @@ head-long h s at to m l = length-take-le (width h) (slice at to s) (omega (arith
 
 pub block-size : (h : Header) (s : List ℕ) (at to id len : ℕ) → to ≤ length s → Tells h s at to id len → size (blockIn h s at to) ≡ width h + len
 block-size h s at to id len m t = omega (arith, head-long h s at to m (omega (arith, t .fits)), t .len-is)
+
+-- what is behind the header
+pub body-is : (h : Header) (s : List ℕ) (at to id len : ℕ) → Tells h s at to id len → blockIn h s at to .body ≡ slice (at + width h) (at + width h + len) s
+unfolding blockAt
+body-is h s at to id len t =
+    let f = t .fits in
+    ap (λ (k : ℕ). take k (drop (width h) (slice at to s))) (sym (t .told-is)) ∙ ap (take len) (drop-slice (width h) at to s) ∙
+    take-slice len (at + width h) to s (omega arith)
 
 module _ {S A : Type 0} (G : Grammar S A) (wide : 1 ≤ width (G .header)) where
   walk-some : (st : S) (o : ℕ) (bs : List ℕ) → 1 ≤ length bs → walk G st o bs ≡ step G (walk G) st o bs (blockAt (G .header) bs)

@@ -8,7 +8,7 @@ use lib.Seq.{slice}
 use Rattle.shared_words.specs.declared.Refusal.{Refusal}
 use Rattle.shared_words.specs.declared.Refusal.the-variants.{Overrun}
 use Rattle.shared_words.specs.Conditions.{broken}
-use Rattle.c4d_rules.specs.Blocks.{Block, Header, width, identifier}
+use Rattle.c4d_rules.specs.Blocks.{Block, Header, width, identifier, told}
 use Rattle.c4d_rules.specs.Read.{blockAt, blockConditions}
 use Rattle.c4d_blocks.specs.declared.Seen.{Seen}
 
@@ -24,6 +24,7 @@ overrun h s at to = broken (blockConditions h at (length (slice at to s)) (block
 pub record Tells (h : Header) (s : List ℕ) (at to id len : ℕ) : Type 0 where
   pub whole : overrun h s at to ≡ none
   pub id-is : id ≡ identifier h (blockIn h s at to .head)
+  pub told-is : len ≡ told h (blockIn h s at to .head)
   pub len-is : len ≡ length (blockIn h s at to .body)
   pub fits : at + (width h + len) ≤ to
   pub small : id < 256 ^ h .identifierBytes
