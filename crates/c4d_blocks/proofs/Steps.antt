@@ -14,7 +14,7 @@ use Rattle.c4d_rules.specs.Read.{Grammar, blockAt, withMore, step, walk}
 use Rattle.c4d_rules.proofs.Fuel.{walk-nil, walk-cons}
 use Rattle.c4d_blocks.specs.Headers.{blockIn, overrun, Tells}
 
-head-long : (h : Header) (s : List ℕ) (at to : ℕ) → to ≤ length s → at + width h ≤ to → length (blockIn h s at to .head) ≡ width h
+pub head-long : (h : Header) (s : List ℕ) (at to : ℕ) → to ≤ length s → at + width h ≤ to → length (blockIn h s at to .head) ≡ width h
 unfolding blockAt
 head-long h s at to m l = length-take-le (width h) (slice at to s) (omega (arith, length-slice at to s m))
 

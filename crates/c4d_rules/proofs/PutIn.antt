@@ -92,7 +92,7 @@ pub record Like (p p′ : Before) (m : List (Mark Chunk)) : Type 0 where
   pub spots : BehindPlatform m
 
 -- behind any chunk there is one
-any-after : (p : Before) (k : Kind) (i : Inside) → afterKind p k i .any ≡ true
+pub any-after : (p : Before) (k : Kind) (i : Inside) → afterKind p k i .any ≡ true
 any-after p Platform i = refl
 any-after p Materials i = refl
 any-after p Objects i = refl
