@@ -100,9 +100,9 @@ module _ (h : Header) (s : List ℕ) (at to : ℕ) (m : to ≤ length s) where
           length-take-le (told h (blockIn h s at to .head)) (drop (width h) (slice at to s))
           (omega (arith, length-drop (width h) (slice at to s), length-slice at to s m))
 
-      pub is-whole : (id : ℕ) → id ≡ identifier h (blockIn h s at to .head) → id < 256 ^ h .identifierBytes → at + (width h + len) ≤ to →
+      pub is-whole : (id : ℕ) → id ≡ identifier h (blockIn h s at to .head) → at + (width h + len) ≤ to →
           Tells h s at to id len
-      is-whole id i b k =
+      is-whole id i k =
           let n = length-slice at to s m in
           record {
             whole = unbroken _ (
@@ -113,5 +113,4 @@ module _ (h : Header) (s : List ℕ) (at to : ℕ) (m : to ≤ length s) where
             told-is = q;
             len-is = q ∙ sym (body-long k);
             fits = k;
-            small = b;
           }

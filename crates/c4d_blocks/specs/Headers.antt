@@ -1,12 +1,13 @@
 -- Blocks by their positions in the file, as code steps over them.
 use mathlib.Core.Path.{_≡_}
-use Prim.Native.Nat.{ℕ, _+_, _^_, _≤_, _<_}
+use Prim.Native.Nat.{ℕ, _+_, _≤_}
 use mathlib.Core.List.{List}
 use mathlib.Core.Option.{Option, none, some}
 use lib.ListN.{length}
 use lib.Seq.{slice}
 use Rattle.shared_words.specs.declared.Refusal.{Refusal}
 use Rattle.shared_words.specs.declared.Refusal.the-variants.{Overrun}
+use Rattle.shared_words.specs.Bytes.{beAt}
 use Rattle.shared_words.specs.Conditions.{broken}
 use Rattle.c4d_rules.specs.Blocks.{Block, Header, width, identifier, told}
 use Rattle.c4d_rules.specs.Read.{blockAt, blockConditions}
@@ -27,8 +28,12 @@ pub record Tells (h : Header) (s : List ℕ) (at to id len : ℕ) : Type 0 where
   pub told-is : len ≡ told h (blockIn h s at to .head)
   pub len-is : len ≡ length (blockIn h s at to .body)
   pub fits : at + (width h + len) ≤ to
-  pub small : id < 256 ^ h .identifierBytes
 
 abbrev pub Sees : Header → List ℕ → ℕ → ℕ → Seen → Type 0
 Sees h s at to Seen.Cut = overrun h s at to ≡ some (Overrun at)
 Sees h s at to (Seen.Block id len) = Tells h s at to id len
+
+-- an identifier of one byte and a size of three stand there
+pub record Says (s : List ℕ) (at id len : ℕ) : Type 0 where
+  pub id-says : id ≡ beAt at 1 s
+  pub len-says : len ≡ beAt (at + 1) 3 s

@@ -2,10 +2,10 @@
 // have for the identifier and for the size.
 use shared_big_endian::long_at;
 use shared_big_endian::word_at;
-ghost use Prim.Native.Nat.{_≤_};
+ghost use Prim.Native.Nat.{_+_, _≤_};
 ghost use lib.ListN.{length};
 ghost use Rattle.c4d_rules.specs.Blocks.{chunkHeader, materialHeader, objectHeader};
-ghost use Rattle.c4d_blocks.specs.Headers.{Sees};
+ghost use Rattle.c4d_blocks.specs.Headers.{Sees, Says};
 
 // What stands between a position and an end: a whole block, its identifier and its size, or not even one.
 pub enum Seen {
@@ -59,4 +59,20 @@ pub fn object_at(file: &[u8], at: usize, to: usize) -> Seen
         return Seen::Cut;
     }
     Seen::Block(file[at] as usize, len)
+}
+
+// What the header of a sub-chunk of OBJ5 says, where it is known that there is one.
+pub struct Head {
+    pub id: usize,
+    pub len: usize,
+}
+
+pub fn object_head(file: &[u8], at: usize) -> Head
+    requires { ⌜ at + 4 ≤ length (now file) ⌝ }
+    ensures { λ r. ⌜ Says (now (file .entry)) at (r .id) (r .len) ⌝ }
+{
+    Head {
+        id: file[at] as usize,
+        len: long_at(file, at) % 16777216,
+    }
 }

@@ -38,7 +38,7 @@ length-objects (b ∷ bs) begun held o = go (eqb (objectId b) tEnd)
 
 -- ---- the materials
 
-materials-snoc : (bs : List Block) (b : Block) → materialsOf (bs ++ (b ∷ [])) ≡ materialsOf bs ++ cond (eqb (objectId b) tTexture) (material b ∷ []) []
+pub materials-snoc : (bs : List Block) (b : Block) → materialsOf (bs ++ (b ∷ [])) ≡ materialsOf bs ++ cond (eqb (objectId b) tTexture) (material b ∷ []) []
 materials-snoc [] b = refl
 materials-snoc (x ∷ bs) b = go (eqb (objectId x) tTexture) (materials-snoc bs b)
   where
@@ -55,14 +55,14 @@ not-both n x y h k = ap (λ (z : ℕ). eqb z y) (eqb-true n x h) ∙ k
 
 module _ (last : Option ℕ) where
   -- T_OBJECT stands in no object, and a texture in one
-  object-starts : (held : Open) (b : Block) → ObjectRules last held b → eqb (objectId b) tObject ≡ true → held ≡ none
+  pub object-starts : (held : Open) (b : Block) → ObjectRules last held b → eqb (objectId b) tObject ≡ true → held ≡ none
   unfolding listed
   object-starts none b r e = refl
   object-starts (some past) b r e =
       let l : listed (objectId b) ≡ true = ap listed (eqb-true (objectId b) tObject e) in
       absurd (false≢true (sym (ap (λ (q : Bool). cond q (cond (eqb (objectId b) tObject) false true) true) l ∙ ap (λ (q : Bool). cond q false true) e) ∙ r .in-place))
 
-  texture-inside : (b : Block) → ObjectRules last none b → eqb (objectId b) tObject ≡ false → eqb (objectId b) tTexture ≡ true → ⊥
+  pub texture-inside : (b : Block) → ObjectRules last none b → eqb (objectId b) tObject ≡ false → eqb (objectId b) tTexture ≡ true → ⊥
   unfolding listed
   texture-inside b r e t =
       let l : listed (objectId b) ≡ true = ap listed (eqb-true (objectId b) tTexture t) in

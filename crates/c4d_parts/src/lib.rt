@@ -24,6 +24,20 @@ pub fn with_part(present: usize, id: usize) -> usize
     present + (1 << (id - 16))
 }
 
+// With one sub-chunk more, listed or not.
+pub fn with_any(present: usize, id: usize) -> usize
+    requires { ⌜ present < 131072 ⌝ }
+    ensures { λ r. ⌜ ((ids : List ℕ) → present ≡ bits ids → r ≡ bits (ids ++ (id ∷ []))) ⌝ }
+{
+    if id < 16 {
+        return present;
+    }
+    if 32 < id {
+        return present;
+    }
+    with_part(present, id)
+}
+
 // Without those that any object may have.
 fn exclusive(present: usize) -> usize
     ensures { λ r. ⌜ r ≡ exclusiveIn present ⌝ }
@@ -33,7 +47,8 @@ fn exclusive(present: usize) -> usize
 
 // The combination of a set of these: specs/Bits has the same sets, by the names of their sub-chunks.
 fn look_up(set: usize) -> usize
-    ensures { λ r. ⌜ r ≡ lookedUp set ⌝ }
+    ensures is { λ r. ⌜ r ≡ lookedUp set ⌝ }
+    ensures small { λ r. ⌜ r ≤ 9 ⌝ }
 {
     match set {
         0x0001 | 0x0009 | 0x000B | 0x000D | 0x000F => 1,
@@ -52,7 +67,8 @@ fn look_up(set: usize) -> usize
 
 // The number of the first combination that holds, or 0.
 pub fn combination(present: usize) -> usize
-    ensures { λ r. ⌜ ((ids : List ℕ) → present ≡ bits ids → r ≡ combinationOf (isIn ids)) ⌝ }
+    ensures is { λ r. ⌜ ((ids : List ℕ) → present ≡ bits ids → r ≡ combinationOf (isIn ids)) ⌝ }
+    ensures small { λ r. ⌜ r ≤ 9 ⌝ }
 {
     look_up(exclusive(present))
 }

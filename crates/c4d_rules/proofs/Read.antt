@@ -41,7 +41,7 @@ block-whole h s f =
       take-append-drop (told h (take (width h) s)) (drop (width h) s),
     ) (take-append-drop (width h) s)
 
-block-found : (h : Header) (b : Block) (more : List ℕ) → Framed h b → blockAt h (blockBytes b ++ more) ≡ b
+pub block-found : (h : Header) (b : Block) (more : List ℕ) → Framed h b → blockAt h (blockBytes b ++ more) ≡ b
 unfolding blockAt
 block-found h b more f =
     rw (append-assoc (b .head) (b .body) more, take-at (b .head) (b .body ++ more) (width h) (f .header-whole), drop-at (b .head) (b .body ++ more) (width h) (f .header-whole))

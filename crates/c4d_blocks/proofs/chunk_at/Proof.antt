@@ -44,7 +44,7 @@ returns-3 c =
     let w : a .at + 8 ≤ a .to = omega arith in
     is-whole chunkHeader (a .file .now) (a .at) (a .to) (p .1) w (l .result)
     (l .ensures .is ∙ sym (told-at chunkHeader (a .file .now) (a .at) (a .to) (p .1) w))
-    (i .result) (i .ensures .is ∙ sym (id-at chunkHeader (a .file .now) (a .at) (a .to) (p .1) w)) (i .ensures .small) (omega arith)
+    (i .result) (i .ensures .is ∙ sym (id-at chunkHeader (a .file .now) (a .at) (a .to) (p .1) w)) (omega arith)
 
 pub chunk-at-spec : {M : Type 1} → statement M
 chunk-at-spec =

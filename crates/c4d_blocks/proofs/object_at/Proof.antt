@@ -49,7 +49,7 @@ returns-3 c =
     is-whole objectHeader (a .file .now) (a .at) (a .to) (p .1) w (l .result % 16777216)
     (q ∙ sym (told-at objectHeader (a .file .now) (a .at) (a .to) (p .1) w))
     (getD (a .file .now) (a .at) 0) (sym (id-at objectHeader (a .file .now) (a .at) (a .to) (p .1) w ∙ first-byte (a .file .now) (a .at) (omega arith)))
-    (omega (arith, b (a .at))) (omega arith)
+    (omega arith)
 
 pub object-at-spec : {M : Type 1} → statement M
 object-at-spec =

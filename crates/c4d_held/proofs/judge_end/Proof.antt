@@ -23,7 +23,7 @@ combination-requires c κs = search needs
 returns-3 : tie.Need-returns-3
 returns-3 c = λ b last o e h.
     sym (end-mixed b last o (c .before .before .before .before .before .args .at) e (sym (inside-is o h) ∙ not-false _ (c .before .before .before .if1 .left))
-    (no-combination (identifiers (soFar o)) (sym (c .before .combination .ensures (identifiers (soFar o)) (present-is o h)) ∙ c .if3 .taken)))
+    (no-combination (identifiers (soFar o)) (sym (c .before .combination .ensures .0 (identifiers (soFar o)) (present-is o h)) ∙ c .if3 .taken)))
 
 closed-requires : tie.Need-closed-requires
 closed-requires c κs = search needs
@@ -34,7 +34,7 @@ returns-4 c = λ b last o e h.
     ap Judged.Fine (c .closed .ensures) ∙
     sym (end-fine b last o (n .before .before .before .before .args .at) e (sym (inside-is o h) ∙ not-false _ (n .before .before .if1 .left))
     (is-combined (identifiers (soFar o)) (once-is o true h (n .before .if2 .left))
-    (λ z. c .before .if3 .left (n .combination .ensures (identifiers (soFar o)) (present-is o h) ∙ z))))
+    (λ z. c .before .if3 .left (n .combination .ensures .0 (identifiers (soFar o)) (present-is o h) ∙ z))))
 
 pub judge-end-spec : {M : Type 1} → statement M
 judge-end-spec =

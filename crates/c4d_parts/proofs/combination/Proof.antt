@@ -14,8 +14,11 @@ look-up-requires : tie.Need-look-up-requires
 look-up-requires c κs = search needs
 
 returns : tie.Need-returns
-returns c = λ ids e.
-    c .look-up .ensures ∙ ap lookedUp (c .before .exclusive .ensures ∙ ap (λ (n : ℕ). exclusiveIn n) e) ∙ combination-is ids
+returns c = (
+  λ ids e.
+      c .look-up .ensures .0 ∙ ap lookedUp (c .before .exclusive .ensures ∙ ap (λ (n : ℕ). exclusiveIn n) e) ∙ combination-is ids,
+  c .look-up .ensures .1,
+)
 
 pub combination-spec : {M : Type 1} → statement M
 combination-spec = tie.close (tie.spec exclusive-requires look-up-requires returns)
