@@ -14,16 +14,16 @@ use Rattle.shared_words.specs.Bytes.{valueBe, beAt}
 use Rattle.shared_words.specs.Conditions.{must, broken}
 use Rattle.shared_words.proofs.Conditions.{broken-here, broken-later, unbroken}
 use Rattle.shared_numbers.proofs.Slices.{drop-slice, take-slice, front-slice}
-use Rattle.shared_big_endian.proofs.At.{long-is}
+use Rattle.shared_big_endian.proofs.At.{word-is, long-is}
 use Rattle.c4d_rules.specs.Blocks.{Header, objectHeader, width, identifier, told}
 use Rattle.c4d_rules.specs.Read.{blockAt}
 use Rattle.c4d_blocks.specs.Headers.{blockIn, overrun, Tells}
 
--- ---- a header of one byte and three
+-- ---- a header of four bytes, read as one number
 
-byte-is : (t : List ℕ) → 1 ≤ length t → valueBe (take 1 t) ≡ getD t 0 0
-byte-is [] l = absurd (omega arith)
-byte-is (a ∷ t) l = omega arith
+one-is : (t : List ℕ) → 1 ≤ length t → valueBe (take 1 t) ≡ getD t 0 0
+one-is [] l = absurd (omega arith)
+one-is (a ∷ t) l = omega arith
 
 three-is : (t : List ℕ) → 3 ≤ length t → valueBe (take 3 t) ≡ 65536 * getD t 0 0 + 256 * getD t 1 0 + getD t 2 0
 three-is [] l = absurd (omega arith)
@@ -31,22 +31,33 @@ three-is (a ∷ []) l = absurd (omega arith)
 three-is (a ∷ b ∷ []) l = absurd (omega arith)
 three-is (a ∷ b ∷ c ∷ t) l = omega arith
 
-module _ (s : List ℕ) (at : ℕ) (l : at + 4 ≤ length s) where
-  pub first-byte : beAt at 1 s ≡ getD s at 0
-  first-byte =
-      let z : at + 0 ≡ at = omega arith in
-      byte-is (drop at s) (omega (arith, length-drop at s)) ∙ getD-drop at s 0 0 ∙ ap (λ (k : ℕ). getD s k 0) z
+module _ (s : List ℕ) (at : ℕ) (l : at + 4 ≤ length s) (b : (i : ℕ) → getD s i 0 < 256) where
+  byte-at : (k i : ℕ) → getD (drop k s) i 0 ≡ getD s (k + i) 0
+  byte-at k i = getD-drop k s i 0
 
-  pub other-bytes : ((i : ℕ) → getD s i 0 < 256) → beAt at 4 s % 16777216 ≡ beAt (at + 1) 3 s
-  other-bytes b =
+  -- a byte and three
+  pub first-byte : beAt at 4 s / 16777216 ≡ beAt at 1 s
+  first-byte =
+      let z : getD (drop at s) 0 0 ≡ getD s at 0 = byte-at at 0 ∙ ap (λ (k : ℕ). getD s k 0) (omega arith) in
+      omega (arith, one-is (drop at s) (omega (arith, length-drop at s)), long-is s at l, b (at + 1), b (at + 2), b (at + 3))
+
+  pub other-bytes : beAt at 4 s % 16777216 ≡ beAt (at + 1) 3 s
+  other-bytes =
       let t = drop (at + 1) s in
-      let z : at + 1 + 0 ≡ at + 1 = omega arith in
-      let u : at + 1 + 1 ≡ at + 2 = omega arith in
-      let v : at + 1 + 2 ≡ at + 3 = omega arith in
-      let p : getD t 0 0 ≡ getD s (at + 1) 0 = getD-drop (at + 1) s 0 0 ∙ ap (λ (k : ℕ). getD s k 0) z in
-      let q : getD t 1 0 ≡ getD s (at + 2) 0 = getD-drop (at + 1) s 1 0 ∙ ap (λ (k : ℕ). getD s k 0) u in
-      let r : getD t 2 0 ≡ getD s (at + 3) 0 = getD-drop (at + 1) s 2 0 ∙ ap (λ (k : ℕ). getD s k 0) v in
+      let p : getD t 0 0 ≡ getD s (at + 1) 0 = byte-at (at + 1) 0 ∙ ap (λ (k : ℕ). getD s k 0) (omega arith) in
+      let q : getD t 1 0 ≡ getD s (at + 2) 0 = byte-at (at + 1) 1 ∙ ap (λ (k : ℕ). getD s k 0) (omega arith) in
+      let r : getD t 2 0 ≡ getD s (at + 3) 0 = byte-at (at + 1) 2 ∙ ap (λ (k : ℕ). getD s k 0) (omega arith) in
       omega (arith, three-is t (omega (arith, length-drop (at + 1) s)), long-is s at l, b (at + 1), b (at + 2), b (at + 3))
+
+  -- two and two
+  pub first-word : beAt at 4 s / 65536 ≡ beAt at 2 s
+  first-word = omega (arith, word-is s at (omega arith), long-is s at l, b (at + 2), b (at + 3))
+
+  pub second-word : beAt at 4 s % 65536 ≡ beAt (at + 2) 2 s
+  second-word =
+      let z : at + 2 + 1 ≡ at + 3 = omega arith in
+      let w : beAt (at + 2) 2 s ≡ 256 * getD s (at + 2) 0 + getD s (at + 3) 0 = rw z at (word-is s (at + 2) (omega arith)) in
+      omega (arith, long-is s at l, b (at + 2), b (at + 3))
 
 -- ---- a part of the file
 

@@ -1,7 +1,6 @@
 // Chunks and sub-chunks in a slice: what the header at a position tells. The three kinds of header differ in how many bytes they
 // have for the identifier and for the size.
 use shared_big_endian::long_at;
-use shared_big_endian::word_at;
 ghost use Prim.Native.Nat.{_+_, _≤_};
 ghost use lib.ListN.{length};
 ghost use Rattle.c4d_rules.specs.Blocks.{chunkHeader, materialHeader, objectHeader};
@@ -29,7 +28,7 @@ pub fn chunk_at(file: &[u8], at: usize, to: usize) -> Seen
     Seen::Block(long_at(file, at), len)
 }
 
-// A sub-chunk of MAT4: a word and a size of two bytes.
+// A sub-chunk of MAT4: a word and a size of two bytes, read as one number.
 pub fn material_at(file: &[u8], at: usize, to: usize) -> Seen
     requires { ⌜ (at ≤ to) × (to ≤ length (now file)) ⌝ }
     ensures { λ r. ⌜ Sees materialHeader (now (file .entry)) at to r ⌝ }
@@ -38,14 +37,15 @@ pub fn material_at(file: &[u8], at: usize, to: usize) -> Seen
     if left < 4 {
         return Seen::Cut;
     }
-    let len = word_at(file, at + 2);
+    let head = long_at(file, at);
+    let len = head % 65536;
     if left - 4 < len {
         return Seen::Cut;
     }
-    Seen::Block(word_at(file, at), len)
+    Seen::Block(head / 65536, len)
 }
 
-// A sub-chunk of OBJ5: a byte and a size of three.
+// A sub-chunk of OBJ5: a byte and a size of three, read as one number.
 pub fn object_at(file: &[u8], at: usize, to: usize) -> Seen
     requires { ⌜ (at ≤ to) × (to ≤ length (now file)) ⌝ }
     ensures { λ r. ⌜ Sees objectHeader (now (file .entry)) at to r ⌝ }
@@ -54,11 +54,12 @@ pub fn object_at(file: &[u8], at: usize, to: usize) -> Seen
     if left < 4 {
         return Seen::Cut;
     }
-    let len = long_at(file, at) % 16777216;
+    let head = long_at(file, at);
+    let len = head % 16777216;
     if left - 4 < len {
         return Seen::Cut;
     }
-    Seen::Block(file[at] as usize, len)
+    Seen::Block(head / 16777216, len)
 }
 
 // What the header of a sub-chunk of OBJ5 says, where it is known that there is one.
@@ -71,8 +72,9 @@ pub fn object_head(file: &[u8], at: usize) -> Head
     requires { ⌜ at + 4 ≤ length (now file) ⌝ }
     ensures { λ r. ⌜ Says (now (file .entry)) at (r .id) (r .len) ⌝ }
 {
+    let head = long_at(file, at);
     Head {
-        id: file[at] as usize,
-        len: long_at(file, at) % 16777216,
+        id: head / 16777216,
+        len: head % 16777216,
     }
 }

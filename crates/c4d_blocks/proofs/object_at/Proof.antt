@@ -1,8 +1,7 @@
--- The byte and the three bytes of the header, and what is left behind it.
+-- The two parts of the header, and what is left behind it.
 use mathlib.Core.Path.{_≡_, sym, ap, _∙_}
-use Prim.Native.Nat.{ℕ, _+_, _%_, _≤_}
+use Prim.Native.Nat.{ℕ, _+_, _/_, _%_, _≤_}
 use native.Mathlib.Omega.{arith}
-use lib.ListN.{getD}
 use Rattle.c4d_rules.specs.Blocks.{objectHeader}
 use Rattle.c4d_blocks.proofs.Headers.{first-byte, other-bytes, cut-head, id-at, told-at, cut-body, is-whole}
 use borrow.Author.Needs.{needs}
@@ -32,26 +31,18 @@ returns-2 c =
     cut-body objectHeader (a .file .now) (a .at) (a .to) (p .1) w (l .result % 16777216)
     (q ∙ sym (told-at objectHeader (a .file .now) (a .at) (a .to) (p .1) w)) (omega arith)
 
-shared-slice-read-t9 : tie.Need-shared-slice-read-t9
-shared-slice-read-t9 c = search needs
-
-cast-t7 : tie.Need-cast-t7
-cast-t7 c = omega (arith, c .shared-slice-known2 .given (c .before .before .before .before .before .args .at))
-
 returns-3 : tie.Need-returns-3
 returns-3 c =
-    let a = c .before .before .before .before .before .args in
-    let p = c .before .before .before .before .before .pre in
-    let b = c .shared-slice-known2 .given in
-    let l = c .before .before .long-at in
+    let a = c .before .before .before .before .args in
+    let p = c .before .before .before .before .pre in
+    let b = c .before .before .before .shared-slice-known .given in
+    let l = c .before .long-at in
     let w : a .at + 4 ≤ a .to = omega arith in
+    let i = ap (λ (x : ℕ). x / 16777216) (l .ensures .is) ∙ first-byte (a .file .now) (a .at) (omega arith) (λ i. omega (arith, b i)) in
     let q = ap (λ (x : ℕ). x % 16777216) (l .ensures .is) ∙ other-bytes (a .file .now) (a .at) (omega arith) (λ i. omega (arith, b i)) in
     is-whole objectHeader (a .file .now) (a .at) (a .to) (p .1) w (l .result % 16777216)
     (q ∙ sym (told-at objectHeader (a .file .now) (a .at) (a .to) (p .1) w))
-    (getD (a .file .now) (a .at) 0) (sym (id-at objectHeader (a .file .now) (a .at) (a .to) (p .1) w ∙ first-byte (a .file .now) (a .at) (omega arith)))
-    (omega arith)
+    (l .result / 16777216) (i ∙ sym (id-at objectHeader (a .file .now) (a .at) (a .to) (p .1) w)) (omega arith)
 
 pub object-at-spec : {M : Type 1} → statement M
-object-at-spec =
-    tie.close
-    (tie.spec sub-left returns long-at-requires returns-2 shared-slice-read-t9 cast-t7 returns-3)
+object-at-spec = tie.close (tie.spec sub-left returns long-at-requires returns-2 returns-3)
