@@ -1,11 +1,10 @@
 //! The calls over Cinema 4D figures that are timed, at the limit: empty
 //! objects, objects of many parts, textures, sub-chunks of MAT4, and chunks
-//! that are skipped. The second reader reads the file; the library checks it,
-//! or checks and lists it.
+//! that are skipped.
 
 use crate::calls::accepted;
 use crate::measure::{both, Times};
-use second::boundary::{C4dRight, C4ds};
+use second::boundary::{C4dRight, C4ds, Second};
 use second::{read_c4d, LIMIT};
 use std::hint::black_box;
 
@@ -28,14 +27,16 @@ pub fn all() -> Vec<Figure> {
     ]
 }
 
-/// The check and the list of a figure.
+/// The check and the list of a figure: the list into lent rows on both sides.
 pub fn times(file: &[u8], turns: usize) -> [(&'static str, Times); 2] {
     let right = C4dRight::default();
     let left = || {
         black_box(read_c4d(black_box(file))).unwrap();
     };
     let check = both(turns, left, || accepted(right.c4d_check(black_box(file))));
-    let (mut rows, mut numbers) = (vec![0; 12 * LIMIT / 8], vec![0; 4 * LIMIT / 68]);
+    let lent = || (vec![0; 12 * LIMIT / 8], vec![0; 4 * LIMIT / 68]);
+    let ((mut rows, mut numbers), (mut others, mut more)) = (lent(), lent());
+    let left = || accepted(Second.c4d_list(black_box(file), &mut others, &mut more));
     let list = both(turns, left, || {
         accepted(right.c4d_list(black_box(file), &mut rows, &mut numbers))
     });

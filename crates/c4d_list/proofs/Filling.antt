@@ -307,7 +307,7 @@ module _ (s : List ℕ) (from to : ℕ) (objects₀ materials₀ : List ℕ) (c 
               omega arith
 
           pub textured : (present′ : ℕ) → ((ids : List ℕ) → present ≡ bits ids → present′ ≡ bits (ids ++ (id ∷ []))) → {back′ : ℕ} {materials′ : List ℕ} →
-              Put materials back (packed 4 (beAt (at + 64) 4 s ∷ [])) materials′ back′ → Filling next begun present′ (textures + 1) row back′ objects materials′
+              Put materials back (packed 4 (beAt (at + 64) 4 s ∷ [])) materials′ back′ → Filling (at + 68) begun present′ (textures + 1) row back′ objects materials′
           textured present′ w {back′} {materials′} p =
               let m : material (h .b) ≡ beAt (at + 64) 4 s = h .is .material-is texture-long in
               let k : back + 4 * suc (length (materialsOf (h .rest))) ≤ length materials = rw t at materials-room-here in
@@ -316,7 +316,8 @@ module _ (s : List ℕ) (from to : ℕ) (objects₀ materials₀ : List ℕ) (c 
               let f : sets materials back (packed 4 (beAt (at + 64) 4 s ∷ []) ++ packed 4 (materialsOf (h .rest))) ≡ sets materials₀ 0 (packed 4 everyMaterial) =
               rw (← m) (rw t at materials-here) in
               let r = room-rest in
-              record {
+              let z : at + (4 + len) ≡ at + 68 = omega (arith, texture-long) in
+              rw (← z) record {
                 held = withOne (g .held) (h .b);
                 left = h .rest;
                 stand = h .stands;

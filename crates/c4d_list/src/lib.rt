@@ -77,7 +77,8 @@ fn fill(file: &[u8], from: usize, to: usize, objects: &mut [u8], materials: &mut
         }
         behind = put_material(file, at, behind, materials);
         textures += 1;
-        at = next;
+        // a texture has 64 bytes: the next step need not wait for its size
+        at += 68;
     }
 }
 

@@ -1,13 +1,14 @@
 -- The loop's invariant: what the sub-chunks left over give stands where it will be put.
 use mathlib.Core.Path.{_≡_, sym, _∙_}
+use mathlib.Core.Bool.{true, false}
 use mathlib.Core.List.{List}
-use Prim.Native.Nat.{ℕ, _+_, _-_, _<_}
+use Prim.Native.Nat.{ℕ, _+_, _-_, _<_, _≤_}
 use native.Mathlib.Omega.{arith}
 use lib.Dec.{eqb}
 use lib.ListN.{length}
 use borrow.Author.Tests.{eq-eqb}
 use Rattle.c4d_rules.specs.Kinds.{tEnd, tObject, tTexture}
-use Rattle.c4d_rules.specs.Rules.{soFar, identifiers}
+use Rattle.c4d_rules.specs.Rules.{soFar, objectId, identifiers}
 use Rattle.c4d_parts.proofs.Bits.{bits-below}
 use Rattle.c4d_held.proofs.Conditions.{not-this}
 use Rattle.c4d_list.specs.Filled.{Fillable}
@@ -148,17 +149,31 @@ loop-again-3 c = λ g.
     passed (file x) (from x) (to x) (objects₀ x) (materials₀ x) g (state x g) (left x) (id x) (len x) (here x g) (not-this b tEnd i (d .before .before .if1 .left)) (not-this b tObject i (d .before .if2 .left)) (not-this b tTexture i (c .if3 .taken))
     (d .with-any .result) (d .with-any .ensures)
 
+-- ---- it is a texture
+
+texture : (d : tie.After-with-any Inv-loop μ-loop) (g : Given (d .before .before .before .before)) → id (d .before .before .before .before) ≡ tTexture →
+    let x = d .before .before .before .before in
+    let b = here x g .b in
+    (eqb (objectId b) tEnd ≡ false) × (eqb (objectId b) tObject ≡ false) × (eqb (objectId b) tTexture ≡ true)
+texture d g e =
+    let h = here (d .before .before .before .before) g in
+    let i = h .is .id-is in
+    (not-this (h .b) tEnd i (d .before .before .if1 .left), not-this (h .b) tObject i (d .before .if2 .left), eq-eqb (objectId (h .b)) tTexture (i ∙ e))
+
+room : (d : tie.After-with-any Inv-loop μ-loop) → id (d .before .before .before .before) ≡ tTexture → at (d .before .before .before .before) + 68 ≤ to (d .before .before .before .before)
+room d e =
+    let x = d .before .before .before .before in
+    let t = texture d (given x) e in
+    texture-fits (file x) (from x) (to x) (objects₀ x) (materials₀ x) (given x) (state x (given x)) (left x) (id x) (len x) (here x (given x)) (t .0) (t .1) (t .2)
+
 put-material-requires : tie.Need-put-material-requires Inv-loop μ-loop
 put-material-requires c κs =
     let d = c .before .before in
     let x = d .before .before .before .before in
-    let i = here x (given x) .is .id-is in
-    let b = here x (given x) .b in
-    let ne = not-this b tEnd i (d .before .before .if1 .left) in
-    let no = not-this b tObject i (d .before .if2 .left) in
-    let t = eq-eqb _ tTexture (i ∙ c .before .if3 .left) in
+    let e = c .before .if3 .left in
+    let t = texture d (given x) e in
     let w = given x .whole in
-    (omega (arith, texture-fits (file x) (from x) (to x) (objects₀ x) (materials₀ x) (given x) (state x (given x)) (left x) (id x) (len x) (here x (given x)) ne no t), texture-room (file x) (from x) (to x) (objects₀ x) (materials₀ x) (given x) (state x (given x)) (left x) (id x) (len x) (here x (given x)) ne no t)
+    (omega (arith, room d e), texture-room (file x) (from x) (to x) (objects₀ x) (materials₀ x) (given x) (state x (given x)) (left x) (id x) (len x) (here x (given x)) (t .0) (t .1) (t .2))
 
 add-textures : tie.Need-add-textures Inv-loop μ-loop
 add-textures c =
@@ -166,20 +181,26 @@ add-textures c =
     let w = given x .whole in
     omega (arith, state x (given x) .few, left x)
 
+add-at : tie.Need-add-at Inv-loop μ-loop
+add-at c =
+    let put = c .before .before in
+    let d = put .before .before .before in
+    let g = given (d .before .before .before .before) in
+    omega (arith, room d (put .before .before .if3 .left), g .whole, g .short)
+
 loop-less-4 : tie.Need-loop-less-4 Inv-loop μ-loop
 loop-less-4 c =
-    let x = c .before .before .before .before .before .before .before .before .before in
-    omega (arith, here x (given x) .fit, left x)
+    let put = c .before .before in
+    let d = put .before .before .before in
+    omega (arith, room d (put .before .before .if3 .left))
 
 loop-again-4 : tie.Need-loop-again-4 Inv-loop μ-loop
 loop-again-4 c = λ g.
     let put = c .before .before in
     let d = put .before .before .before in
     let x = d .before .before .before .before in
-    let i = here x g .is .id-is in
-    let b = here x g .b in
-    textured (file x) (from x) (to x) (objects₀ x) (materials₀ x) g (state x g) (left x) (id x) (len x) (here x g) (not-this b tEnd i (d .before .before .if1 .left)) (not-this b tObject i (d .before .if2 .left)) (eq-eqb _ tTexture (i ∙ put .before .before .if3 .left))
-    (d .with-any .result) (d .with-any .ensures) (put .put-material .ensures)
+    let t = texture d g (put .before .before .if3 .left) in
+    textured (file x) (from x) (to x) (objects₀ x) (materials₀ x) g (state x g) (left x) (id x) (len x) (here x g) (t .0) (t .1) (t .2) (d .with-any .result) (d .with-any .ensures) (put .put-material .ensures)
 
 same-length : tie.Need-same-length Inv-loop μ-loop
 same-length c = c .before .loop .inv (c .before .before .before .before .before .pre) .objects-long
@@ -214,6 +235,7 @@ fill-spec =
     loop-again-3
     put-material-requires
     add-textures
+    add-at
     loop-less-4
     loop-again-4
     same-length
