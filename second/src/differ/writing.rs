@@ -5,8 +5,10 @@ use super::compare::Pair;
 use super::facts::{self, Facts, Rooms};
 use super::grow::finite;
 use super::lent::{hex, spoken, Difference};
+use super::names;
 use super::random::Random;
 use crate::boundary::{refusal, Boundary};
+use crate::record;
 
 /// What the writer is handed.
 #[derive(Clone, Debug, Default)]
@@ -22,13 +24,13 @@ impl Writing {
     pub fn small(random: &mut Random) -> Writing {
         let n = random.below(9);
         let f = if n == 0 { 0 } else { random.below(9) };
-        let name = random.below(20);
-        let name = random.bytes(name).into_iter();
+        let length = random.below(20);
+        let name = names::name(length, random);
         let floats = (0..3 * n).map(|_| f32::from_bits(finite(random)));
         let vertices = floats.collect();
         let corners = (0..3 * f).map(|_| random.below(n) as u16).collect();
         let mut writing = Writing {
-            name: name.map(|byte| byte.max(1)).collect(),
+            name,
             vertices,
             corners,
             room: 0,
@@ -44,7 +46,8 @@ impl Writing {
     fn spoil(&mut self, n: usize, random: &mut Random) {
         let most = [self.name.len(), self.vertices.len(), self.corners.len()];
         let [byte, float, corner] = most.map(|most| random.below(most.max(1)));
-        match random.below(5) {
+        match random.below(7) {
+            5 | 6 => names::spoil(&mut self.name, random),
             0 => self.name.iter_mut().skip(byte).take(1).for_each(|b| *b = 0),
             1 => self.vertices.truncate(float),
             2 => self.corners.truncate(corner),
@@ -123,23 +126,24 @@ impl Writing {
         let (size, name) = (self.size(), self.name.len());
         let mesh = 19 + name;
         let records = [
-            [0x4D4D, 0, size, 0, 0, 0],
-            [0x3D3D, 6, size - 6, 1, 0, 0],
-            [0x4000, 12, size - 12, 2, 1, name + 1],
-            [0x4100, mesh, size - mesh, 3, 2, 0],
-            [0x4110, mesh + 6, 8 + 12 * n, 4, 3, 2 + 12 * n],
-            [0x4120, mesh + 14 + 12 * n, 8 + 8 * f, 4, 3, 2 + 8 * f],
+            [0x4D4D, 0, size, 0, 0, 0, 6],
+            [0x3D3D, 6, size - 6, 1, 0, 0, 6],
+            [0x4000, 12, size - 12, 2, 1, name + 1, 6],
+            [0x4100, mesh, size - mesh, 3, 2, 0, 6],
+            [0x4110, mesh + 6, 8 + 12 * n, 4, 3, 2 + 12 * n, 5],
+            [0x4120, mesh + 14 + 12 * n, 8 + 8 * f, 4, 3, 2 + 8 * f, 6],
         ];
         let floats = self.vertices.iter().flat_map(|float| float.to_le_bytes());
         let words = self.corners.iter().flat_map(|corner| corner.to_le_bytes());
         Facts {
             records: records
-                .map(|record| record.map(|number| number as u32))
+                .map(|numbers| record(numbers.map(|number| number as u32)))
                 .to_vec(),
             counts: [36, size as u32 - 36, 0],
             meshes: vec![facts::Mesh {
                 vertices: floats.collect(),
                 corners: words.collect(),
+                mapping: vec![],
                 name: [18, name as u32],
             }],
         }
@@ -185,7 +189,7 @@ impl Writing {
 
 /// A room around the size: too small, exact, more.
 pub fn room(size: usize, random: &mut Random) -> usize {
-    match random.below(6) {
+    match random.below(7) {
         0 => size - 1,
         1 => size + 1,
         2 => random.below(size),

@@ -3,12 +3,12 @@
 
 use super::{Error, Seeded};
 use crate::differ::facts::Mesh;
-use crate::{place, row, Number, Own, Refusal, Row, LIMIT};
+use crate::{place, record, row, Number, Own, Refusal, Row, LIMIT, RECORD};
 
 /// What the plain reader makes of a file.
 #[derive(Debug, Default)]
 pub struct Read {
-    pub records: Vec<[u32; 6]>,
+    pub records: Vec<[u32; RECORD]>,
     pub own: usize,
     pub skipped: usize,
     /// How many unlisted chunks were passed over.
@@ -22,7 +22,7 @@ pub struct Parts {
     pub vertices: Option<Vec<u8>>,
     pub faces: Vec<u8>,
     pub faces_at: usize,
-    pub mapping: Option<(usize, usize)>,
+    pub mapping: Option<(usize, Vec<u8>)>,
     /// A refusal put off to the mesh's end, by mistake.
     pub put_off: Option<Refusal>,
 }
@@ -107,7 +107,7 @@ impl Reader<'_> {
         usize::from(self.file[at]) + 256 * usize::from(self.file[at + 1])
     }
 
-    fn length(&self, at: usize) -> usize {
+    pub fn length(&self, at: usize) -> usize {
         let more = if self.makes(Error::LengthExcludesHeader) {
             6
         } else {
@@ -213,8 +213,10 @@ impl Reader<'_> {
         if self.makes(Error::TwiceEachAlone) && row.under == place::H4000 && once != 0 {
             once = 1 << (self.word(at) >> 8 & 7);
         }
-        if self.makes(Error::LengthBeforeTwice) {
-            self.own(row, at, length)?;
+        let own = self.own(row, at, length);
+        let text = own.is_err_and(|refusal| refusal.number == Number::Text as u32);
+        if self.makes(Error::LengthBeforeTwice) || text && self.makes(Error::TextBeforeTwice) {
+            own?;
         }
         let name = self.word(at) == 0xA000 && self.makes(Error::TwiceAcrossParents);
         if once & *met != 0 || (name && self.met_in_file != 0) {
@@ -235,7 +237,7 @@ impl Reader<'_> {
         }
         let own = self.own(row, at, length)?;
         self.numbers(row, at, own)?;
-        let record = self.record(row, numbers, own);
+        let (record, passed) = (self.record(row, numbers, own), self.read.passed);
         if row.holds == place::H4000 {
             self.name = [at as u32 + 6, own as u32 - 1];
         }
@@ -258,7 +260,27 @@ impl Reader<'_> {
         if mesh {
             self.close(at)?;
         }
+        self.next(record, self.read.passed - passed);
         Ok(())
+    }
+
+    /// Notes the number behind a record and all inside it.
+    fn next(&mut self, number: usize, passed: usize) {
+        let behind = &self.read.records[number + 1..];
+        let next = match self.seeded.error {
+            Some(Error::NextWithoutOne) => number + behind.len(),
+            Some(Error::NextIsCount) => 1 + behind.len(),
+            Some(Error::NextOfUnlistedToo) => number + 1 + behind.len() + passed,
+            Some(Error::NextOfChildrenOnly) => {
+                let children = behind.iter().filter(|record| record[4] == number as u32);
+                number + 1 + children.count()
+            }
+            _ => number + 1 + behind.len(),
+        };
+        let mut slot = self.read.records[number].iter_mut().skip(6);
+        if let Some(slot) = slot.next() {
+            *slot = next as u32;
+        }
     }
 
     /// Lists a chunk, and answers the number of its record.
@@ -285,8 +307,9 @@ impl Reader<'_> {
         } else {
             at
         };
-        let numbers = [self.word(at), offset, length, depth, parent, said];
-        self.read.records.push(numbers.map(|number| number as u32));
+        let numbers = [self.word(at), offset, length, depth, parent, said, 0];
+        let numbers = numbers.map(|number| number as u32);
+        self.read.records.push(record(numbers));
         self.read.own += own;
         number
     }
