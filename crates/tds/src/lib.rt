@@ -12,6 +12,8 @@ ghost use Rattle.studio_write.specs.Write.{writeCall};
 ghost use Rattle.c_version.specs.Version.{versionCode};
 ghost use Rattle.c_codes.specs.Codes.{recordsOr, sizesOr, sizeOr};
 ghost use Rattle.c_answers.specs.Given.{countsGiven, nameGiven, boxGiven};
+ghost use Rattle.c4d_rules.specs.Calls.{objectBytes, twoRows, c4dCheckCall, c4dListCall};
+ghost use Rattle.c_c4d.specs.Codes.{objectsOr};
 ghost use Rattle.slip_sums.specs.Fletcher.{sumOf};
 ghost use Rattle.slip_sums.specs.Passes.{sumsCall, matchOf};
 ghost use Rattle.slip_rules.specs.Calls.{byteRow, slipReadCall, givenBytes, slipWriteCall};
@@ -158,4 +160,24 @@ pub extern "C" fn tds_slip_write(names: &[u8], entries: &[u8], out: &mut [u8]) -
     ensures out { λ _. ⌜ now (out .exit) ≡ slipWriteCall (now (names .entry)) (givenBytes (now (entries .entry))) (now (out .entry)) .rows ⌝ }
 {
     c_codes::written_code(slip_write::write(names, entries, out))
+}
+
+// ---- Cinema 4D figures
+
+// The count of objects, or a refusal.
+#[no_mangle]
+pub extern "C" fn tds_c4d_check(file: &[u8]) -> u64
+    ensures { λ n. ⌜ n ≡ objectsOr (c4dCheckCall (now (file .entry))) ⌝ }
+{
+    c_c4d::found_code(c4d_check::check(file))
+}
+
+// The count of objects that now stand in the front of the first slice, 12 bytes each, their materials in the front of the
+// second, or a refusal.
+#[no_mangle]
+pub extern "C" fn tds_c4d_list(file: &[u8], objects: &mut [u8], materials: &mut [u8]) -> u64
+    ensures answer { λ n. ⌜ n ≡ objectsOr (c4dListCall objectBytes (numberBytes 4) (now (file .entry)) (now (objects .entry)) (now (materials .entry)) .answer) ⌝ }
+    ensures rows { λ _. ⌜ twoRows (now (objects .exit)) (now (materials .exit)) ≡ c4dListCall objectBytes (numberBytes 4) (now (file .entry)) (now (objects .entry)) (now (materials .entry)) .rows ⌝ }
+{
+    c_c4d::found_code(c4d_list::list(file, objects, materials))
 }
