@@ -13,15 +13,16 @@ use Rattle.shared_words.specs.declared.Refusal.{Refusal}
 use Rattle.shared_words.specs.declared.Refusal.the-variants.{NoRoom, NoSuchMesh, Empty}
 use Rattle.studio_rules.specs.declared.Checked.{Checked}
 use Rattle.studio_rules.specs.declared.Tabled.{Tabled}
+use Rattle.studio_rules.specs.declared.Counted.{Counted}
 use Rattle.studio_rules.specs.declared.Named.{Named}
 use Rattle.studio_rules.specs.declared.Boxed.{Boxed}
 use Rattle.studio_rules.specs.Layout.{Run, figure}
 use Rattle.shared_words.specs.Conditions.{Answer, refused, accepted}
 use Rattle.studio_rules.specs.Walk.{verdict}
-use Rattle.studio_rules.specs.Gives.{recordCount, Mesh, meshes}
+use Rattle.studio_rules.specs.Gives.{recordCount, Mesh, meshes, Part, parts}
 use Rattle.shared_words.specs.Encodings.{Encoding}
 use Rattle.shared_words.specs.Effects.{leaving}
-use Rattle.studio_rules.specs.Calls.{countsOf, checkOf, checkCall, listOf, listCall, pickMesh, ofMesh, Rows, tablesOf, tablesCall, nameOf, nameCall, aroundOf, boxCall}
+use Rattle.studio_rules.specs.Calls.{countsOf, checkOf, checkCall, rowOf, listOf, listCall, pickMesh, ofMesh, Rows, tablesOf, tablesCall, nameOf, nameCall, aroundOf, boxCall, partsOf, partsCall}
 use Rattle.shared_words.proofs.Refusals.{numbered}
 use Rattle.shared_words.specs.declared.Written.{Written}
 use Rattle.shared_words.specs.declared.Written.the-variants.{Size, Refused}
@@ -52,6 +53,9 @@ check-apart r q e = cc
 
 tables-apart : Apart Tabled.Refused
 tables-apart r q e = cc
+
+counted-apart : Apart Counted.Refused
+counted-apart r q e = cc
 
 name-apart : Apart Named.Refused
 name-apart r q e = cc
@@ -98,6 +102,15 @@ tabled e f rows m =
     (leaves Tabled.Filled Tabled.Refused tables-apart rows (NoRoom (length (m .corners)))))
     (leaves Tabled.Filled Tabled.Refused tables-apart rows (NoRoom (length (m .vertices))))
 
+in-row : {X A : Type 0} (e : Encoding X A) (row : List A) (xs : List X) → AnsweredOn Counted.Filled Counted.Refused row (rowOf e row xs)
+in-row e row xs =
+    by-test (AnsweredOn Counted.Filled Counted.Refused row) (leb (length xs) (e .room (length row)))
+    (inl (length xs, refl)) (leaves Counted.Filled Counted.Refused counted-apart row (NoRoom (length xs)))
+
+hung : {A : Type 0} (e : Encoding Part A) (row : List A) (a : Answer Run) → AnsweredOn Counted.Filled Counted.Refused row (partsOf e row a)
+hung e row (refused r) = leaves Counted.Filled Counted.Refused counted-apart row r
+hung e row (accepted kids) = in-row e row (parts kids)
+
 boxed : (m : Mesh) → Answered around Boxed.Refused (aroundOf m)
 boxed m = by-test (Answered around Boxed.Refused) (eqb (m .vertexCount) 0) (refuses around Boxed.Refused box-apart Empty) (inl (_, refl))
 
@@ -108,13 +121,14 @@ written file out (Size size) = inl (size, refl)
 -- ---- the demand
 
 pub demand1 : Demand1
-unfolding checkCall listCall tablesCall nameCall boxCall writeCall
+unfolding checkCall listCall tablesCall nameCall boxCall partsCall writeCall
 demand1 = record {
   check = λ s. checked (verdict s);
   list = λ e s row. listed e row (verdict s);
   tables = λ e f s mesh rows.
       by-mesh (AnsweredOn Tabled.Filled Tabled.Refused rows) (λ r. leaving (Tabled.Refused r) rows) (tablesOf e f rows)
       (leaves Tabled.Filled Tabled.Refused tables-apart rows) (tabled e f rows) mesh (verdict s);
+  parts = λ e s row. hung e row (verdict s);
   name = λ s mesh.
       by-mesh (Answered Named.At Named.Refused) Named.Refused nameOf (refuses Named.At Named.Refused name-apart) (λ m. inl (_, refl)) mesh (verdict s);
   box = λ s mesh.

@@ -15,15 +15,16 @@ use Rattle.studio_rules.specs.declared.Counts.{Counts}
 use Rattle.studio_rules.specs.declared.Checked.{Checked}
 use Rattle.studio_rules.specs.declared.Sizes.{Sizes}
 use Rattle.studio_rules.specs.declared.Tabled.{Tabled}
+use Rattle.studio_rules.specs.declared.Counted.{Counted}
 use Rattle.shared_words.specs.Bytes.{Bytes}
 use Rattle.studio_rules.specs.Layout.{Run, figure}
 use Rattle.studio_rules.specs.Rules.{Meets}
 use Rattle.shared_words.specs.Conditions.{Answer, refused, accepted}
 use Rattle.studio_rules.specs.Walk.{verdict}
-use Rattle.studio_rules.specs.Gives.{recordCount, Mesh, meshes}
+use Rattle.studio_rules.specs.Gives.{recordCount, Mesh, meshes, parts}
 use Rattle.shared_words.specs.Encodings.{Encoding}
 use Rattle.shared_words.specs.Effects.{Effect, leaving}
-use Rattle.studio_rules.specs.Calls.{checkOf, checkCall, listOf, listCall, pickMesh, ofMesh, Rows, tablesOf, tablesCall, nameCall, boxCall}
+use Rattle.studio_rules.specs.Calls.{checkOf, checkCall, listOf, listCall, pickMesh, ofMesh, Rows, tablesOf, tablesCall, nameCall, boxCall, partsOf, partsCall}
 use Rattle.studio_rules.proofs.Verdict.{accepted-exactly, verdict-good}
 use Rattle.studio_rules.proofs.Theorems.{counts-add}
 use Rattle.studio_write.proofs.ReadsBack.{written-reads-back}
@@ -37,11 +38,17 @@ not-accepted counts r e = let z : _≡_ {A = ℕ} 0 1 = cc in omega arith
 not-filled : (sizes : Sizes) (r : Refusal) → Tabled.Refused r ≡ Tabled.Filled sizes → ⊥
 not-filled sizes r e = let z : _≡_ {A = ℕ} 0 1 = cc in omega arith
 
+not-counted : (n : ℕ) (r : Refusal) → Counted.Refused r ≡ Counted.Filled n → ⊥
+not-counted n r e = let z : _≡_ {A = ℕ} 0 1 = cc in omega arith
+
 counts-are : {x y : Counts} → Checked.Accepted x ≡ Checked.Accepted y → y ≡ x
 counts-are e = cc
 
 sizes-are : {x y : Sizes} → Tabled.Filled x ≡ Tabled.Filled y → y ≡ x
 sizes-are e = cc
+
+counted-is : {x y : ℕ} → Counted.Filled x ≡ Counted.Filled y → y ≡ x
+counted-is e = cc
 
 -- ---- an answer z that no refusal gives: what was found on the way to it
 
@@ -84,13 +91,14 @@ found-tables e f rows m sizes h =
 -- ---- what the calls give of a file that meets the rules
 
 given : (s : List ℕ) (kids : Run) → Meets s kids → Given s kids
-unfolding listCall tablesCall nameCall boxCall
+unfolding listCall tablesCall nameCall boxCall partsCall
 given s kids m =
     let v = verdict-good s kids m in
     record {
       counts-add = counts-add s kids m;
       list-is = λ e row h. rw (v, le-leb (recordCount (figure kids)) (e .room (length row)) h);
       tables-are = λ e f mesh x g rows h k. rw (v, g, le-leb _ _ h, le-leb _ _ k);
+      parts-are = λ e row h. rw (v, le-leb (length (parts kids)) (e .room (length row)) h);
       name-is = λ mesh x g. rw (v, g);
       box-is = λ mesh x g p. rw (v, g, ne-eqb (x .vertexCount) 0 (λ z. omega arith));
     }
@@ -98,7 +106,7 @@ given s kids m =
 -- ---- the demand
 
 pub demand2 : Demand2
-unfolding checkCall listCall tablesCall
+unfolding checkCall listCall tablesCall partsCall
 demand2 = record {
   accepted = λ s b counts. (
     λ h. let l = found-layout checkOf (not-accepted counts) s b h in (l .0, l .1, counts-are (l .2)),
@@ -120,6 +128,13 @@ demand2 = record {
     λ l.
         let m = l .2 in
         rw (given s (l .0) (l .1) .tables-are e f mesh (m .0) (m .1) rows (m .3) (m .4), m .2),
+  );
+  hung = λ e s b row n. (
+    λ h.
+        let l = found-layout (λ a. partsOf e row a .answer) (not-counted n) s b h in
+        let r = found-room _ _ _ _ (not-counted n _) (l .2) in
+        (l .0, l .1, counted-is (r .1), r .0),
+    λ l. rw (given s (l .0) (l .1) .parts-are e row (l .3), l .2),
   );
   given = given;
   written-reads-back = written-reads-back;

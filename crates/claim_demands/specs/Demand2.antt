@@ -12,16 +12,17 @@ use Rattle.studio_rules.specs.declared.Counts.{Counts}
 use Rattle.studio_rules.specs.declared.Checked.{Checked}
 use Rattle.studio_rules.specs.declared.Sizes.{Sizes}
 use Rattle.studio_rules.specs.declared.Tabled.{Tabled}
+use Rattle.studio_rules.specs.declared.Counted.{Counted}
 use Rattle.studio_rules.specs.declared.Named.{Named}
 use Rattle.studio_rules.specs.declared.Boxed.{Boxed}
 use Rattle.shared_words.specs.Bytes.{Bytes}
 use Rattle.studio_rules.specs.Layout.{Run, figure}
 use Rattle.studio_rules.specs.Rules.{Meets}
-use Rattle.studio_rules.specs.Gives.{recordCount, list, Mesh, meshes}
+use Rattle.studio_rules.specs.Gives.{recordCount, list, Mesh, meshes, Part, parts}
 use Rattle.studio_rules.specs.Box.{boxOf, centreOf}
 use Rattle.shared_words.specs.Encodings.{Encoding}
 use Rattle.shared_words.specs.Effects.{leaving, filled}
-use Rattle.studio_rules.specs.Calls.{countsOf, checkCall, listCall, Rows, tablesCall, nameCall, boxCall}
+use Rattle.studio_rules.specs.Calls.{countsOf, checkCall, listCall, Rows, tablesCall, nameCall, boxCall, partsCall}
 use Rattle.studio_write.specs.ReadsBack.{WrittenReadsBack}
 
 -- ---- room, in whole records or numbers
@@ -41,6 +42,8 @@ pub record Given (s : List ℕ) (kids : Run) : Type 1 where
       tablesCall e f s mesh rows ≡
       leaving (Tabled.Filled record { vertices = m .vertexCount; faces = m .faceCount })
       record { vertices = filled (e .encode (m .vertices)) (rows .vertices); corners = filled (f .encode (m .corners)) (rows .corners) }
+  pub parts-are : {A : Type 0} (e : Encoding Part A) (row : List A) → RoomFor e (length (parts kids)) row →
+      partsCall e s row ≡ leaving (Counted.Filled (length (parts kids))) (filled (e .encode (parts kids)) row)
   pub name-is : (mesh : ℕ) (m : Mesh) → getElem? (meshes kids) mesh ≡ some m →
       nameCall s mesh ≡ Named.At record { offset = m .nameAt; size = m .nameLength }
   pub box-is : (mesh : ℕ) (m : Mesh) → getElem? (meshes kids) mesh ≡ some m → 0 < m .vertexCount →
@@ -52,7 +55,7 @@ pub record Demand2 : Type 1 where
   -- accepted exactly when the rules are met, and then with the counts of the layout
   pub accepted : (s : List ℕ) → Bytes s → (counts : Counts) →
       (checkCall s ≡ Checked.Accepted counts) ↔ ((kids : Run) × Meets s kids × (counts ≡ countsOf kids))
-  -- the list and the tables likewise, given room
+  -- the list, the tables and the parts likewise, given room
   pub listed : {A : Type 0} (e : Encoding Record A) (s : List ℕ) → Bytes s → (row : List A) (counts : Counts) →
       (listCall e s row .answer ≡ Checked.Accepted counts) ↔
       ((kids : Run) × Meets s kids × (counts ≡ countsOf kids) × RoomFor e (recordCount (figure kids)) row)
@@ -61,6 +64,8 @@ pub record Demand2 : Type 1 where
       ((kids : Run) × Meets s kids × ((m : Mesh) × (getElem? (meshes kids) mesh ≡ some m) ×
       (sizes ≡ record { vertices = m .vertexCount; faces = m .faceCount }) ×
       RoomFor e (length (m .vertices)) (rows .vertices) × RoomFor f (length (m .corners)) (rows .corners)))
+  pub hung : {A : Type 0} (e : Encoding Part A) (s : List ℕ) → Bytes s → (row : List A) (n : ℕ) →
+      (partsCall e s row .answer ≡ Counted.Filled n) ↔ ((kids : Run) × Meets s kids × (n ≡ length (parts kids)) × RoomFor e (length (parts kids)) row)
   -- and what they give is that of the layout
   pub given : (s : List ℕ) (kids : Run) → Meets s kids → Given s kids
   -- a figure we write is accepted and reads back

@@ -19,7 +19,8 @@ use Rattle.studio_rules.specs.Gaps.{Marked, without, with, InGaps, Piece, befor
 use Rattle.studio_rules.specs.Theorems.{putIn, allPut}
 use Rattle.shared_words.specs.Encodings.{Encoding}
 use Rattle.shared_words.specs.Effects.{leaving, filled}
-use Rattle.studio_rules.specs.Calls.{checkCall, listCall, Rows, tablesCall, nameCall, boxCall}
+use Rattle.studio_rules.specs.Gives.{Part}
+use Rattle.studio_rules.specs.Calls.{checkCall, listCall, Rows, tablesCall, nameCall, boxCall, partsCall}
 
 -- a name keeps its length, and its offset grows like the others; a refusal is the same
 abbrev pub NameMoved : List Piece → Named → Named → Type 0
@@ -53,6 +54,8 @@ pub record SameAnswers (ps : List Piece) (all : ℕ) (s s′ : List ℕ) : Type 
       tablesCall e f s′ mesh rows ≡ tablesCall e f s mesh rows
   pub box-same : (mesh : ℕ) → boxCall s′ mesh ≡ boxCall s mesh
   pub name-moved : (mesh : ℕ) → NameMoved ps (nameCall s mesh) (nameCall s′ mesh)
+  -- the same parts hang on the same ones
+  pub parts-same : {A : Type 0} (e : Encoding Part A) (row : List A) → partsCall e s′ row ≡ partsCall e s row
 
 pub record Demand3 : Type 1 where
   -- chunks put into an accepted file, the result within the length limit

@@ -14,5 +14,7 @@ pub mod Gaps
 pub mod Pieces
 pub mod Moved
 pub mod Parses
+pub mod At
+pub mod Parts
 pub mod Theorems
 pub mod Samples

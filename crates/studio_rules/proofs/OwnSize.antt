@@ -8,7 +8,7 @@ use lib.ListN.{length, drop, length-drop}
 use lib.Seq.{take-append-le, drop-append-le}
 use lib.Dec.{eqb}
 use borrow.Author.Tests.{le-leb}
-use Rattle.studio_rules.specs.Table.{Shape, fixed, name, counted, each, named-words}
+use Rattle.studio_rules.specs.Table.{Shape, fixed, name, counted, each, named-words, named}
 use Rattle.studio_rules.specs.OwnData.{nameSize, count, ownSize, hasName}
 
 name-size-pos : (s : List ℕ) → 1 ≤ nameSize s
@@ -47,6 +47,7 @@ own-size-more (fixed k) around own more h = h
 own-size-more name around own more h = name-size-more own more (omega arith) ∙ h
 own-size-more (counted k) around own more h = rw (take-append-le 2 own more (omega arith)) h
 own-size-more (each k) around own more h = h
+own-size-more (named k) around own more h = rw (name-size-more own more (omega arith)) h
 own-size-more named-words around own more h = rw (name-size-more own more (omega arith), count-more (nameSize own) own more (omega arith)) h
 
 pub own-size-less : (sh : Shape) (around own more : List ℕ) → ownSize sh around (own ++ more) ≡ length own → ownSize sh around own ≡ length own
@@ -54,6 +55,7 @@ own-size-less (fixed k) around own more h = h
 own-size-less name around own more h = name-size-less own more (omega arith) ∙ h
 own-size-less (counted k) around own more h = rw (take-append-le 2 own more (omega arith)) at h
 own-size-less (each k) around own more h = h
+own-size-less (named k) around own more h = rw (name-size-less own more (omega arith)) h
 own-size-less named-words around own more h =
     let n : nameSize own ≡ nameSize (own ++ more) = name-size-less own more (omega arith) in
     rw (n, ← (count-more (nameSize (own ++ more)) own more (omega arith))) h
@@ -64,4 +66,5 @@ has-name (fixed k) around s h = refl
 has-name name around s h = le-leb (nameSize s) (length s) h
 has-name (counted k) around s h = refl
 has-name (each k) around s h = refl
+has-name (named k) around s h = le-leb (nameSize s) (length s) (omega arith)
 has-name named-words around s h = le-leb (nameSize s) (length s) (omega arith)

@@ -12,12 +12,13 @@ use Rattle.shared_words.specs.declared.Refusal.the-variants.{NoRoom, NoSuchMesh
 use Rattle.studio_rules.specs.declared.Counts.{Counts}
 use Rattle.studio_rules.specs.declared.Checked.{Checked}
 use Rattle.studio_rules.specs.declared.Tabled.{Tabled}
+use Rattle.studio_rules.specs.declared.Counted.{Counted}
 use Rattle.studio_rules.specs.declared.Named.{Named}
 use Rattle.studio_rules.specs.declared.Boxed.{Boxed}
 use Rattle.studio_rules.specs.Layout.{Run, figure}
 use Rattle.shared_words.specs.Conditions.{Answer, refused, accepted}
 use Rattle.studio_rules.specs.Walk.{verdict}
-use Rattle.studio_rules.specs.Gives.{recordCount, list, headers, owned, skipped, Mesh, meshes}
+use Rattle.studio_rules.specs.Gives.{recordCount, list, headers, owned, skipped, Mesh, meshes, Part, parts}
 use Rattle.studio_rules.specs.Box.{boxOf, centreOf}
 use Rattle.shared_words.specs.Effects.{Effect, leaving, filled}
 use Rattle.shared_words.specs.Encodings.{Encoding}
@@ -38,6 +39,12 @@ checkOf (accepted kids) = Checked.Accepted (countsOf kids)
 
 unfoldable pub checkCall : List ℕ → Checked
 checkCall s = checkOf (verdict s)
+
+-- ---- one row, of things in order
+
+abbrev pub rowOf : {X A : Type 0} → Encoding X A → List A → List X → Effect Counted (List A)
+rowOf e row xs =
+    cond (leb (length xs) (e .room (length row))) (leaving (Counted.Filled (length xs)) (filled (e .encode xs) row)) (leaving (Counted.Refused (NoRoom (length xs))) row)
 
 -- ---- the list, into a row whose room is counted in whole records
 
@@ -93,3 +100,12 @@ aroundOf m =
 
 unfoldable pub boxCall : List ℕ → ℕ → Boxed
 boxCall s mesh = ofMesh Boxed.Refused aroundOf mesh (verdict s)
+
+-- ---- the parts
+
+abbrev pub partsOf : {A : Type 0} → Encoding Part A → List A → Answer Run → Effect Counted (List A)
+partsOf e row (refused r) = leaving (Counted.Refused r) row
+partsOf e row (accepted kids) = rowOf e row (parts kids)
+
+unfoldable pub partsCall : {A : Type 0} → Encoding Part A → List ℕ → List A → Effect Counted (List A)
+partsCall e s row = partsOf e row (verdict s)

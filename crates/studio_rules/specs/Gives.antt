@@ -1,12 +1,13 @@
--- What a reader gets of a figure: the list of known chunks, the byte counts, the meshes. Each is a fold of the layout.
+-- What a reader gets of a figure: the list of known chunks, the byte counts, the meshes, the parts. Each is a fold of the layout.
 use Prim.Native.Nat.{ℕ, suc, _+_, _-_}
-use mathlib.Core.Bool.{Bool, true, false}
+use mathlib.Core.Bool.{Bool, true, false, cond}
 use mathlib.Core.List.{List, [], _∷_, _++_}
+use mathlib.Core.Option.{Option, none, some}
 use lib.Dec.{eqb}
-use lib.ListN.{length}
+use lib.ListN.{length, getElem?}
 use Rattle.studio_rules.specs.declared.Record.{Record}
-use Rattle.studio_rules.specs.OwnData.{count, vertexNumbers, faceCorners}
-use Rattle.studio_rules.specs.Layout.{Run, end, skip, known, figure, size, child}
+use Rattle.studio_rules.specs.OwnData.{count, vertexNumbers, faceCorners, father, root}
+use Rattle.studio_rules.specs.Layout.{Run, end, skip, known, figure, size, child, held}
 
 -- ---- the list: a Record for each known chunk
 
@@ -103,3 +104,37 @@ meshesOf o nameAt nameLength (known id own kids rest) =
 -- the meshes of a figure, in file order over all 4100
 abbrev pub meshes : Run → List Mesh
 meshes kids = meshesOf 0 0 0 (figure kids)
+
+-- ---- the parts that move: who hangs on whom
+
+-- a part: the number of its father, or `root`; and how many fathers there are above it
+pub record Part : Type 0 where
+  pub father : ℕ
+  pub depth : ℕ
+
+-- what the B010 of each B002 tells, in file order: the number of a part is the order of its B002
+abbrev pub fathersIn : Run → List ℕ
+fathersIn end = []
+fathersIn (skip id body rest) = fathersIn rest
+fathersIn (known id own kids rest) = cond (eqb id 0xB002) (father (child 0xB010 kids) ∷ fathersIn rest) (fathersIn rest)
+
+-- the fathers of a figure's parts: they stand in its one B000
+abbrev pub fathers : Run → List ℕ
+fathers kids = fathersIn (held 0xB000 kids)
+
+-- one deeper than the father
+abbrev pub below : Option Part → ℕ
+below none = 0
+below (some q) = suc (q .depth)
+
+-- a part with the father f, behind the parts `done`
+abbrev pub partOf : List Part → ℕ → Part
+partOf done f = record { father = f; depth = cond (eqb f root) 0 (below (getElem? done f)) }
+
+abbrev pub partsFrom : List Part → List ℕ → List Part
+partsFrom done [] = done
+partsFrom done (f ∷ fs) = partsFrom (done ++ (partOf done f ∷ [])) fs
+
+-- the parts of a figure, in file order
+abbrev pub parts : Run → List Part
+parts kids = partsFrom [] (fathers kids)

@@ -5,8 +5,12 @@ use mathlib.Core.Path.{_≡_}
 use Prim.Native.Nat.{ℕ}
 use mathlib.Core.List.{List, [], _∷_, _++_, map}
 use lib.ListN.{replicate}
+use Rattle.studio_rules.specs.OwnData.{root}
 use Rattle.shared_words.specs.Bytes.{le}
 use Rattle.studio_rules.specs.Layout.{Run, end, skip, known, figure, bytes}
+use Rattle.shared_words.specs.Conditions.{Answer, refused, accepted}
+use Rattle.studio_rules.specs.Walk.{verdict}
+use Rattle.studio_rules.specs.Gives.{Part, parts}
 use Rattle.studio_rules.specs.Calls.{checkCall}
 use Rattle.studio_rules.specs.Samples.{Shown, no, yes, shown}
 
@@ -48,6 +52,17 @@ noPairs = plain 0x4140 (0 ∷ 0 ∷ [])
 abbrev pub camera : ℕ → Run → Run
 camera n kids = known 0x4700 (replicate n 0) kids end
 
+-- B000 behind an empty 3D3D, at 12: its children begin at 18
+abbrev pub keyframer : Run → Run
+keyframer kids = scene end then known 0xB000 [] kids end
+
+-- B010 named "p" (14 bytes), and B002 that holds it (20 bytes)
+abbrev pub hangsOn : ℕ → Run
+hangsOn f = plain 0xB010 (0x70 ∷ 0 ∷ 0 ∷ 0 ∷ 0 ∷ 0 ∷ le 2 f)
+
+abbrev pub part : ℕ → Run
+part f = known 0xB002 [] (hangsOn f) end
+
 -- ---- the cases, and what is answered
 
 pub record Case : Type 0 where
@@ -86,10 +101,36 @@ cases =
     -- Q-1: a camera may hold unlisted chunks behind its 32 bytes; 10 only where it is too short; 6
     gives (scene (object (camera 32 (skip 0x4720 (0 ∷ []) end)))) (yes 24 34 7) ∷
     gives (scene (object (camera 31 end))) (no 10 20) ∷
-    gives (scene (object (camera 33 end))) (no 6 58) ∷ []
+    gives (scene (object (camera 33 end))) (no 6 58) ∷
+    -- Q-7: 23 for a part that hangs on itself, or on a number that counts other chunks too; 10 comes before it
+    gives (keyframer (part root then part 0)) (yes 42 16 0) ∷
+    gives (keyframer (part 0)) (no 23 24) ∷
+    gives (keyframer (part root then skip 0xB001 (0 ∷ 0 ∷ 0 ∷ 0 ∷ []) end then part 1)) (no 23 54) ∷
+    gives (keyframer (known 0xB002 [] (plain 0xB010 (0x70 ∷ 0 ∷ replicate 7 0)) end)) (no 10 24) ∷
+    -- 14, 8 and 7: a B002 without its B010; two B010, two B000; a B002 in 3D3D
+    gives (keyframer (plain 0xB002 [])) (no 14 18) ∷
+    gives (keyframer (known 0xB002 [] (hangsOn root then hangsOn root) end)) (no 8 38) ∷
+    gives (keyframer end then plain 0xB000 []) (no 8 18) ∷
+    gives (scene (part root)) (no 7 12) ∷ []
 
 abbrev pub answered : Case → Shown
 answered c = shown (checkCall (bytes (figure (c .kids))))
 
 abbrev pub Readings : Type 0
 Readings = map answered cases ≡ map (λ c. c .answer) cases
+
+-- ---- what is given
+
+abbrev pub partsIn : Answer Run → List Part
+partsIn (refused r) = []
+partsIn (accepted kids) = parts kids
+
+abbrev pub reading : Run → Answer Run
+reading kids = verdict (bytes (figure kids))
+
+abbrev pub at : ℕ → ℕ → Part
+at father depth = record { father = father; depth = depth }
+
+pub record Worked : Type 0 where
+  -- father and depth of each part
+  pub tree : partsIn (reading (keyframer (part root then part 0 then part 1 then part 0 then part root))) ≡ at root 0 ∷ at 0 1 ∷ at 1 2 ∷ at 0 1 ∷ at root 0 ∷ []

@@ -1,4 +1,4 @@
--- The chunk rules of document 01, each under its own name; and what it is for a file to meet them.
+-- The chunk rules of documents 01 and 02, each under its own name; and what it is for a file to meet them.
 use mathlib.Core.Path.{_≡_}
 use Prim.Native.Nat.{ℕ, _+_, _≤_}
 use mathlib.Core.Bool.{Bool, true, false, not, _&&_, _||_, cond}
@@ -10,7 +10,7 @@ use Rattle.shared_words.specs.Lists.{every}
 use Rattle.shared_words.specs.Lists.{among}
 use Rattle.studio_rules.specs.Table.{theFile, listed, under, shape, plus, limits, needs}
 use Rattle.shared_words.specs.Floats.{finite}
-use Rattle.studio_rules.specs.OwnData.{count, ownSize, vertexNumbers, mappingNumbers, faceCorners, faceNumbers}
+use Rattle.studio_rules.specs.OwnData.{count, ownSize, vertexNumbers, mappingNumbers, faceCorners, faceNumbers, father, root}
 use Rattle.studio_rules.specs.Layout.{Run, end, skip, known, figure, bytes, identifiers, child}
 
 -- how many of some identifiers are in a group
@@ -72,6 +72,10 @@ allBelow n = every (λ x. ltb x n)
 abbrev pub faceNumbersBelow : OwnRule
 faceNumbersBelow p id own = only 0x4130 id (allBelow (count (p .own)) (faceNumbers own))
 
+-- the father of a part, which the B010 of a B002 tells, is an earlier B002 by its order, or there is none
+abbrev pub fatherEarlier : OwnRule
+fatherEarlier p id own = only 0xB010 id (eqb (father own) root || ltb (father own) (p .order))
+
 -- ---- the rules of a chunk's children, which are judged at its end
 
 -- q is the chunk, as its children see it
@@ -113,6 +117,7 @@ pub record Own (p : Parent) (seen : List ℕ) (id : ℕ) (own : List ℕ) : Type
   pub own-data-exact : ownDataExact p id own ≡ true
   pub numbers-finite : numbersFinite p id own ≡ true
   pub face-numbers-below : faceNumbersBelow p id own ≡ true
+  pub father-earlier : fatherEarlier p id own ≡ true
 
 -- ALL RULES OF THE CHILDREN of one known chunk q
 pub record Children (q : Parent) (kids : Run) : Type 0 where

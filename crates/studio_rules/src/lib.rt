@@ -39,6 +39,12 @@ pub enum Tabled {
     Refused(Refusal),
 }
 
+// The answer of a mesh's mapping and of the parts: how many things the row holds.
+pub enum Counted {
+    Filled(usize),
+    Refused(Refusal),
+}
+
 // Where a name stands in the file, and its length without the zero.
 pub struct Span {
     pub offset: usize,
