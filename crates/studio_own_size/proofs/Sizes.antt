@@ -8,7 +8,7 @@ use native.Mathlib.Omega.{arith}
 use lib.ListN.{length, drop, getD}
 use lib.Seq.{slice, slice-cons, slice-empty, length-slice}
 use borrow.Author.Tests.{le-leb, lt-leb}
-use Rattle.studio_rules.specs.Table.{Shape, fixed, name, counted, each, named-words}
+use Rattle.studio_rules.specs.Table.{Shape, fixed, name, counted, each, named-words, named}
 use Rattle.studio_rules.specs.OwnData.{nameSize, count, ownSize, hasName}
 use Rattle.shared_numbers.specs.Numbers.{wordAt}
 use Rattle.shared_numbers.proofs.Slices.{word-slice, drop-slice}
@@ -67,6 +67,9 @@ module _ (s : List ℕ) (at stop : ℕ) (order : at ≤ stop) (end : stop ≤ le
     words-is w l f =
         fitted-is named-words [] (slice at stop s) (z + 2 + 2 * w) (stop - at) has (omega (arith, words-count l)) body-length
 
+    pub named-is : (k : ℕ) (r : Own) → Fitted (z + k) (stop - at) r → OwnIs (named k) [] (slice at stop s) r
+    named-is k = fitted-is (named k) [] (slice at stop s) (z + k) (stop - at) has (omega arith) body-length
+
   -- ---- the count word of own data
 
   pub count-none : stop - at ≡ 0 → CountIs (slice at stop s) 0
@@ -100,16 +103,21 @@ module _ (row : ℕ) where
   unfolding shapeIn
   kind-each e = rw e
 
-rest-words : (k n : ℕ) → (k ≡ 0 → ⊥) → (k ≡ 1 → ⊥) → (k ≡ 2 → ⊥) → (k ≡ 3 → ⊥) → shapeFrom k n ≡ named-words
-rest-words zero n a b c d = absurd (a refl)
-rest-words (suc zero) n a b c d = absurd (b refl)
-rest-words (suc (suc zero)) n a b c d = absurd (c refl)
-rest-words (suc (suc (suc zero))) n a b c d = absurd (d refl)
-rest-words (suc (suc (suc (suc k)))) n a b c d = refl
+  pub kind-words : kindIn row ≡ 4 → shapeIn row ≡ named-words
+  unfolding shapeIn
+  kind-words e = rw e
 
-pub kind-words : (row : ℕ) → (kindIn row ≡ 0 → ⊥) → (kindIn row ≡ 1 → ⊥) → (kindIn row ≡ 2 → ⊥) → (kindIn row ≡ 3 → ⊥) → shapeIn row ≡ named-words
+rest-named : (k n : ℕ) → (k ≡ 0 → ⊥) → (k ≡ 1 → ⊥) → (k ≡ 2 → ⊥) → (k ≡ 3 → ⊥) → (k ≡ 4 → ⊥) → shapeFrom k n ≡ named n
+rest-named zero n a b c d e = absurd (a refl)
+rest-named (suc zero) n a b c d e = absurd (b refl)
+rest-named (suc (suc zero)) n a b c d e = absurd (c refl)
+rest-named (suc (suc (suc zero))) n a b c d e = absurd (d refl)
+rest-named (suc (suc (suc (suc zero)))) n a b c d e = absurd (e refl)
+rest-named (suc (suc (suc (suc (suc k))))) n a b c d e = refl
+
+pub kind-named : (row : ℕ) → (kindIn row ≡ 0 → ⊥) → (kindIn row ≡ 1 → ⊥) → (kindIn row ≡ 2 → ⊥) → (kindIn row ≡ 3 → ⊥) → (kindIn row ≡ 4 → ⊥) → shapeIn row ≡ named (sizeIn row)
 unfolding shapeIn
-kind-words row = rest-words (kindIn row) (sizeIn row)
+kind-named row = rest-named (kindIn row) (sizeIn row)
 
 -- own data that does not look at the chunk around
 pub around-any : (sh : Shape) → ((a b body : List ℕ) → ownSize sh a body ≡ ownSize sh b body) → (around body : List ℕ) (r : Own) → OwnIs sh [] body r → OwnIs sh around body r
