@@ -4,13 +4,13 @@ use mathlib.Core.Bool.{Bool, true, not, _||_, cond}
 use mathlib.Core.List.{List, [], _∷_}
 use mathlib.Core.Logic.{_⊎_}
 use mathlib.Core.Option.{Option, none, some}
-use Prim.Native.Nat.{ℕ, _+_, _*_, _≤_}
+use Prim.Native.Nat.{ℕ, _+_, _*_, _≤_, min}
 use lib.Dec.{eqb, leb}
 use lib.ListN.{length, set, getD, drop, replicate}
 use Rattle.shared_words.specs.declared.Refusal.{Refusal}
 use Rattle.shared_words.specs.declared.Refusal.the-variants.{Index, Count}
 use Rattle.studio_rules.specs.Table.{under}
-use Rattle.studio_rules.specs.OwnData.{corners}
+use Rattle.studio_rules.specs.OwnData.{corners, root}
 use Rattle.studio_rules.specs.Layout.{Run, end, skip, known, size}
 use Rattle.studio_rules.specs.Rules.{Parent, allBelow, noneMissing, Obeys}
 use Rattle.studio_rules.specs.Walk.{endConditions}
@@ -34,14 +34,19 @@ Under p (x ∷ xs) = (under p x ≡ true) × Under p xs
 unfoldable pub free : ℕ → List ℕ → Bool
 free k marks = leb 5 k || eqb (getD marks k 0) 0
 
+-- The marks after a chunk of slot k at o: its slot names it. Slot 5 is no group's and counts its chunks, up to `root`: the
+-- order of a B002 is told by it, and no father is beyond.
+unfoldable pub noted : ℕ → ℕ → List ℕ → List ℕ
+noted k o marks = cond (leb 5 k) (set marks 5 (min (getD marks 5 0 + 1) root)) (set marks k o)
+
 -- the marks after a run that begins at o
 abbrev pub marksAfter : ℕ → Run → List ℕ → List ℕ
 marksAfter o end marks = marks
 marksAfter o (skip id body rest) marks = marksAfter (o + (6 + length body)) rest marks
-marksAfter o (known id own kids rest) marks = marksAfter (o + (6 + length own + size kids)) rest (set marks (slotOf id) o)
+marksAfter o (known id own kids rest) marks = marksAfter (o + (6 + length own + size kids)) rest (noted (slotOf id) o marks)
 
 abbrev pub noMarks : List ℕ
-noMarks = replicate 5 0
+noMarks = replicate 6 0
 
 -- t are the children of a chunk q, which stand in the file s from `from` to `stop`, obey the rules and left these marks
 pub record Kept (q : Parent) (t : Run) (s : List ℕ) (from stop : ℕ) (marks : List ℕ) : Type 0 where

@@ -1,22 +1,36 @@
-// What a run of children leaves behind: for each slot of "at most one" the offset of the chunk that was seen there, or 0.
-// The rules at a chunk's end are read off these marks.
+// What a run of children leaves behind: for each of five slots of "at most one" the offset of the chunk that was seen there,
+// or 0; and in the sixth how many chunks of no group there were. The rules at a chunk's end are read off these marks.
 use shared_numbers::word_at;
 use shared_words::Refusal;
 ghost use mathlib.Core.Path.{_≡_};
 ghost use mathlib.Core.Bool.{cond};
-ghost use Prim.Native.Nat.{_+_, _*_, _<_};
-ghost use lib.ListN.{length, set};
+ghost use Prim.Native.Nat.{_+_, _*_, _<_, min};
+ghost use lib.ListN.{length};
+ghost use Rattle.studio_rules.specs.OwnData.{root};
 ghost use Rattle.studio_row.specs.Packed.{slotIn};
-ghost use Rattle.studio_marks.specs.Marks.{free, MissingIs, EndIs, ShutIs, Placed, countAt, cornersAt, pairsAt, MeshPlaced, meshBroken};
+ghost use Rattle.studio_marks.specs.Marks.{free, noted, MissingIs, EndIs, ShutIs, Placed, countAt, cornersAt, pairsAt, MeshPlaced, meshBroken};
 
-// Notes the chunk of a row at an offset in its slot; false where the slot was taken.
+// One chunk more of no group.
+fn counted(n: u32) -> u32
+    ensures { λ r. ⌜ r ≡ min (n + 1) root ⌝ }
+{
+    if n < 65535 {
+        n + 1
+    } else {
+        65535
+    }
+}
+
+// Notes the chunk of a row at an offset in its slot; false where the slot was taken. A chunk of no group is counted, as far
+// as an order can be told.
 pub fn note(marks: &mut [u32], row: u64, at: usize) -> bool
-    requires { ⌜ (length (now marks) ≡ 5) × (at < 4294967296) ⌝ }
+    requires { ⌜ (length (now marks) ≡ 6) × (at < 4294967296) ⌝ }
     ensures is { λ r. ⌜ r ≡ free (slotIn row) (now (marks .entry)) ⌝ }
-    ensures marks { λ r. ⌜ now (marks .exit) ≡ cond r (set (now (marks .entry)) (slotIn row) at) (now (marks .entry)) ⌝ }
+    ensures marks { λ r. ⌜ now (marks .exit) ≡ cond r (noted (slotIn row) at (now (marks .entry))) (now (marks .entry)) ⌝ }
 {
     let slot = studio_row::slot(row);
     if 5 <= slot {
+        marks[5] = counted(marks[5]);
         return true;
     }
     if marks[slot] != 0 {
@@ -32,15 +46,18 @@ pub enum Shut {
     Fine,
 }
 
-// Whether a child is missing that a chunk must have: 3D3D in 4D4D, A000 in AFFF.
+// Whether a child is missing that a chunk must have: 3D3D in 4D4D, A000 in AFFF, B010 in B002.
 fn is_missing(id: usize, marks: &[u32]) -> bool
-    requires { ⌜ length (now marks) ≡ 5 ⌝ }
+    requires { ⌜ length (now marks) ≡ 6 ⌝ }
     ensures { λ r. ⌜ MissingIs id (now (marks .entry)) r ⌝ }
 {
     if id == 0x4D4D {
         return marks[1] == 0;
     }
     if id == 0xAFFF {
+        return marks[0] == 0;
+    }
+    if id == 0xB002 {
         return marks[0] == 0;
     }
     false
@@ -82,7 +99,7 @@ fn pairs_fine(file: &[u8], mark: usize, n: u32) -> bool
 
 // A mesh at its end.
 fn at_mesh_end(file: &[u8], marks: &[u32]) -> Shut
-    requires { ⌜ (length (now marks) ≡ 5) × MeshPlaced (now file) (now marks) ⌝ }
+    requires { ⌜ (length (now marks) ≡ 6) × MeshPlaced (now file) (now marks) ⌝ }
     ensures { λ r. ⌜ ShutIs (meshBroken (now (file .entry)) (now (marks .entry))) r ⌝ }
 {
     let n = count_at(file, marks[0] as usize);
@@ -99,7 +116,7 @@ fn at_mesh_end(file: &[u8], marks: &[u32]) -> Shut
 
 // A chunk at its end, by the marks that its children left: it stands at an offset.
 pub fn at_end(file: &[u8], id: usize, at: usize, marks: &[u32]) -> Shut
-    requires { ⌜ (length (now marks) ≡ 5) × (id ≡ 0x4100 → MeshPlaced (now file) (now marks)) ⌝ }
+    requires { ⌜ (length (now marks) ≡ 6) × (id ≡ 0x4100 → MeshPlaced (now file) (now marks)) ⌝ }
     ensures { λ r. ⌜ EndIs (now (file .entry)) id at (now (marks .entry)) r ⌝ }
 {
     if is_missing(id, marks) {
