@@ -28,6 +28,13 @@ and-true false = refl
 different : _≡_ {A = ℕ} 0x4130 0xB010 → ⊥
 different e = omega arith
 
+-- the father that a B010 tells is the last word of its own data
+pub father-last : (s : List ℕ) (at stop : ℕ) → stop ≤ length s → length (slice at stop s) ≡ nameSize (slice at stop s) + 6 → father (slice at stop s) ≡ wordAt s (stop - 2)
+father-last s at stop stays e =
+    let n : length (slice at stop s) ≡ stop - at = length-slice at stop s stays in
+    let q : at + (nameSize (slice at stop s) + 4) ≡ stop - 2 = omega arith in
+    ap (λ (l : List ℕ). value (take 2 l)) (drop-slice (nameSize (slice at stop s) + 4) at stop s ∙ ap (λ (o : ℕ). slice o stop s) q) ∙ word-slice (stop - 2) stop s (omega arith)
+
 module _ (s : List ℕ) (at stop : ℕ) (order : at ≤ stop) (stays : stop ≤ length s) (id : ℕ) (exact : Exact id (slice at stop s)) where
   own-length : length (slice at stop s) ≡ stop - at
   own-length = length-slice at stop s stays
@@ -86,9 +93,7 @@ module _ (s : List ℕ) (at stop : ℕ) (order : at ≤ stop) (stays : stop ≤ 
     father-room = omega (arith, own-length, exact .father i)
 
     father-is : father (slice at stop s) ≡ wordAt s (stop - 2)
-    father-is =
-        let q : at + (nameSize (slice at stop s) + 4) ≡ stop - 2 = omega (arith, own-length, exact .father i) in
-        ap (λ (l : List ℕ). value (take 2 l)) (drop-slice (nameSize (slice at stop s) + 4) at stop s ∙ ap (λ (o : ℕ). slice o stop s) q) ∙ word-slice (stop - 2) stop s (omega (arith, father-room))
+    father-is = father-last s at stop stays (exact .father i)
 
     module _ (p : Parent) (f : ℕ) (e : f ≡ wordAt s (stop - 2)) where
       told : fatherEarlier p id (slice at stop s) ≡ (eqb f root || ltb f (p .order))

@@ -39,7 +39,7 @@ told q seen (known id own kids rest) h l = go (eqb id 0xB010) refl l (told q (id
     go true e l ih = rw e at (h .0 .father-earlier)
     go false e l ih = ih (omega arith)
 
-has-father : (q : Parent) (kids : Run) → q .id ≡ 0xB002 → noneMissing q kids ≡ true → 1 ≤ tally (0xB010 ∷ []) (identifiers kids)
+pub has-father : (q : Parent) (kids : Run) → q .id ≡ 0xB002 → noneMissing q kids ≡ true → 1 ≤ tally (0xB010 ∷ []) (identifiers kids)
 unfolding needs atLeastOne every
 has-father q kids e h = leb-true _ _ (and-parts (leb 1 (tally (0xB010 ∷ []) (identifiers kids))) true (rw e at h) .0)
 
