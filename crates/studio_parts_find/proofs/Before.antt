@@ -25,26 +25,24 @@ fathers-onward (known id own kids rest) = go (eqb id 0xB002) refl (fathers-onwar
     go true e ih = rw e
     go false e ih = ih
 
--- of the parts in t, so many stand before `at`, where the next stands, or the end; `done` are their fathers
-pub record PartsBefore (p : Parent) (t : Run) (s : List ℕ) (stop n at : ℕ) : Type 0 where
+-- of the parts in t, those with the fathers `done` stand before `at`, where the next stands, or the end
+pub record PartsBefore (p : Parent) (t : Run) (s : List ℕ) (stop : ℕ) (done : List ℕ) (at : ℕ) : Type 0 where
   pub tail : Run
   pub spans : Spans p (onward 0xB002 tail) s at stop
-  pub done : List ℕ
-  pub count : length done ≡ n
   pub split : fathersIn t ≡ done ++ fathersIn (onward 0xB002 tail)
-  pub few : n ≤ at
+  pub few : length done ≤ at
 
 module _ (p : Parent) (t : Run) (s : List ℕ) (stop : ℕ) where
-  pub none-before : (from at : ℕ) → Spans p t s from stop → at ≡ offsetOf 0xB002 from t → PartsBefore p t s stop 0 at
-  none-before from at h e = record { tail = t; spans = rw e (onward-spans 0xB002 p t s from stop h); done = []; count = refl; split = fathers-onward t; few = omega arith }
+  pub none-before : (from at : ℕ) → Spans p t s from stop → at ≡ offsetOf 0xB002 from t → PartsBefore p t s stop [] at
+  none-before from at h e = record { tail = t; spans = rw e (onward-spans 0xB002 p t s from stop h); split = fathers-onward t; few = omega arith }
 
-  module _ (n at : ℕ) (w : PartsBefore p t s stop n at) where
-    pub all-before : stop ≤ at → fathersIn t ≡ w .done
+  module _ (done : List ℕ) (at : ℕ) (w : PartsBefore p t s stop done at) where
+    pub all-before : stop ≤ at → fathersIn t ≡ done
     all-before l = w .split ∙ go (onward-is 0xB002 (w .tail)) (w .spans)
       where
         go : (onward 0xB002 (w .tail) ≡ end) ⊎ ((own : List ℕ) × (kids : Run) × (rest : Run) × (onward 0xB002 (w .tail) ≡ known 0xB002 own kids rest)) →
-            Spans p (onward 0xB002 (w .tail)) s at stop → w .done ++ fathersIn (onward 0xB002 (w .tail)) ≡ w .done
-        go (inl e) h = rw (e, append-nil (w .done))
+            Spans p (onward 0xB002 (w .tail)) s at stop → done ++ fathersIn (onward 0xB002 (w .tail)) ≡ done
+        go (inl e) h = rw (e, append-nil done)
         go (inr (own, kids, rest, e)) h = absurd (omega (arith, l, header-here p s at stop 0xB002 own kids rest (subst (λ (r : Run). Spans p r s at stop) e h) .six))
 
     -- the part at `at`
@@ -53,7 +51,7 @@ module _ (p : Parent) (t : Run) (s : List ℕ) (stop : ℕ) where
       pub kids : Run
       pub rest : Run
       pub spans : Spans p (known 0xB002 own kids rest) s at stop
-      pub split : fathersIn t ≡ w .done ++ (father (child 0xB010 kids) ∷ fathersIn rest)
+      pub split : fathersIn t ≡ done ++ (father (child 0xB010 kids) ∷ fathersIn rest)
 
     pub here : at < stop → Here
     here l = go (onward-is 0xB002 (w .tail)) (w .spans)
@@ -66,7 +64,7 @@ module _ (p : Parent) (t : Run) (s : List ℕ) (stop : ℕ) where
           kids = kids;
           rest = rest;
           spans = subst (λ (r : Run). Spans p r s at stop) e h;
-          split = w .split ∙ ap (λ (r : Run). w .done ++ fathersIn r) e;
+          split = w .split ∙ ap (λ (r : Run). done ++ fathersIn r) e;
         }
 
     -- one part on
@@ -77,15 +75,13 @@ module _ (p : Parent) (t : Run) (s : List ℕ) (stop : ℕ) where
       pub goes-on : at + 6 ≤ next
       goes-on = omega (arith, e, offset-after 0xB002 (at + (6 + length (h .own) + size (h .kids))) (h .rest))
 
-      pub one-before : PartsBefore p t s stop (n + 1) next
+      pub one-before : PartsBefore p t s stop (done ++ (father (child 0xB010 (h .kids)) ∷ [])) next
       one-before =
           let f = father (child 0xB010 (h .kids)) in
           let on = after-known p s at stop 0xB002 (h .own) (h .kids) (h .rest) (h .spans) in
           record {
             tail = h .rest;
             spans = rw e (onward-spans 0xB002 p (h .rest) s (at + (6 + length (h .own) + size (h .kids))) stop on);
-            done = w .done ++ (f ∷ []);
-            count = length-append (w .done) (f ∷ []) ∙ omega (arith, w .count);
-            split = h .split ∙ sym (append-assoc (w .done) (f ∷ []) (fathersIn (h .rest))) ∙ ap (λ (l : List ℕ). (w .done ++ (f ∷ [])) ++ l) (fathers-onward (h .rest));
-            few = omega (arith, w .few, goes-on);
+            split = h .split ∙ sym (append-assoc done (f ∷ []) (fathersIn (h .rest))) ∙ ap (λ (l : List ℕ). (done ++ (f ∷ [])) ++ l) (fathers-onward (h .rest));
+            few = omega (arith, length-append done (f ∷ []), w .few, goes-on);
           }
