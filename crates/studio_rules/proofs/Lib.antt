@@ -1,5 +1,6 @@
 pub mod Headers
 pub mod Corners
+pub mod Children
 pub mod Rows
 pub mod Apart
 pub mod Once
@@ -14,5 +15,6 @@ pub mod Gaps
 pub mod Pieces
 pub mod Moved
 pub mod Parses
+pub mod Mapping
 pub mod Theorems
 pub mod Samples

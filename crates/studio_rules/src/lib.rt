@@ -27,10 +27,11 @@ pub enum Checked {
     Refused(Refusal),
 }
 
-// How many vertices and faces a mesh has.
+// How many vertices and faces a mesh has, and how many pairs its mapping.
 pub struct Sizes {
     pub vertices: usize,
     pub faces: usize,
+    pub pairs: usize,
 }
 
 // The answer of a mesh's tables.
