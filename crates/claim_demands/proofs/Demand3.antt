@@ -83,9 +83,9 @@ module _ (m : Marked) (s s′ : List ℕ) (v : verdict s ≡ accepted (without m
         moved = d .list-moved;
         list-given = λ e row h. (rw (v, le-leb _ _ h), rw (v′, n, le-leb _ _ h));
         list-refused = λ e row h. (rw (v, lt-leb _ _ h), rw (v′, n, lt-leb _ _ h));
-        tables-same = λ e f mesh rows.
-            of-one-mesh (λ r. leaving (Tabled.Refused r) rows) (tablesOf e f rows) (λ old new. new ≡ old) (λ r. refl)
-            (λ old new h. rw (h .vertices-same, h .corners-same, h .vertex-count-same, h .face-count-same)) mesh;
+        tables-same = λ t mesh rows.
+            of-one-mesh (λ r. leaving (Tabled.Refused r) rows) (tablesOf t rows) (λ old new. new ≡ old) (λ r. refl)
+            (λ old new h. rw (h .vertices-same, h .corners-same, h .mapping-same, h .vertex-count-same, h .face-count-same, h .pair-count-same)) mesh;
         parts-same = λ e row. rw (v, v′, d .parts-same);
         box-same =
             of-one-mesh Boxed.Refused aroundOf (λ old new. new ≡ old) (λ r. refl) (λ old new h. rw (h .vertex-count-same, h .vertices-same));

@@ -19,7 +19,7 @@ use Rattle.shared_words.specs.Refusals.{Code, codeOf, Numbered}
 use Rattle.shared_words.specs.Encodings.{Encoding}
 use Rattle.shared_words.specs.Effects.{Effect}
 use Rattle.studio_rules.specs.Gives.{Part}
-use Rattle.studio_rules.specs.Calls.{checkCall, listCall, Rows, tablesCall, nameCall, boxCall, partsCall}
+use Rattle.studio_rules.specs.Calls.{checkCall, listCall, Rows, Tables, tablesCall, nameCall, boxCall, partsCall}
 use Rattle.shared_words.specs.declared.Written.{Written}
 use Rattle.studio_write.specs.Write.{writeCall}
 
@@ -49,8 +49,8 @@ pub record Demand1 : Type 1 where
   pub check : (s : List ℕ) → Answered Checked.Accepted Checked.Refused (checkCall s)
   pub list : {A : Type 0} (e : Encoding Record A) (s : List ℕ) (row : List A) →
       AnsweredOn Checked.Accepted Checked.Refused row (listCall e s row)
-  pub tables : {A B : Type 0} (e : Encoding ℕ A) (f : Encoding ℕ B) (s : List ℕ) (mesh : ℕ) (rows : Rows A B) →
-      AnsweredOn Tabled.Filled Tabled.Refused rows (tablesCall e f s mesh rows)
+  pub tables : {A B C : Type 0} (t : Tables A B C) (s : List ℕ) (mesh : ℕ) (rows : Rows A B C) →
+      AnsweredOn Tabled.Filled Tabled.Refused rows (tablesCall t s mesh rows)
   pub parts : {A : Type 0} (e : Encoding Part A) (s : List ℕ) (row : List A) →
       AnsweredOn Counted.Filled Counted.Refused row (partsCall e s row)
   pub name : (s : List ℕ) (mesh : ℕ) → Answered Named.At Named.Refused (nameCall s mesh)

@@ -15,8 +15,9 @@ use Rattle.shared_words.specs.Lists.{every, among}
 use Rattle.studio_rules.specs.Table.{listed, limits, needs, atMostOne, atLeastOne, rows, Shape, shape, counted}
 use Rattle.studio_rules.specs.OwnData.{count, corners, faceCorners, ownSize}
 use Rattle.studio_rules.specs.Layout.{Run, identifiers, child, offsetOf}
-use Rattle.studio_rules.specs.Rules.{Parent, tally, few, allBelow, noneMissing}
+use Rattle.studio_rules.specs.Rules.{Parent, tally, few, allBelow, noneMissing, asManyPairs, pairsFit}
 use Rattle.studio_rules.specs.Parses.{Place, within}
+use Rattle.studio_rules.proofs.Children.{child-none}
 use Rattle.studio_rules.proofs.Parses.{parses}
 use Rattle.studio_rules.proofs.Once.{at-most-one}
 use Rattle.shared_words.specs.Conditions.{Condition, must, broken}
@@ -29,10 +30,10 @@ use Rattle.studio_scan.proofs.Parts.{corners-slice}
 use Rattle.studio_row.specs.Packed.{places, slotOf, rowOf}
 use Rattle.studio_row.proofs.Facts.{SlotTest, same-is}
 use Rattle.studio_marks.specs.declared.Shut.{Shut}
-use Rattle.studio_marks.specs.Marks.{tallySlot, Under, noMarks, Kept, ShutIs, Placed, countAt, cornersAt, pairsAt, MeshPlaced, meshBroken}
+use Rattle.studio_marks.specs.Marks.{tallySlot, Under, noMarks, Kept, ShutIs, RuleIs, Placed, countAt, cornersAt, pairsAt, MeshPlaced, meshBroken}
 use Rattle.studio_marks.proofs.Slots.{allSlot, tally-slot, groups-slotted}
 use Rattle.studio_marks.proofs.After.{under-of, marks-zero, Alone, marks-place}
-use Rattle.studio_marks.proofs.Children.{Found, child-none, child-found}
+use Rattle.studio_marks.proofs.Children.{Found, child-found}
 
 or-false : (b : Bool) → (b || false) ≡ b
 or-false true = refl
@@ -241,11 +242,11 @@ module _ (q : Parent) (i : q .id ≡ 0x4100) (t : Run) (s : List ℕ) (from stop
           corners-slice (wordAt s (getD marks 1 0 + 6)) (getD marks 1 0 + 8) (getD marks 1 0 + 6 + length (child 0x4120 t)) s (omega (arith, w .own-size, w .count-is)) in
           rw (w .nonzero) (ap (allBelow n) (sym (ap (λ (j : ℕ). corners j (drop 2 (child 0x4120 t))) (w .count-is) ∙ ap (corners (wordAt s (getD marks 1 0 + 6))) d ∙ e)))
 
-  pairs-are : (n : ℕ) → pairsAt s (getD marks 2 0) n ≡ (not (among 0x4140 (identifiers t)) || eqb (count (child 0x4140 t)) n)
+  pairs-are : (asMany : Bool) → RuleIs q asMany → (n : ℕ) → pairsAt s (getD marks 2 0) asMany n ≡ (not (among 0x4140 (identifiers t)) || pairsFit (q .version) (count (child 0x4140 t)) n)
   unfolding pairsAt
-  pairs-are n = go (among 0x4140 (identifiers t)) refl
+  pairs-are asMany rule n = rw (← rule) (go (among 0x4140 (identifiers t)) refl)
     where
-      go : (b : Bool) → among 0x4140 (identifiers t) ≡ b → pairsAt s (getD marks 2 0) n ≡ (not b || eqb (count (child 0x4140 t)) n)
+      go : (b : Bool) → among 0x4140 (identifiers t) ≡ b → pairsAt s (getD marks 2 0) (asManyPairs (q .version)) n ≡ (not b || pairsFit (q .version) (count (child 0x4140 t)) n)
       go false a = rw (absent 0x4140 2 (groups .pairs) (omega arith) a)
       go true a = let w = there 0x4140 2 8 (groups .pairs) (omega arith) pairs-shape a in rw (w .nonzero, w .count-is)
 
@@ -261,13 +262,13 @@ module _ (q : Parent) (i : q .id ≡ 0x4100) (t : Run) (s : List ℕ) (from stop
   unfolding every
   no-faces n a = rw (child-none 0x4120 t a)
 
-  pub mesh-broken : meshBroken s marks ≡ broken (meshConditions q from t)
-  mesh-broken =
+  pub mesh-broken : (asMany : Bool) → RuleIs q asMany → meshBroken s asMany marks ≡ broken (meshConditions q from t)
+  mesh-broken asMany rule =
       rw i
       (
       broken-same _ _ _ _ _ _ (rw vertex-count (corners-are (count (child 0x4110 t))))
       (λ e. ap Refusal.Index (present 0x4120 1 8 (groups .faces) (omega arith) faces-shape (λ a. true≢false (sym (no-faces (count (child 0x4110 t)) a) ∙ e))))
-      (broken-same _ _ _ _ _ _ (rw vertex-count (pairs-are (count (child 0x4110 t))))
+      (broken-same _ _ _ _ _ _ (rw vertex-count (pairs-are asMany rule (count (child 0x4110 t))))
       (λ e. ap Refusal.Count (present 0x4140 2 8 (groups .pairs) (omega arith) pairs-shape (λ a. true≢false (sym (rw a) ∙ e)))) refl))
 
 -- ---- at least one: 3D3D in 4D4D, A000 in AFFF, B010 in B002

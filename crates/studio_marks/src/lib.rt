@@ -86,21 +86,25 @@ fn corners_fine(file: &[u8], mark: usize, n: u32) -> bool
     studio_scan::corners_below(file, mark + 8, f, n)
 }
 
-// Whether the count word of the 4140 that a mark names is n.
-fn pairs_fine(file: &[u8], mark: usize, n: u32) -> bool
+// Whether the count word of the 4140 that a mark names fits n vertices: it must be n, or at most n in an old file.
+fn pairs_fine(file: &[u8], mark: usize, n: u32, as_many: bool) -> bool
     requires { ⌜ Placed (now file) mark 2 ⌝ }
-    ensures { λ r. ⌜ r ≡ pairsAt (now (file .entry)) mark n ⌝ }
+    ensures { λ r. ⌜ r ≡ pairsAt (now (file .entry)) mark as_many n ⌝ }
 {
     if mark == 0 {
         return true;
     }
-    word_at(file, mark + 6) == n
+    let m = word_at(file, mark + 6);
+    if as_many {
+        return m == n;
+    }
+    m <= n
 }
 
 // A mesh at its end.
-fn at_mesh_end(file: &[u8], marks: &[u32]) -> Shut
+fn at_mesh_end(file: &[u8], as_many: bool, marks: &[u32]) -> Shut
     requires { ⌜ (length (now marks) ≡ 6) × MeshPlaced (now file) (now marks) ⌝ }
-    ensures { λ r. ⌜ ShutIs (meshBroken (now (file .entry)) (now (marks .entry))) r ⌝ }
+    ensures { λ r. ⌜ ShutIs (meshBroken (now (file .entry)) as_many (now (marks .entry))) r ⌝ }
 {
     let n = count_at(file, marks[0] as usize);
     let faces = marks[1] as usize;
@@ -108,22 +112,23 @@ fn at_mesh_end(file: &[u8], marks: &[u32]) -> Shut
         return Shut::Fault(Refusal::Index(faces));
     }
     let pairs = marks[2] as usize;
-    if !pairs_fine(file, pairs, n) {
+    if !pairs_fine(file, pairs, n, as_many) {
         return Shut::Fault(Refusal::Count(pairs));
     }
     Shut::Fine
 }
 
-// A chunk at its end, by the marks that its children left: it stands at an offset.
-pub fn at_end(file: &[u8], id: usize, at: usize, marks: &[u32]) -> Shut
+// A chunk at its end, by the marks that its children left: it stands at an offset. A mesh of the file must have as many
+// mapping pairs as vertices, or at most as many.
+pub fn at_end(file: &[u8], id: usize, at: usize, as_many: bool, marks: &[u32]) -> Shut
     requires { ⌜ (length (now marks) ≡ 6) × (id ≡ 0x4100 → MeshPlaced (now file) (now marks)) ⌝ }
-    ensures { λ r. ⌜ EndIs (now (file .entry)) id at (now (marks .entry)) r ⌝ }
+    ensures { λ r. ⌜ EndIs (now (file .entry)) id at as_many (now (marks .entry)) r ⌝ }
 {
     if is_missing(id, marks) {
         return Shut::Fault(Refusal::Missing(at));
     }
     if id == 0x4100 {
-        return at_mesh_end(file, marks);
+        return at_mesh_end(file, as_many, marks);
     }
     Shut::Fine
 }

@@ -10,7 +10,7 @@ use lib.ListN.{length}
 use Rattle.studio_rules.specs.Table.{plus}
 use Rattle.studio_rules.specs.Layout.{Run, size, identifiers, child, held}
 use Rattle.studio_rules.specs.Rules.{Parent, inside, noChild, childrenInPlus, Children, Obeys}
-use Rattle.studio_rules.specs.Gives.{recordCount, headers, owned, skipped, fathersIn, fathers}
+use Rattle.studio_rules.specs.Gives.{recordCount, headers, owned, skipped, fathersIn, fathers, pairsOf, mappingTable}
 use Rattle.studio_rules.specs.Gaps.{Marked, end, put, skip, known, without, with, InGaps}
 use Rattle.shared_words.proofs.Bools.{or-else, or-second}
 
@@ -66,6 +66,12 @@ child-same x end = refl
 child-same x (put id body rest) = child-same x rest
 child-same x (skip id body rest) = child-same x rest
 child-same x (known id own kids rest) = rw (child-same x rest)
+
+pub pairs-same : (m : Marked) → pairsOf (with m) ≡ pairsOf (without m)
+pairs-same m = rw (identifiers-same m, child-same 0x4110 m)
+
+pub mapping-same : (m : Marked) → mappingTable (with m) ≡ mappingTable (without m)
+mapping-same m = rw (identifiers-same m, child-same 0x4140 m, child-same 0x4110 m)
 
 fathers-in-same : (m : Marked) → fathersIn (with m) ≡ fathersIn (without m)
 fathers-in-same end = refl

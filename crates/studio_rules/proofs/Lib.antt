@@ -1,5 +1,6 @@
 pub mod Headers
 pub mod Corners
+pub mod Children
 pub mod Rows
 pub mod Apart
 pub mod Once
@@ -14,6 +15,7 @@ pub mod Gaps
 pub mod Pieces
 pub mod Moved
 pub mod Parses
+pub mod Mapping
 pub mod At
 pub mod Parts
 pub mod Theorems

@@ -1,13 +1,14 @@
 -- What a reader gets of a figure: the list of known chunks, the byte counts, the meshes, the parts. Each is a fold of the layout.
-use Prim.Native.Nat.{ℕ, suc, _+_, _-_}
+use Prim.Native.Nat.{ℕ, suc, _+_, _-_, _*_}
 use mathlib.Core.Bool.{Bool, true, false, cond}
 use mathlib.Core.List.{List, [], _∷_, _++_}
 use mathlib.Core.Option.{Option, none, some}
 use lib.Dec.{eqb}
-use lib.ListN.{length, getElem?}
+use lib.ListN.{length, getElem?, replicate}
 use Rattle.studio_rules.specs.declared.Record.{Record}
-use Rattle.studio_rules.specs.OwnData.{count, vertexNumbers, faceCorners, father, root}
-use Rattle.studio_rules.specs.Layout.{Run, end, skip, known, figure, size, child, held}
+use Rattle.studio_rules.specs.OwnData.{count, vertexNumbers, mappingNumbers, faceCorners, father, root}
+use Rattle.studio_rules.specs.Layout.{Run, end, skip, known, figure, size, identifiers, child, held}
+use Rattle.shared_words.specs.Lists.{among}
 
 -- ---- the list: a Record for each known chunk
 
@@ -67,7 +68,7 @@ skipped (known id own kids rest) = skipped kids + skipped rest
 -- ---- the meshes
 
 -- a mesh: where the name of its object stands, and its length without the zero; three numbers a vertex, each a float as
--- its 32 bits; three corners a face
+-- its 32 bits; three corners a face; two numbers a pair of its mapping, floats too
 pub record Mesh : Type 0 where
   pub nameAt : ℕ
   pub nameLength : ℕ
@@ -75,6 +76,16 @@ pub record Mesh : Type 0 where
   pub vertices : List ℕ
   pub faceCount : ℕ
   pub corners : List ℕ
+  pub pairCount : ℕ
+  pub mapping : List ℕ
+
+-- a pair for each vertex where a 4140 stands, else none
+abbrev pub pairsOf : Run → ℕ
+pairsOf kids = cond (among 0x4140 (identifiers kids)) (count (child 0x4110 kids)) 0
+
+-- those of the 4140; the missing ones count as zero
+abbrev pub mappingTable : Run → List ℕ
+mappingTable kids = mappingNumbers (child 0x4140 kids) ++ replicate (2 * (pairsOf kids - count (child 0x4140 kids))) 0
 
 -- A mesh without 4110 has no vertices, without 4120 no faces: the count of no own data is 0.
 abbrev pub meshOf : ℕ → ℕ → Run → Mesh
@@ -85,6 +96,8 @@ meshOf nameAt nameLength kids = record {
   vertices = vertexNumbers (child 0x4110 kids);
   faceCount = count (child 0x4120 kids);
   corners = faceCorners (child 0x4120 kids);
+  pairCount = pairsOf kids;
+  mapping = mappingTable kids;
 }
 
 abbrev pub oneMesh : Bool → Mesh → List Mesh

@@ -99,10 +99,17 @@ noneMissing q kids = every (λ g. leb 1 (tally g (identifiers kids))) (needs (q 
 abbrev pub cornersBelow : ChildrenRule
 cornersBelow q kids = only 0x4100 (q .id) (allBelow (count (child 0x4110 kids)) (faceCorners (child 0x4120 kids)))
 
--- of a mesh: where a 4140 stands, its m is n
+-- m mapping pairs for n vertices: m is n, in a file of version 3 or more; in an older one m may be less
+abbrev pub asManyPairs : ℕ → Bool
+asManyPairs version = leb 3 version
+
+abbrev pub pairsFit : ℕ → ℕ → ℕ → Bool
+pairsFit version m n = cond (asManyPairs version) (eqb m n) (leb m n)
+
+-- of a mesh: where a 4140 stands, its m fits n
 abbrev pub mappingMatches : ChildrenRule
 mappingMatches q kids =
-    only 0x4100 (q .id) (not (among 0x4140 (identifiers kids)) || eqb (count (child 0x4140 kids)) (count (child 0x4110 kids)))
+    only 0x4100 (q .id) (not (among 0x4140 (identifiers kids)) || pairsFit (q .version) (count (child 0x4140 kids)) (count (child 0x4110 kids)))
 
 -- ---- what meets them
 

@@ -2,18 +2,19 @@
 -- and stand in crate claim_demands.)
 use mathlib.Core.Path.{_≡_}
 use mathlib.Core.Logic.{_↔_, _⊎_}
-use Prim.Native.Nat.{ℕ, suc, _+_, _≤_, _<_}
+use Prim.Native.Nat.{ℕ, suc, _+_, _*_, _≤_, _<_}
 use mathlib.Core.Bool.{true}
 use mathlib.Core.List.{List, []}
 use mathlib.Core.Option.{some}
 use lib.ListN.{length, drop, getElem?}
 use Rattle.shared_words.specs.Bytes.{Bytes}
+use Rattle.shared_words.specs.Lists.{All}
 use Rattle.studio_rules.specs.Layout.{Run, figure, bytes, identifiers}
 use Rattle.studio_rules.specs.OwnData.{root}
 use Rattle.studio_rules.specs.Rules.{Parent, few, Obeys, limit, version, Meets}
 use Rattle.shared_words.specs.Conditions.{accepted}
 use Rattle.studio_rules.specs.Walk.{versionIn, verdict}
-use Rattle.studio_rules.specs.Gives.{list, headers, owned, skipped, meshes, Part, parts}
+use Rattle.studio_rules.specs.Gives.{list, headers, owned, skipped, Mesh, meshes, Part, parts}
 use Rattle.studio_rules.specs.Gaps.{Marked, figureOf, without, with, InGaps, Piece, pieces, bytesPut, Moved, SameMesh, Pairwise}
 
 -- A file is accepted, with a layout, exactly when it meets the rules with that layout.
@@ -27,6 +28,15 @@ OneLayout = (s : List ℕ) (kids kids′ : Run) → Meets s kids → Meets s kid
 -- The version that the bytes of a file tell is that of its layout.
 abbrev pub VersionAgrees : Type 0
 VersionAgrees = (s : List ℕ) (kids : Run) → Meets s kids → versionIn (drop 6 s) ≡ version kids
+
+-- A mesh has a pair for each vertex, or none, and two numbers for each pair: under either rule, though an old file has
+-- fewer of them.
+pub record Whole (m : Mesh) : Type 0 where
+  pub all-or-none : (m .pairCount ≡ m .vertexCount) ⊎ (m .pairCount ≡ 0)
+  pub two-each : length (m .mapping) ≡ 2 * m .pairCount
+
+abbrev pub MappingWhole : Type 0
+MappingWhole = (s : List ℕ) (kids : Run) → Meets s kids → All Whole (meshes kids)
 
 -- "At most one" is a rule of each child with those before it; so of all children of a chunk q at most one is of a group.
 abbrev pub AtMostOne : Type 0

@@ -27,10 +27,11 @@ pub enum Checked {
     Refused(Refusal),
 }
 
-// How many vertices and faces a mesh has.
+// How many vertices and faces a mesh has, and how many pairs its mapping.
 pub struct Sizes {
     pub vertices: usize,
     pub faces: usize,
+    pub pairs: usize,
 }
 
 // The answer of a mesh's tables.
@@ -39,7 +40,7 @@ pub enum Tabled {
     Refused(Refusal),
 }
 
-// The answer of a mesh's mapping and of the parts: how many things the row holds.
+// The answer of the parts: how many the row holds.
 pub enum Counted {
     Filled(usize),
     Refused(Refusal),

@@ -1,5 +1,6 @@
 -- A chunk with children, from what was found at its start to what it comes to at its end.
 use mathlib.Core.Path.{_≡_, refl, sym, ap, _∙_, subst}
+use mathlib.Core.Bool.{Bool}
 use mathlib.Core.List.{List, []}
 use Prim.Native.Nat.{ℕ, _+_, _≤_, _<_, _^_}
 use native.Mathlib.Omega.{arith}
@@ -15,7 +16,7 @@ use Rattle.studio_rules.proofs.Rows.{under-listed}
 use Rattle.studio_rules.proofs.Steps.{Says, Entered, step-says}
 use Rattle.studio_row.specs.Packed.{slotOf}
 use Rattle.studio_marks.specs.declared.Shut.{Shut}
-use Rattle.studio_marks.specs.Marks.{noMarks, Kept, ShutIs, MeshPlaced}
+use Rattle.studio_marks.specs.Marks.{noMarks, Kept, ShutIs, MeshPlaced, RuleIs, EndIs}
 use Rattle.studio_marks.proofs.Ends.{mesh-placed}
 use Rattle.studio_head.specs.declared.Head.{Head}
 use Rattle.studio_walk.specs.declared.Ran.{Ran}
@@ -74,9 +75,10 @@ module _ {s : List ℕ} {at end : ℕ} {q : Parent} {seen ms ms₁ : List ℕ} {
     pub are : RunIs past 0 0 from noMarks (walk (inside q seen id (ent .own)) [] from (slice from past s)) r inner
 
   -- by what is known of that run in any context
-  pub children : {r z : Ran} {inner : List ℕ} → ((p : Parent) (before : List ℕ) → Context p before row word noMarks → RunIs past 0 0 from noMarks (walk p before from (slice from past s)) r inner) → r ≡ z → Children z inner
-  children {inner = inner} h e =
-      record { are = subst (λ (x : Ran). RunIs past 0 0 from noMarks (walk (inside q seen id (ent .own)) [] from (slice from past s)) x inner) e (h (inside q seen id (ent .own)) [] inner-context) }
+  pub children : {r z : Ran} {inner : List ℕ} {asMany : Bool} → RuleIs q asMany →
+      ((p : Parent) (before : List ℕ) → RuleIs p asMany → Context p before row word noMarks → RunIs past 0 0 from noMarks (walk p before from (slice from past s)) r inner) → r ≡ z → Children z inner
+  children {inner = inner} rule h e =
+      record { are = subst (λ (x : Ran). RunIs past 0 0 from noMarks (walk (inside q seen id (ent .own)) [] from (slice from past s)) x inner) e (h (inside q seen id (ent .own)) [] rule inner-context) }
 
   pub enter-refused : {y : Refusal} {inner : List ℕ} → Children (Ran.Refused y) inner → ChunkIs q seen at (step q seen at (slice at end s)) (Ran.Refused y) ms ms₁
   enter-refused {y} {inner} h =
@@ -94,9 +96,9 @@ module _ {s : List ℕ} {at end : ℕ} {q : Parent} {seen ms ms₁ : List ℕ} {
     enter-placed i = mesh-placed (inside q seen id (ent .own)) i (well .t) s from past inner (well .kept)
 
     -- what the end of the chunk was found to be
-    module _ (shut : Shut) (ends : (p : Parent) (t : Run) (stop : ℕ) → p .id ≡ id → Kept p t s (at + (6 + length (p .own))) stop inner → ShutIs (broken (endConditions p at t)) shut) where
+    module _ {asMany : Bool} (rule : RuleIs q asMany) (shut : Shut) (ends : EndIs s id at asMany inner shut) where
       at-end : ShutIs (broken (endConditions (inside q seen id (ent .own)) at (well .t))) shut
-      at-end = ends (inside q seen id (ent .own)) (well .t) past refl kept
+      at-end = ends (inside q seen id (ent .own)) (well .t) past refl rule kept
 
       pub enter-shut : {y : Refusal} → shut ≡ Shut.Fault y → ChunkIs q seen at (step q seen at (slice at end s)) (Ran.Refused y) ms ms₁
       enter-shut {y} e =

@@ -1,5 +1,6 @@
 -- What a chunk and a run come to, as the rules' walk answers it: numbers for the layout that it gives.
 use mathlib.Core.Path.{_≡_}
+use mathlib.Core.Bool.{Bool}
 use mathlib.Core.List.{List, []}
 use Prim.Native.Nat.{ℕ, _+_, _*_, _-_, _≤_, _<_}
 use lib.ListN.{length, set}
@@ -8,14 +9,14 @@ use Rattle.studio_rules.specs.Gives.{recordCount, skipped}
 use Rattle.shared_words.specs.Conditions.{Answer, refused, accepted}
 use Rattle.studio_rules.specs.Walk.{Step, stop, pass, enter, ended, walk}
 use Rattle.studio_row.specs.Packed.{slotOf}
-use Rattle.studio_marks.specs.Marks.{marksAfter}
+use Rattle.studio_marks.specs.Marks.{marksAfter, RuleIs}
 use Rattle.studio_head.specs.Contexts.{Context}
 use Rattle.studio_walk.specs.declared.Ran.{Ran}
 use Rattle.studio_rules.specs.Layout.{Run}
 
 -- the code stands in some run
-abbrev pub SomeContext : ℕ → ℕ → List ℕ → Type 0
-SomeContext row word marks = (p : Parent) × (seen : List ℕ) × Context p seen row word marks
+abbrev pub SomeContext : ℕ → ℕ → Bool → List ℕ → Type 0
+SomeContext row word asMany marks = (p : Parent) × (seen : List ℕ) × RuleIs p asMany × Context p seen row word marks
 
 -- the answer to a chunk's children, at its end
 abbrev pub ClosedIs : ℕ → Answer Run → Ran → Type 0

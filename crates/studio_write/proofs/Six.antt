@@ -20,10 +20,9 @@ use Rattle.studio_rules.specs.Rules.{Parent, file, inPlace, notTwice, ownDataEx
 use Rattle.studio_rules.specs.Gives.{owned, Mesh}
 use Rattle.shared_words.specs.Conditions.{accepted}
 use Rattle.studio_rules.specs.Walk.{verdict}
-use Rattle.shared_words.specs.Encodings.{floatRow, plainRow}
 use Rattle.studio_rules.specs.Encodings.{flatRecords}
 use Rattle.shared_words.specs.Effects.{leaving, filled}
-use Rattle.studio_rules.specs.Calls.{listOf, listCall, ofMesh, Rows, tablesOf, tablesCall, nameOf, nameCall}
+use Rattle.studio_rules.specs.Calls.{listOf, listCall, ofMesh, Rows, inNumbers, tablesOf, tablesCall, nameOf, nameCall}
 use Rattle.shared_words.proofs.Bools.{both, and-parts}
 use Rattle.studio_write_bytes.specs.Bare.{sixChunks}
 use Rattle.studio_write.specs.ReadsBack.{sixRecords}
@@ -85,6 +84,8 @@ module _ (name vertices faces : List ℕ) where
     vertices = vertexNumbers vertices;
     faceCount = count faces;
     corners = faceCorners faces;
+    pairCount = 0;
+    mapping = [];
   }
 
 -- ---- the calls of the reader, of a file that is accepted with this layout
@@ -98,9 +99,9 @@ module _ (s name vertices faces : List ℕ) (e : verdict s ≡ accepted (sixChun
   unfolding nameCall
   no-other k = ap (ofMesh Named.Refused nameOf (suc k)) e
 
-  pub tables-call : (rows : Rows Float ℕ) → tablesCall floatRow plainRow s 0 rows ≡ tablesOf floatRow plainRow rows (mesh name vertices faces)
+  pub tables-call : (rows : Rows Float ℕ Float) → tablesCall inNumbers s 0 rows ≡ tablesOf inNumbers rows (mesh name vertices faces)
   unfolding tablesCall
-  tables-call rows = ap (ofMesh (λ r. leaving (Tabled.Refused r) rows) (tablesOf floatRow plainRow rows) 0) e
+  tables-call rows = ap (ofMesh (λ r. leaving (Tabled.Refused r) rows) (tablesOf inNumbers rows) 0) e
 
   pub list-call : (k n f : ℕ) → length name ≡ 1 + k → length vertices ≡ 2 + 12 * n → length faces ≡ 2 + 8 * f → (row : List ℕ) → 36 ≤ length row →
       listCall flatRecords s row ≡
