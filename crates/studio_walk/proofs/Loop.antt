@@ -22,7 +22,7 @@ pub record Later (s : List ℕ) (row word at end : ℕ) (ms₀ ms : List ℕ) (p
 pub record Sofar (s : List ℕ) (row word : ℕ) (asMany : Bool) (at end : ℕ) (ms₀ ms : List ℕ) (p records skips : ℕ) : Type 0 where
   pub past : at ≤ p
   pub before : p ≤ end
-  pub five : length ms ≡ 5
+  pub six : length ms ≡ 6
   pub within : 6 * records + skips ≤ p - at
   pub somewhere : SomeContext row word asMany ms
   pub later : (q : Parent) (seen : List ℕ) → RuleIs q asMany → Context q seen row word ms₀ → Later s row word at end ms₀ ms p records skips q seen

@@ -40,7 +40,7 @@ fn chunk(
 ) -> Ran
     requires { ⌜ (at < end) × (1 ≤ at) × Room end count (now file) (now marks) × SomeContext parent count as_many (now marks) × (now table ≡ slots) ⌝ }
     ensures is { λ r. ⌜ ((p : Parent) (seen : List ℕ) → RuleIs p as_many → Context p seen parent count (now (marks .entry)) → ChunkIs p seen at (step p seen at (slice at end (now (file .entry)))) r (now (marks .entry)) (now (marks .exit))) ⌝ }
-    ensures five { λ r. ⌜ length (now (marks .exit)) ≡ 5 ⌝ }
+    ensures six { λ r. ⌜ length (now (marks .exit)) ≡ 6 ⌝ }
     ensures within { λ r. ⌜ ChunkWithin at end r ⌝ }
 {
     match studio_head::look(file, table, parent, count, at, end, marks) {
@@ -62,7 +62,7 @@ fn chunk(
             from,
             stop,
         } => {
-            let mut inner = [0u32; 5];
+            let mut inner = [0u32; 6];
             match run(file, table, row, word, as_many, from, stop, &mut inner) {
                 Ran::Refused(r) => Ran::Refused(r),
                 Ran::Done {
@@ -95,7 +95,7 @@ pub fn run(
 ) -> Ran
     requires { ⌜ (at ≤ end) × (1 ≤ at) × Room end count (now file) (now marks) × SomeContext parent count as_many (now marks) × (now table ≡ slots) ⌝ }
     ensures is { λ r. ⌜ ((p : Parent) (seen : List ℕ) → RuleIs p as_many → Context p seen parent count (now (marks .entry)) → RunIs end 0 0 at (now (marks .entry)) (walk p seen at (slice at end (now (file .entry)))) r (now (marks .exit))) ⌝ }
-    ensures five { λ r. ⌜ length (now (marks .exit)) ≡ 5 ⌝ }
+    ensures six { λ r. ⌜ length (now (marks .exit)) ≡ 6 ⌝ }
     ensures within { λ r. ⌜ RunWithin at end r ⌝ }
 {
     let mut p = at;

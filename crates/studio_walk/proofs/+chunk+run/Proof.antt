@@ -79,10 +79,10 @@ found-within t d e = subst (HeadWithin (d .before .before .before .before .args 
 -- and the step of the walk that it is, in each context of the run
 found : (t : ℕ) (d : chunk-lts.After-look (chunk-calls t) (chunk-at t) chunk.Post) {h : Head} → d .look .result ≡ h →
     let x = d .before .before .before .before .args in
-    (q : Parent) (seen : List ℕ) → Context q seen (x .parent) (x .count) (x .marks .now) → HeadIs (x .at) (step q seen (x .at) (slice (x .at) (x .end) (x .file .now))) h
+    (q : Parent) (seen : List ℕ) → Context q seen (x .parent) (x .count) (x .marks .now) → HeadIs q seen (x .at) (step q seen (x .at) (slice (x .at) (x .end) (x .file .now))) h
 found t d e q seen k =
     let x = d .before .before .before .before .args in
-    subst (HeadIs (x .at) (step q seen (x .at) (slice (x .at) (x .end) (x .file .now)))) e (d .look .ensures .0 q seen k)
+    subst (HeadIs q seen (x .at) (step q seen (x .at) (slice (x .at) (x .end) (x .file .now)))) e (d .look .ensures .0 q seen k)
 
 file-bytes : (t : ℕ) (d : chunk-lts.After-look (chunk-calls t) (chunk-at t) chunk.Post) → Bytes (d .before .before .before .before .args .file .now)
 file-bytes t d = bytes-all (d .before .before .before .before .args .file .now) (λ i. omega (arith, d .before .before .before .shared-slice-known .given i))
@@ -132,7 +132,7 @@ chunk-run-requires t c κs =
     let p = x .pre .1 .3 in
     let e = opened t (c .before .before) (p .0) (p .1) (p .3) in
     let v = e .within in
-    let room : Room (c .before .before .id .given .0 .1 .1 .1 .1 .0) (c .before .before .id .given .0 .1 .1 .0) (x .args .file .now) noMarks = record { ends = omega (arith, x .pre .1 .2 .ends, v .2); short = x .pre .1 .2 .short; word = v .3; five = refl } in
+    let room : Room (c .before .before .id .given .0 .1 .1 .1 .1 .0) (c .before .before .id .given .0 .1 .1 .0) (x .args .file .now) noMarks = record { ends = omega (arith, x .pre .1 .2 .ends, v .2); short = x .pre .1 .2 .short; word = inner-context e .bound-is .small; six = refl } in
     (omega (arith, v .0, v .1, v .2, x .pre), (v .1, omega (arith, v .0), room, (inside (p .0) (p .1) (c .before .before .id .given .0 .0) (ent e .own), [], p .2, inner-context e), x .pre .1 .4))
 
 chunk-enum-known-r-2 : (t : ℕ) → chunk-lts.Need-enum-known-r-2 (chunk-calls t) (chunk-at t) chunk.Post
@@ -271,7 +271,7 @@ run-loop-holds t c =
     record {
       past = omega arith;
       before = x .pre .1 .0;
-      five = x .pre .1 .2 .five;
+      six = x .pre .1 .2 .six;
       within = omega arith;
       somewhere = x .pre .1 .3;
       later = λ q seen rule k. record { seen′ = seen; context = k; tells = λ r ms′ h. h };
@@ -288,7 +288,7 @@ run-chunk-requires :
 run-chunk-requires t c κs =
     let x = c .before .before .before .before .before in
     let i = c .before .before .loop .inv in
-    (omega (arith, i .past, c .before .loop-test .taken, x .pre), (c .before .loop-test .taken, omega (arith, i .past, x .pre .1 .1), record { ends = x .pre .1 .2 .ends; short = x .pre .1 .2 .short; word = x .pre .1 .2 .word; five = i .five }, i .somewhere, x .pre .1 .4))
+    (omega (arith, i .past, c .before .loop-test .taken, x .pre), (c .before .loop-test .taken, omega (arith, i .past, x .pre .1 .1), record { ends = x .pre .1 .2 .ends; short = x .pre .1 .2 .short; word = x .pre .1 .2 .word; six = i .six }, i .somewhere, x .pre .1 .4))
 
 run-enum-known-r :
     (t : ℕ) →
@@ -402,7 +402,7 @@ went-on t c q seen rule k =
     let g = c .next .given in
     let s = x .args .file .now in
     let b = bytes-all s (λ n. omega (arith, c .before .before .before .before .before .before .before .before .before .shared-slice-known .given n)) in
-    goes-on q seen s (i .p) (x .args .end) (i .marks) (c .before .before .before .before .before .before .loop-test .taken) (x .pre .1 .2 .ends) (x .args .parent) (x .args .count) k (i .inv .five)
+    goes-on q seen s (i .p) (x .args .end) (i .marks) (c .before .before .before .before .before .before .loop-test .taken) (x .pre .1 .2 .ends) (x .args .parent) (x .args .count) k (i .inv .six)
     (omega (arith, i .inv .past, x .pre .1 .1)) b (g .0 .0) (g .0 .1 .0) (g .0 .1 .1 .0) (c .before .before .before .before .chunk .last .1 .1 .1 .1 .1 .1 .1 .0) (came t (c .before .before .before .before) (g .1) q seen rule k)
 
 run-loop-again : (t : ℕ) → run-lts.Need-loop-again (run-calls t) (run-at t) run.Post run-Inv-loop run-μ-loop
@@ -414,7 +414,7 @@ run-loop-again t c =
     record {
       past = omega arith;
       before = f .0 .1;
-      five = c .before .before .before .before .before .chunk .ensures .1 .0;
+      six = c .before .before .before .before .before .chunk .ensures .1 .0;
       within = omega arith;
       somewhere = (y .0, z .seen′, y .2, z .context);
       later = λ q seen rule k.
@@ -442,7 +442,7 @@ run-returns-2 t c =
       λ q seen rule k.
           let j = i .inv .later q seen rule k in
           j .tells (Ran.Done (x .args .end) (i .records) (i .skipped)) (i .marks) (run-ends q (j .seen′) (x .args .file .now) (i .p) (x .args .end) (i .records) (i .skipped) (i .marks) (c .loop-test .left)),
-      (i .inv .five, omega (arith, i .inv .within, i .inv .before, i .inv .past, c .loop-test .left)),
+      (i .inv .six, omega (arith, i .inv .within, i .inv .before, i .inv .past, c .loop-test .left)),
     )
 
 pub +chunk+run-spec : {M : Type 1} → statement M
