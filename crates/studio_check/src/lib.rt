@@ -65,7 +65,7 @@ fn check_figure(file: &[u8]) -> Checked
     let version = studio_version::version(file);
     let as_many = 3 <= version;
     let slots = studio_lookup::slots();
-    let mut marks = [0u32; 5];
+    let mut marks = [0u32; 6];
     match studio_walk::run(
         file,
         &slots,

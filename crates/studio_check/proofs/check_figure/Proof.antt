@@ -53,7 +53,7 @@ run-requires : tie.Need-run-requires
 run-requires c κs =
     let x = c .before .before .before .before .before in
     let v = c .before .before .before .version in
-    (x .pre .0, omega arith, record { ends = omega arith; short = x .pre .1; word = omega arith; five = refl }, (top (v .result), [], refl, top-context (v .result) _ figure-row), c .before .before .slots .ensures)
+    (x .pre .0, omega arith, record { ends = omega arith; short = x .pre .1; word = omega arith; six = refl }, (top (v .result), [], refl, top-context (v .result) _ figure-row), c .before .before .slots .ensures)
 
 enum-known-r : tie.Need-enum-known-r
 enum-known-r c = search needs
