@@ -14,9 +14,10 @@ pub mod Fuel
 pub mod Gaps
 pub mod Pieces
 pub mod Moved
+pub mod At
+pub mod Jumps
 pub mod Parses
 pub mod Mapping
-pub mod At
 pub mod Parts
 pub mod Theorems
 pub mod Samples
