@@ -4,8 +4,8 @@ use studio_rules::Record;
 ghost use mathlib.Core.Path.{_≡_};
 ghost use Prim.Native.Nat.{_/_, _%_};
 ghost use Rattle.shared_words.specs.Encodings.{numberBytes};
-ghost use Rattle.studio_rules.specs.Encodings.{recordBytes};
-ghost use Rattle.studio_rules.specs.Calls.{checkCall, listCall, tablesCall, nameCall, boxCall};
+ghost use Rattle.studio_rules.specs.Encodings.{recordBytes, partBytes};
+ghost use Rattle.studio_rules.specs.Calls.{checkCall, listCall, tablesCall, nameCall, boxCall, partsCall};
 ghost use Rattle.studio_list_table.specs.Listed.{inTable, inRow};
 ghost use Rattle.studio_mesh_tables.specs.Rows.{rows};
 ghost use Rattle.studio_write.specs.Write.{writeCall};
@@ -16,6 +16,7 @@ ghost use Rattle.slip_sums.specs.Fletcher.{sumOf};
 ghost use Rattle.slip_sums.specs.Passes.{sumsCall, matchOf};
 ghost use Rattle.slip_rules.specs.Calls.{byteRow, slipReadCall, givenBytes, slipWriteCall};
 ghost use Rattle.c_slip.specs.Codes.{entriesOr};
+ghost use Rattle.c_parts.specs.Codes.{partsOr};
 ghost use Rattle.c_sums.specs.Numbers.{sumsOr, zeroOr, sumIn, withPartNumber, joinNumbers};
 
 // The version of the library.
@@ -87,6 +88,15 @@ pub extern "C" fn tds_box(file: &[u8], mesh: u32, out: &mut [u8]) -> u64
     ensures out { λ _. ⌜ now (out .exit) ≡ boxGiven (now (out .entry)) (boxCall (now (file .entry)) mesh) .rows ⌝ }
 {
     c_answers::give_box(studio_mesh_calls::bounding_box(file, mesh), out)
+}
+
+// The count of parts whose fathers and depths now stand in the front of the slice, 8 bytes each, or a refusal.
+#[no_mangle]
+pub extern "C" fn tds_parts(file: &[u8], parts: &mut [u8]) -> u64
+    ensures answer { λ n. ⌜ n ≡ partsOr (partsCall partBytes (now (file .entry)) (now (parts .entry)) .answer) ⌝ }
+    ensures parts { λ _. ⌜ now (parts .exit) ≡ partsCall partBytes (now (file .entry)) (now (parts .entry)) .rows ⌝ }
+{
+    c_parts::parts_code(studio_parts::parts_bytes(file, parts))
 }
 
 // The size of the figure that now stands in the front of out, or a refusal.
