@@ -23,6 +23,8 @@ static const uint8_t triangle[] = {
 #define TRIANGLE_BOX                                                                               \
     { 0, 0, 0, 0x3F800000, 0x3F800000, 0, 0x3F000000, 0x3F000000, 0 }
 
+#define NAME_32 "abcdefgh ABCDEFG~0123456789.,-_!"
+
 /* Files that are given whole. */
 static const struct raw {
     const char *what;
@@ -48,6 +50,17 @@ static const struct raw {
     {"3D3D too short", "MM\x0C\0\0\0==\5\0\0\0", 12, REFUSAL(4, 6)},
     {"two 3D3D", "MM\x12\0\0\0==\6\0\0\0==\6\0\0\0", 18, REFUSAL(8, 12)},
     {"an object without a name", "MM\x12\0\0\0==\x0C\0\0\0\0@\6\0\0\0", 18, REFUSAL(9, 12)},
+    {"a name of 64 bytes", "MM\x53\0\0\0==\x4D\0\0\0\0@\x47\0\0\0" NAME_32 NAME_32, 83,
+     REFUSAL(24, 12)},
+    {"64 bytes and no zero", "MM\x52\0\0\0==\x4C\0\0\0\0@\x46\0\0\0" NAME_32 NAME_32, 82,
+     REFUSAL(9, 12)},
+    {"a byte 31", "MM\x14\0\0\0==\x0E\0\0\0\0@\x08\0\0\0\x1F", 20, REFUSAL(24, 12)},
+    {"a byte 127 behind a tilde", "MM\x15\0\0\0==\x0F\0\0\0\0@\x09\0\0\0~\x7F", 21,
+     REFUSAL(24, 12)},
+    {"a byte 128", "MM\x14\0\0\0==\x0E\0\0\0\0@\x08\0\0\0\x80", 20, REFUSAL(24, 12)},
+    {"a byte 255 and no zero", "MM\x13\0\0\0==\x0D\0\0\0\0@\x07\0\0\0\xFF", 19, REFUSAL(9, 12)},
+    {"a material with a byte 31 in its name, and a byte behind it",
+     "MM\x1B\0\0\0==\x15\0\0\0\xFF\xAF\x0F\0\0\0\0\xA0\x09\0\0\0\x1F\0x", 27, REFUSAL(24, 18)},
 };
 
 /* The triangle with bytes replaced (around 0), or put in inside the first `around` of the chunks

@@ -21,6 +21,7 @@ fn size_of(own: Own) -> usize
 {
     match own {
         Own::NoName => 0,
+        Own::Unfit => 0,
         Own::TooLong => 0,
         Own::Size(size) => size,
     }

@@ -18,7 +18,7 @@ use Rattle.studio_rules.proofs.Rows.{everyId, listed-every, under-listed}
 use Rattle.studio_row.specs.Packed.{rowOf, shapeIn}
 use Rattle.studio_row.proofs.Facts.{shape-is}
 use Rattle.studio_own_size.specs.declared.Own.{Own}
-use Rattle.studio_own_size.specs.Own.{OwnIs, CountIs}
+use Rattle.studio_own_size.specs.Own.{FitIs, CountIs}
 use Rattle.studio_own_data.specs.Bounds.{boundOf, BoundIs}
 use Rattle.studio_own_data.proofs.Conditions.{some-around}
 
@@ -48,10 +48,11 @@ same-size (each k) a b body e = ap (λ (n : ℕ). k * n) e
 same-size named-words a b body e = refl
 same-size (named k) a b body e = refl
 
-own-with : (sh : Shape) (a b body : List ℕ) → ownSize sh a body ≡ ownSize sh b body → (r : Own) → OwnIs sh a body r → OwnIs sh b body r
+own-with : (sh : Shape) (a b body : List ℕ) → ownSize sh a body ≡ ownSize sh b body → (r : Own) → FitIs sh a body r → FitIs sh b body r
 own-with sh a b body e Own.NoName h = h
-own-with sh a b body e Own.TooLong h = record { named = h .named; beyond = omega (arith, e, h .beyond) }
-own-with sh a b body e (Own.Size k) h = record { named = h .named; is = h .is ∙ e; within = h .within }
+own-with sh a b body e Own.Unfit h = h
+own-with sh a b body e Own.TooLong (f, h) = (f, record { named = h .named; beyond = omega (arith, e, h .beyond) })
+own-with sh a b body e (Own.Size k) (f, h) = (f, record { named = h .named; is = h .is ∙ e; within = h .within })
 
 -- a chunk in p, where it may stand
 module _ (p : Parent) (id n : ℕ) (u : under (p .id) id ≡ true) (b : BoundIs p n) where
@@ -68,7 +69,7 @@ module _ (p : Parent) (id n : ℕ) (u : under (p .id) id ≡ true) (b : BoundIs 
       go false e = same-size (shape id) (le 2 n) (p .own) body (sym (some-around n (b .small) .is) ∙ count-around (eqb-false id 0xB010 e))
 
   -- so own data as it is told for some own data with that count word is as it is in p
-  pub own-around : (row : ℕ) → listed id ≡ true → row ≡ rowOf id → (body : List ℕ) (r : Own) → ((around : List ℕ) → CountIs around n → OwnIs (shapeIn row) around body r) → OwnIs (shapeIn row) (p .own) body r
+  pub own-around : (row : ℕ) → listed id ≡ true → row ≡ rowOf id → (body : List ℕ) (r : Own) → ((around : List ℕ) → CountIs around n → FitIs (shapeIn row) around body r) → FitIs (shapeIn row) (p .own) body r
   own-around row l e body r told =
       let sh : shapeIn row ≡ shape id = ap shapeIn e ∙ shape-is id l in
       rw sh (own-with (shape id) (le 2 n) (p .own) body (some-size body) r (rw sh at (told (le 2 n) (some-around n (b .small)))))

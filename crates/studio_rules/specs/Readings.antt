@@ -86,6 +86,12 @@ cases =
     gives (scene (mesh (known 0x4120 (0 ∷ 0 ∷ []) (plain 0x4150 [] then plain 0x4150 []) end))) (no 8 40) ∷
     -- 9: a 4130 with an empty body
     gives (scene (mesh (vertex 0 then face 0 (plain 0x4130 [])))) (no 9 62) ∷
+    -- Q-8: 63 bytes of a name fit the label, 64 do not; neither do 31 and 127; 24 comes after 9 and before 10
+    gives (scene (plain 0x4000 (replicate 63 126 ++ (0 ∷ [])))) (yes 18 64 0) ∷
+    gives (scene (plain 0x4000 (replicate 64 126 ++ (0 ∷ [])))) (no 24 12) ∷
+    gives (scene (object (known 0x4600 (replicate 12 0) (known 0x4610 (replicate 20 0) (plain 0x4653 (127 ∷ 0 ∷ [])) end) end))) (no 24 64) ∷
+    gives (scene (known 0xAFFF [] (plain 0xA000 (replicate 64 31)) end)) (no 9 18) ∷
+    gives (scene (mesh (vertex 0 then face 0 (plain 0x4130 (31 ∷ 0 ∷ 0 ∷ []))))) (no 24 62) ∷
     -- 10: a byte left over where no children may follow
     gives (scene (plain 0x1470 (0 ∷ []))) (no 10 12) ∷
     -- 11: infinite
@@ -112,10 +118,11 @@ cases =
     gives (scene (object (camera 32 (skip 0x4720 (0 ∷ []) end)))) (yes 24 34 7) ∷
     gives (scene (object (camera 31 end))) (no 10 20) ∷
     gives (scene (object (camera 33 end))) (no 6 58) ∷
-    -- Q-7: 23 for a part that hangs on itself, or on a number that counts other chunks too; 10 comes before it
+    -- Q-7: 23 for a part that hangs on itself, or on a number that counts other chunks too; 24 and then 10 come before it
     gives (keyframer (part root then part 0)) (yes 42 16 0) ∷
     gives (keyframer (part 0)) (no 23 24) ∷
     gives (keyframer (part root then skip 0xB001 (0 ∷ 0 ∷ 0 ∷ 0 ∷ []) end then part 1)) (no 23 54) ∷
+    gives (keyframer (known 0xB002 [] (plain 0xB010 (31 ∷ 0 ∷ replicate 7 0)) end)) (no 24 24) ∷
     gives (keyframer (known 0xB002 [] (plain 0xB010 (0x70 ∷ 0 ∷ replicate 7 0)) end)) (no 10 24) ∷
     -- 14, 8 and 7: a B002 without its B010; two B010, two B000; a B002 in 3D3D
     gives (keyframer (plain 0xB002 [])) (no 14 18) ∷

@@ -14,9 +14,10 @@ use Rattle.studio_rules.specs.declared.Named.{Named}
 use Rattle.shared_words.specs.Lists.{every}
 use Rattle.studio_rules.specs.Table.{rows, atMostOne, atLeastOne, under, shape, plus, limits, needs}
 use Rattle.shared_words.specs.Floats.{finite}
-use Rattle.studio_rules.specs.OwnData.{nameSize, count, vertexNumbers, faceCorners}
+use Rattle.shared_words.specs.Labels.{fitsLabel}
+use Rattle.studio_rules.specs.OwnData.{nameSize, count, text, vertexNumbers, faceCorners}
 use Rattle.studio_rules.specs.Layout.{Run, figure}
-use Rattle.studio_rules.specs.Rules.{Parent, file, inPlace, notTwice, ownDataExact, numbersFinite, faceNumbersBelow, fatherEarlier, allBelow, childrenInPlus, noneMissing, cornersBelow, mappingMatches, Own, Children, Obeys}
+use Rattle.studio_rules.specs.Rules.{Parent, file, inPlace, notTwice, namesFit, ownDataExact, numbersFinite, faceNumbersBelow, fatherEarlier, allBelow, childrenInPlus, noneMissing, cornersBelow, mappingMatches, Own, Children, Obeys}
 use Rattle.studio_rules.specs.Gives.{recordNumbers, owned, Mesh}
 use Rattle.shared_words.specs.Conditions.{accepted}
 use Rattle.studio_rules.specs.Walk.{verdict}
@@ -29,8 +30,9 @@ use Rattle.studio_write.specs.ReadsBack.{sixRecords}
 
 -- the rules of one chunk and of its children, in the order of the records
 own-obeys : {p : Parent} {seen : List ℕ} {id : ℕ} {own : List ℕ} →
-    inPlace p id own ≡ true → notTwice p seen id ≡ true → ownDataExact p id own ≡ true → numbersFinite p id own ≡ true → faceNumbersBelow p id own ≡ true → fatherEarlier p id own ≡ true → Own p seen id own
-own-obeys a b c d e f = record { in-place = a; not-twice = b; own-data-exact = c; numbers-finite = d; face-numbers-below = e; father-earlier = f }
+    inPlace p id own ≡ true → notTwice p seen id ≡ true → namesFit p id own ≡ true → ownDataExact p id own ≡ true → numbersFinite p id own ≡ true →
+    faceNumbersBelow p id own ≡ true → fatherEarlier p id own ≡ true → Own p seen id own
+own-obeys a b c d e f g = record { in-place = a; not-twice = b; names-fit = c; own-data-exact = d; numbers-finite = e; face-numbers-below = f; father-earlier = g }
 
 children-obey : {q : Parent} {kids : Run} → childrenInPlus q kids ≡ true → noneMissing q kids ≡ true → cornersBelow q kids ≡ true → mappingMatches q kids ≡ true → Children q kids
 children-obey a b c d = record { in-plus = a; none-missing = b; corners-below = c; mapping-matches = d }
@@ -39,6 +41,7 @@ module _ (name vertices faces : List ℕ) where
   -- what the rules ask of the own data
   pub record Exact : Type 0 where
     pub name-ends : nameSize name ≡ length name
+    pub name-fits : fitsLabel (text name) ≡ true
     pub vertices-exact : 2 + 12 * count vertices ≡ length vertices
     pub faces-exact : 2 + 8 * count faces ≡ length faces
     pub numbers-finite : every finite (vertexNumbers vertices) ≡ true
@@ -47,16 +50,16 @@ module _ (name vertices faces : List ℕ) where
   pub obeys : Exact → Obeys (file 0) [] (figure (sixChunks name vertices faces))
   unfolding every rows atMostOne atLeastOne under shape plus limits needs
   obeys x =
-      let top = own-obeys refl refl refl refl refl refl in
+      let top = own-obeys refl refl refl refl refl refl refl in
       let in-figure = children-obey refl refl refl refl in
-      let scene = own-obeys refl refl refl refl refl refl in
+      let scene = own-obeys refl refl refl refl refl refl refl in
       let in-scene = children-obey refl refl refl refl in
-      let object = own-obeys refl refl (eq-eqb _ _ (x .name-ends)) refl refl refl in
+      let object = own-obeys refl refl (x .name-fits) (eq-eqb _ _ (x .name-ends)) refl refl refl in
       let in-object = children-obey refl refl refl refl in
-      let mesh = own-obeys refl refl refl refl refl refl in
+      let mesh = own-obeys refl refl refl refl refl refl refl in
       let in-mesh = children-obey refl refl (x .corners-below) refl in
-      let vertex-list = own-obeys refl refl (eq-eqb _ _ (x .vertices-exact)) (both _ _ (x .numbers-finite) refl) refl refl in
-      let face-list = own-obeys refl refl (eq-eqb _ _ (x .faces-exact)) refl refl refl in
+      let vertex-list = own-obeys refl refl refl (eq-eqb _ _ (x .vertices-exact)) (both _ _ (x .numbers-finite) refl) refl refl in
+      let face-list = own-obeys refl refl refl (eq-eqb _ _ (x .faces-exact)) refl refl refl in
       let no-children = children-obey refl refl refl refl in
       let no-children′ = children-obey refl refl refl refl in
       (top, in-figure, (scene, in-scene, (object, in-object, (mesh, in-mesh, (vertex-list, no-children, tt, (face-list, no-children′, tt, tt)), tt), tt), tt), tt)
@@ -69,6 +72,7 @@ module _ (name vertices faces : List ℕ) where
       let lists = mesh .2 in
       record {
         name-ends = eqb-true _ _ (object .0 .own-data-exact);
+        name-fits = object .0 .names-fit;
         vertices-exact = eqb-true _ _ (lists .0 .own-data-exact);
         faces-exact = eqb-true _ _ (lists .3 .0 .own-data-exact);
         numbers-finite = and-parts _ _ (lists .0 .numbers-finite) .0;

@@ -7,7 +7,7 @@ use lib.Seq.{slice}
 use borrow.Author.Tests.{not-true, not-false}
 use Rattle.shared_words.specs.Bytes.{le}
 use Rattle.studio_own_size.specs.declared.Own.{Own}
-use Rattle.studio_own_data.proofs.Conditions.{some-around, judge-no-name, judge-too-long}
+use Rattle.studio_own_data.proofs.Conditions.{some-around, judge-no-name, judge-unfit, judge-too-long}
 use Rattle.studio_own_data.proofs.Bounds.{own-around}
 use Rattle.studio_own_data.proofs.Sized.{own-of-row, sized, own-ends, exact, is-left-over, has-bad-number, has-bad-index, has-bad-father, is-fine}
 use Rattle.studio_own_data.proofs.judge_any.Statement.{statement}
@@ -24,6 +24,9 @@ enum-told c = search needs
 
 enum-told-2 : tie.Need-enum-told-2
 enum-told-2 c = search needs
+
+enum-told-3 : tie.Need-enum-told-3
+enum-told-3 c = search needs
 
 enum-known-size : tie.Need-enum-known-size
 enum-known-size c = search needs
@@ -124,11 +127,18 @@ returns-6 : tie.Need-returns-6
 returns-6 c = λ p u h.
     let x = c .before .before .before .before in
     let w = c .before .before .own-size in
-    judge-too-long p (x .args .at) (x .args .id) (slice (x .args .at + 6) (x .args .stop) (x .args .file .now))
-    (own-of-row (x .args .id) (x .args .row) (x .pre .3) (x .pre .4) (p .own) _ (w .result) (own-around p (x .args .id) (x .args .count) u h (x .args .row) (x .pre .3) (x .pre .4) _ (w .result) (w .ensures)) Own.TooLong (c .enum-told2 .given .1))
+    let own = own-of-row (x .args .id) (x .args .row) (x .pre .3) (x .pre .4) (p .own) _ (w .result) (own-around p (x .args .id) (x .args .count) u h (x .args .row) (x .pre .3) (x .pre .4) _ (w .result) (w .ensures)) Own.Unfit (c .enum-told2 .given .1) in
+    judge-unfit p (x .args .at) (x .args .id) (slice (x .args .at + 6) (x .args .stop) (x .args .file .now)) (own .0) (own .1)
 
 returns-7 : tie.Need-returns-7
 returns-7 c = λ p u h.
+    let x = c .before .before .before .before in
+    let w = c .before .before .own-size in
+    let own = own-of-row (x .args .id) (x .args .row) (x .pre .3) (x .pre .4) (p .own) _ (w .result) (own-around p (x .args .id) (x .args .count) u h (x .args .row) (x .pre .3) (x .pre .4) _ (w .result) (w .ensures)) Own.TooLong (c .enum-told3 .given .1) in
+    judge-too-long p (x .args .at) (x .args .id) (slice (x .args .at + 6) (x .args .stop) (x .args .file .now)) (own .0) (own .1)
+
+returns-8 : tie.Need-returns-8
+returns-8 c = λ p u h.
     let x = c .before .before .before .before .before .before .before .before .before .before .before .before .before in
     let g = c .before .before .before .before .before .before .before .before .before .size .given in
     let w = c .before .before .before .before .before .before .before .before .before .before .before .own-size in
@@ -146,6 +156,7 @@ judge-any-spec =
     own-size-requires
     enum-told
     enum-told-2
+    enum-told-3
     enum-known-size
     add-from
     add-from-2
@@ -162,4 +173,5 @@ judge-any-spec =
     returns-4
     returns-5
     returns-6
-    returns-7)
+    returns-7
+    returns-8)

@@ -1,34 +1,88 @@
 -- The name, then the size with what stands behind it.
-use mathlib.Core.Path.{refl}
+use mathlib.Core.Path.{subst}
 use native.Mathlib.Omega.{arith}
 use borrow.Author.Needs.{needs}
-use Rattle.studio_rules.specs.Table.{named}
-use Rattle.studio_own_size.proofs.Sizes.{no-name, named-is}
+use mathlib.Core.List.{[]}
+use lib.Seq.{slice, length-slice}
+use Rattle.studio_rules.specs.Table.{name, named}
+use Rattle.studio_own_size.specs.declared.Own.{Own}
+use Rattle.studio_own_size.specs.Own.{FitIs}
+use Rattle.studio_own_size.proofs.Sizes.{name-fine, name-of-named, named-is}
 use Rattle.studio_own_size.proofs.named_size.Statement.{statement}
 use Rattle.studio_own_size.proofs.named_size.Tie as tie
 
-name-size-requires : tie.Need-name-size-requires
-name-size-requires c κs = search needs
+label-size-requires : tie.Need-label-size-requires
+label-size-requires c κs = search needs
 
-sub-room : tie.Need-sub-room
-sub-room c = search needs
+enum-told : tie.Need-enum-told
+enum-told c = search needs
 
-returns : tie.Need-returns
-returns c =
-    let a = c .before .before .before .args in
-    no-name (a .file .now) (a .at) (a .stop) (omega arith) (omega arith) (named (a .more)) refl (c .before .name-size .result) (c .before .name-size .ensures) (omega arith)
+enum-told-2 : tie.Need-enum-told-2
+enum-told-2 c = search needs
+
+enum-told-3 : tie.Need-enum-told-3
+enum-told-3 c = search needs
+
+enum-known-size : tie.Need-enum-known-size
+enum-known-size c = search needs
 
 add-fitting : tie.Need-add-fitting
-add-fitting c = search needs
+add-fitting c =
+    let a = c .before .before .before .before .before .args in
+    let w = c .before .before .before .label-size in
+    let f = subst (FitIs name [] (slice (a .at) (a .stop) (a .file .now))) (c .before .size .given .1) (w .ensures) in
+    omega (arith, f .1 .within, length-slice (a .at) (a .stop) (a .file .now) (omega arith))
+
+sub-fitting : tie.Need-sub-fitting
+sub-fitting c = search needs
 
 fitting-requires : tie.Need-fitting-requires
 fitting-requires c κs = search needs
 
+returns : tie.Need-returns
+returns c =
+    let a = c .before .before .before .before .args in
+    let w = c .before .before .label-size in
+    let body = slice (a .at) (a .stop) (a .file .now) in
+    name-of-named (a .more) body Own.NoName (subst (FitIs name [] body) (c .enum-told .given .1) (w .ensures)) tt
+
 returns-2 : tie.Need-returns-2
 returns-2 c =
     let a = c .before .before .before .before .args in
-    let n = c .before .before .name-size in
-    named-is (a .file .now) (a .at) (a .stop) (omega arith) (omega arith) (n .result) (n .ensures) (omega arith) (a .more) (c .fitting .result) (c .fitting .ensures)
+    let w = c .before .before .label-size in
+    let body = slice (a .at) (a .stop) (a .file .now) in
+    name-of-named (a .more) body Own.Unfit (subst (FitIs name [] body) (c .enum-told2 .given .1) (w .ensures)) tt
+
+returns-3 : tie.Need-returns-3
+returns-3 c =
+    let a = c .before .before .before .before .args in
+    let w = c .before .before .label-size in
+    let body = slice (a .at) (a .stop) (a .file .now) in
+    name-of-named (a .more) body Own.TooLong (subst (FitIs name [] body) (c .enum-told3 .given .1) (w .ensures)) tt
+
+returns-4 : tie.Need-returns-4
+returns-4 c =
+    let a = c .before .before .before .before .before .before .args in
+    let w = c .before .before .before .before .label-size in
+    let body = slice (a .at) (a .stop) (a .file .now) in
+    let f = subst (FitIs name [] body) (c .before .before .size .given .1) (w .ensures) in
+    let l = length-slice (a .at) (a .stop) (a .file .now) (omega arith) in
+    name-fine (named (a .more)) [] body (f .0) (c .fitting .result)
+    (named-is (a .file .now) (a .at) (a .stop) (omega arith) (omega arith) _ (f .1 .is) (omega (arith, f .1 .within, l)) (a .more) (c .fitting .result) (c .fitting .ensures))
 
 pub named-size-spec : {M : Type 1} → statement M
-named-size-spec = tie.close (tie.spec name-size-requires sub-room returns add-fitting fitting-requires returns-2)
+named-size-spec =
+    tie.close
+    (tie.spec
+    label-size-requires
+    enum-told
+    enum-told-2
+    enum-told-3
+    enum-known-size
+    add-fitting
+    sub-fitting
+    fitting-requires
+    returns
+    returns-2
+    returns-3
+    returns-4)
