@@ -161,6 +161,37 @@ static void put_lights(struct figure *figure) {
     close_chunk(figure);
 }
 
+/* A part of the keyframer: its name, two flag words and its father, and a track that is not read.
+ */
+static void put_part(struct figure *figure, const char *name, unsigned father) {
+    open_chunk(figure, 0xB002);
+    open_chunk(figure, 0xB010);
+    put_name(figure, name);
+    put_number(figure, 0);
+    put_word(figure, father);
+    close_chunk(figure);
+    put_private(figure, 1);
+    close_chunk(figure);
+}
+
+/* The bar turns in the screw, which turns in the moving jaw, which slides in the fixed one. Of the
+ * blocks of the keyframer only B002 are parts, and only they are counted. */
+static void put_keyframer(struct figure *figure) {
+    enum { FIXED_JAW, MOVING_JAW, SCREW, NONE = 65535 };
+    open_chunk(figure, 0xB000);
+    open_chunk(figure, 0xB008); /* from frame 0 to frame 100 */
+    put_number(figure, 0);
+    put_number(figure, 100);
+    close_chunk(figure);
+    put_part(figure, "fixed jaw", NONE);
+    put_chunk(figure, 0xB003, "", 0); /* where the camera is, which is not read */
+    put_part(figure, "moving jaw", FIXED_JAW);
+    put_part(figure, "screw", MOVING_JAW);
+    put_private(figure, 2);
+    put_part(figure, "bar", SCREW);
+    close_chunk(figure);
+}
+
 void make_vice(struct figure *figure) {
     static const int screw[][2] = {{0, 12}, {240, 12}};
     static const int bar[][2] = {{0, 9}, {8, 9}, {8, 6}, {172, 6}, {172, 9}, {180, 9}};
@@ -179,8 +210,6 @@ void make_vice(struct figure *figure) {
     put_turned(figure, "bar", (struct point){240, -90, 80}, 1, bar, LENGTH(bar), &steel);
     put_lights(figure);
     close_chunk(figure);
-    open_chunk(figure, 0xB000); /* a keyframer: of no kind that is read */
-    put_private(figure, 2);
-    close_chunk(figure);
+    put_keyframer(figure);
     close_chunk(figure);
 }

@@ -17,7 +17,7 @@ void make_chisel(struct figure *figure); /* one object, as our writer makes it *
 void make_mallet(struct figure *figure); /* two objects, nothing else */
 void make_plane(struct figure *figure);  /* mapping coordinates; private chunks in all gaps */
 void make_saw(struct figure *figure);    /* a vertex coordinate of 1, and no version chunk */
-void make_vice(struct figure *figure);   /* materials, lamp, camera with a chunk in it, keyframer */
+void make_vice(struct figure *figure);   /* materials, lamp, camera; parts that move */
 
 /* The length of the adze's handle: one bit, which the length of its head does not have. */
 enum { ADZE_HANDLE_LENGTH = 2048 };

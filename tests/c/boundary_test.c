@@ -9,6 +9,7 @@
 
 #include "cases.h"
 #include "mesh_cases.h"
+#include "parts_cases.h"
 #include "slices.h"
 #include "slip_cases.h"
 #include "tds.h"
@@ -336,6 +337,7 @@ int main(void) {
     each_case(try_case);
     each_case(try_huge_file);
     try_meshes();
+    try_parts();
     try_writer();
     try_slips();
     return finish("boundary_test");
