@@ -95,10 +95,11 @@ fn named_size(file: &[u8], more: usize, at: usize, stop: usize) -> Own
     requires { ⌜ (at ≤ stop) × (stop ≤ length (now file)) × (more < 256) ⌝ }
     ensures { λ r. ⌜ FitIs (named more) [] (slice at stop (now (file .entry))) r ⌝ }
 {
-    match label_size(file, at, stop) {
-        Own::NoName => Own::NoName,
-        Own::Unfit => Own::Unfit,
-        Own::TooLong => Own::TooLong,
+    let own = label_size(file, at, stop);
+    match own {
+        Own::NoName => own,
+        Own::Unfit => own,
+        Own::TooLong => own,
         Own::Size(size) => fitting(size + more, stop - at),
     }
 }
