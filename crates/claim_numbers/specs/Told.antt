@@ -16,10 +16,10 @@ use Rattle.studio_rules.specs.declared.Checked.{Checked}
 use Rattle.studio_rules.specs.declared.Tabled.{Tabled}
 use Rattle.studio_rules.specs.declared.Named.{Named}
 use Rattle.studio_rules.specs.declared.Boxed.{Boxed}
-use Rattle.studio_rules.specs.Calls.{checkCall, listCall, Rows, tablesCall, nameCall, boxCall}
+use Rattle.studio_rules.specs.Calls.{checkCall, listCall, Rows, Tables, tablesCall, nameCall, boxCall}
 use Rattle.shared_words.specs.declared.Written.{Written}
 use Rattle.studio_write.specs.Write.{writeCall}
-use Rattle.c_codes.specs.Codes.{recordsOr, sizesOr, sizeOr}
+use Rattle.c_codes.specs.Codes.{recordsOr, sizesOr, numbersOr, sizeOr}
 use Rattle.c_answers.specs.Given.{countsGiven, nameGiven, boxGiven}
 
 -- n is an answer proper
@@ -71,8 +71,10 @@ BoxTold (Boxed.Refused r) n = Tells r n
 pub record Told : Type 1 where
   pub check : (s : List ℕ) → CheckTold (checkCall s) (recordsOr (checkCall s))
   pub list : {A : Type 0} (e : Encoding Record A) (s : List ℕ) (row : List A) → CheckTold (listCall e s row .answer) (recordsOr (listCall e s row .answer))
-  pub tables : {A B : Type 0} (e : Encoding ℕ A) (f : Encoding ℕ B) (s : List ℕ) → Bytes s → (mesh : ℕ) (rows : Rows A B) →
-      TablesTold (tablesCall e f s mesh rows .answer) (sizesOr (tablesCall e f s mesh rows .answer))
+  pub tables : {A B C : Type 0} (t : Tables A B C) (s : List ℕ) → Bytes s → (mesh : ℕ) (rows : Rows A B C) →
+      TablesTold (tablesCall t s mesh rows .answer) (sizesOr (tablesCall t s mesh rows .answer))
+  pub mapping : {A B C : Type 0} (t : Tables A B C) (s : List ℕ) → Bytes s → (mesh : ℕ) (rows : Rows A B C) →
+      TablesTold (tablesCall t s mesh rows .answer) (numbersOr (tablesCall t s mesh rows .answer))
   pub counts : (s out : List ℕ) → CountsTold (checkCall s) (countsGiven out (checkCall s) .answer)
   pub name : (s : List ℕ) (mesh : ℕ) (out : List ℕ) → NameTold (nameCall s mesh) (nameGiven out (nameCall s mesh) .answer)
   pub box : (s : List ℕ) (mesh : ℕ) (out : List ℕ) → BoxTold (boxCall s mesh) (boxGiven out (boxCall s mesh) .answer)

@@ -1,6 +1,6 @@
 -- The mapping of a mesh: what the rule of new files and that of old ones have in common, and what follows.
 use mathlib.Core.Path.{_≡_, refl, _∙_}
-use mathlib.Core.Logic.{inl, inr}
+use mathlib.Core.Logic.{_⊎_, inl, inr}
 use Prim.Native.Nat.{ℕ, _+_, _-_, _*_, _≤_}
 use native.Mathlib.Omega.{arith}
 use mathlib.Core.Bool.{Bool, true, false, not, _||_, cond}
@@ -12,7 +12,7 @@ use Rattle.shared_words.specs.Lists.{All, among}
 use Rattle.studio_rules.specs.OwnData.{count, mappingNumbers}
 use Rattle.studio_rules.specs.Layout.{Run, end, skip, known, size, identifiers, child, figure}
 use Rattle.studio_rules.specs.Rules.{Parent, file, inside, asManyPairs, pairsFit, Obeys, version}
-use Rattle.studio_rules.specs.Gives.{Mesh, meshOf, oneMesh, meshesOf}
+use Rattle.studio_rules.specs.Gives.{Mesh, pairsOf, filledUp, meshOf, oneMesh, meshesOf}
 use Rattle.studio_rules.specs.Theorems.{Whole, MappingWhole}
 use Rattle.shared_words.proofs.Numbers.{length-numbers}
 use Rattle.studio_rules.proofs.Children.{child-none}
@@ -25,25 +25,33 @@ pairs-at-most v m n = go (asManyPairs v)
     go true h = omega (arith, eqb-true m n h)
     go false h = leb-true m n h
 
--- a mesh with a 4140 or without
-mesh-whole : (v at l : ℕ) (kids : Run) → (not (among 0x4140 (identifiers kids)) || pairsFit v (count (child 0x4140 kids)) (count (child 0x4110 kids))) ≡ true →
-    Whole (meshOf at l kids)
-mesh-whole v at l kids = go (among 0x4140 (identifiers kids)) refl
+-- what the rule asks of the children of a mesh
+abbrev pub Fitting : ℕ → Run → Type 0
+Fitting v kids = (not (among 0x4140 (identifiers kids)) || pairsFit v (count (child 0x4140 kids)) (count (child 0x4110 kids))) ≡ true
+
+-- so the pairs that are given are not more than there are
+pub given-at-most : (v : ℕ) (kids : Run) → Fitting v kids → count (child 0x4140 kids) ≤ pairsOf kids
+given-at-most v kids = go (among 0x4140 (identifiers kids)) refl
   where
-    n : ℕ
-    n = count (child 0x4110 kids)
+    go : (b : Bool) → among 0x4140 (identifiers kids) ≡ b → (not b || pairsFit v (count (child 0x4140 kids)) (count (child 0x4110 kids))) ≡ true → count (child 0x4140 kids) ≤ pairsOf kids
+    go true e h = rw e (pairs-at-most v (count (child 0x4140 kids)) (count (child 0x4110 kids)) h)
+    go false e h = rw (e, child-none 0x4140 kids e) (omega arith)
 
-    m : ℕ
-    m = count (child 0x4140 kids)
+pub pairs-all-or-none : (kids : Run) → (pairsOf kids ≡ count (child 0x4110 kids)) ⊎ (pairsOf kids ≡ 0)
+pairs-all-or-none kids = go (among 0x4140 (identifiers kids)) refl
+  where
+    go : (b : Bool) → among 0x4140 (identifiers kids) ≡ b → (pairsOf kids ≡ count (child 0x4110 kids)) ⊎ (pairsOf kids ≡ 0)
+    go true e = inl (rw e)
+    go false e = inr (rw e)
 
-    two : (k : ℕ) → m ≤ k → length (mappingNumbers (child 0x4140 kids) ++ replicate (2 * (k - m)) 0) ≡ 2 * k
-    two k h =
-        length-append (mappingNumbers (child 0x4140 kids)) (replicate (2 * (k - m)) 0) ∙
-        omega (arith, length-numbers 4 (2 * m) (drop 2 (child 0x4140 kids)), length-replicate {A = ℕ} (2 * (k - m)) 0, h)
+pub length-filled-up : (n : ℕ) (numbers : List ℕ) → length numbers ≤ n → length (filledUp n numbers) ≡ n
+length-filled-up n numbers h =
+    length-append numbers (replicate (n - length numbers) 0) ∙ omega (arith, length-replicate {A = ℕ} (n - length numbers) 0)
 
-    go : (b : Bool) → among 0x4140 (identifiers kids) ≡ b → (not b || pairsFit v m n) ≡ true → Whole (meshOf at l kids)
-    go true e h = record { all-or-none = inl (rw e); two-each = rw e (two n (pairs-at-most v m n h)) }
-    go false e h = record { all-or-none = inr (rw e); two-each = rw e (two 0 (rw (child-none 0x4140 kids e) (omega arith))) }
+mesh-whole : (v at l : ℕ) (kids : Run) → Fitting v kids → Whole (meshOf at l kids)
+mesh-whole v at l kids h =
+    let given : length (mappingNumbers (child 0x4140 kids)) ≡ 2 * count (child 0x4140 kids) = length-numbers 4 (2 * count (child 0x4140 kids)) (drop 2 (child 0x4140 kids)) in
+    record { all-or-none = pairs-all-or-none kids; two-each = length-filled-up (2 * pairsOf kids) (mappingNumbers (child 0x4140 kids)) (omega (arith, given-at-most v kids h)) }
 
 all-append : {A : Type 0} (P : A → Type 0) (xs ys : List A) → All P xs → All P ys → All P (xs ++ ys)
 all-append P [] ys h k = k

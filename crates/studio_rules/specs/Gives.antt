@@ -84,9 +84,13 @@ pub record Mesh : Type 0 where
 abbrev pub pairsOf : Run → ℕ
 pairsOf kids = cond (among 0x4140 (identifiers kids)) (count (child 0x4110 kids)) 0
 
--- those of the 4140; the missing ones count as zero
+-- numbers and zeros behind them, n in all
+abbrev pub filledUp : ℕ → List ℕ → List ℕ
+filledUp n numbers = numbers ++ replicate (n - length numbers) 0
+
+-- the pairs that the 4140 has; the missing ones count as zero
 abbrev pub mappingTable : Run → List ℕ
-mappingTable kids = mappingNumbers (child 0x4140 kids) ++ replicate (2 * (pairsOf kids - count (child 0x4140 kids))) 0
+mappingTable kids = filledUp (2 * pairsOf kids) (mappingNumbers (child 0x4140 kids))
 
 -- A mesh without 4110 has no vertices, without 4120 no faces: the count of no own data is 0.
 abbrev pub meshOf : ℕ → ℕ → Run → Mesh
