@@ -23,20 +23,23 @@ use Rattle.studio_rules.specs.declared.Checked.{Checked}
 use Rattle.studio_rules.specs.declared.Tabled.{Tabled}
 use Rattle.studio_rules.specs.declared.Named.{Named}
 use Rattle.studio_rules.specs.declared.Boxed.{Boxed}
+use Rattle.studio_rules.specs.declared.Counted.{Counted}
 use Rattle.studio_rules.specs.Layout.{Run, figure}
 use Rattle.studio_rules.specs.Rules.{limit}
 use Rattle.studio_rules.specs.Walk.{verdict}
-use Rattle.studio_rules.specs.Gives.{recordCount, headers, owned, skipped, Mesh, meshes}
+use Rattle.studio_rules.specs.Gives.{recordCount, headers, owned, skipped, Mesh, meshes, Part, parts}
 use Rattle.studio_rules.specs.Box.{boxOf, centreOf}
-use Rattle.studio_rules.specs.Calls.{checkOf, checkCall, listOf, listCall, pickMesh, ofMesh, Rows, Tables, fits, sizesOf, tablesOf, tablesCall, nameOf, nameCall, aroundOf, boxCall}
+use Rattle.studio_rules.specs.Calls.{checkOf, checkCall, listOf, listCall, pickMesh, ofMesh, Rows, Tables, fits, sizesOf, tablesOf, tablesCall, nameOf, nameCall, aroundOf, boxCall, partsOf, partsCall}
 use Rattle.studio_rules.proofs.Verdict.{accepted-exactly}
 use Rattle.shared_words.specs.declared.Written.{Written}
 use Rattle.studio_write_judge.specs.Judged.{figureSize, writeConditions, answerOf, judged}
 use Rattle.studio_write.specs.Write.{writing, writeCall}
 use Rattle.c_codes.specs.Codes.{refusalCode, recordsOr, sizesOr, numbersOr, sizeOr}
 use Rattle.c_answers.specs.Given.{given, nine, countsGiven, nameGiven, boxGiven}
-use Rattle.claim_numbers.specs.Told.{Proper, Tells, TellsCapped, CheckTold, TablesTold, WriteTold, Gives, CountsTold, NameTold, BoxTold, Told}
+use Rattle.c_parts.specs.Codes.{partsOr}
+use Rattle.claim_numbers.specs.Told.{Proper, Tells, TellsCapped, CheckTold, TablesTold, PartsTold, WriteTold, Gives, CountsTold, NameTold, BoxTold, Told}
 use Rattle.claim_numbers.proofs.Places.{Within, verdict-within}
+use Rattle.claim_numbers.proofs.Parts.{parts-few}
 use Rattle.claim_numbers.proofs.Meshes.{records-few, meshes-few, Small, SmallAt, small-at, meshes-small}
 
 -- ---- a refusal
@@ -77,6 +80,16 @@ list-told e row (refused r) h = tells r h
 list-told {A} e row (accepted kids) h =
     by-test (λ (x : Effect Checked (List A)). CheckTold (x .answer) (recordsOr (x .answer))) (leb (recordCount (figure kids)) (e .room (length row)))
     (omega (arith, records-few (figure kids))) (tells (NoRoom (recordCount (figure kids))) (omega (arith, records-few (figure kids))))
+
+-- ---- the parts
+
+parts-told : {A : Type 0} (e : Encoding Part A) (row : List A) (a : Answer Run) → Within a →
+    PartsTold (partsOf e row a .answer) (partsOr (partsOf e row a .answer))
+parts-told e row (refused r) h = tells r h
+parts-told {A} e row (accepted kids) h =
+    let few : length (parts kids) ≤ limit = omega (arith, parts-few kids, records-few (figure kids)) in
+    by-test (λ (x : Effect Counted (List A)). PartsTold (x .answer) (partsOr (x .answer))) (leb (length (parts kids)) (e .room (length row)))
+    (omega arith) (tells (NoRoom (length (parts kids))) few)
 
 -- ---- one mesh
 
@@ -147,7 +160,7 @@ write-told name vertices corners out file = go (broken (writeConditions name ver
 -- ---- THE THEOREM
 
 pub told : Told
-unfolding checkCall listCall tablesCall nameCall boxCall writeCall
+unfolding checkCall listCall tablesCall nameCall boxCall partsCall writeCall
 told = record {
   check = λ s. records-told (verdict s) (verdict-within s);
   list = λ e s row. list-told e row (verdict s) (verdict-within s);
@@ -164,5 +177,6 @@ told = record {
   box = λ s mesh out.
       mesh-told (λ (x : Boxed). BoxTold x (boxGiven out x .answer)) Boxed.Refused aroundOf tells mesh (verdict s) (verdict-within s)
       (λ kids v m g. box-told out m);
+  parts = λ e s row. parts-told e row (verdict s) (verdict-within s);
   write = λ name vertices corners out. write-told name vertices corners out _;
 }

@@ -8,7 +8,8 @@ use native.Mathlib.Omega.{arith}
 use lib.Dec.{eqb}
 use lib.ListN.{length}
 use lib.Seq.{slice}
-use borrow.Author.Tests.{eqb-true, eq-eqb, ne-eqb}
+use borrow.Author.Tests.{eqb-true, eqb-false, eq-eqb, ne-eqb}
+use Rattle.shared_words.specs.Lists.{among}
 use Rattle.studio_rules.specs.Table.{listed}
 use Rattle.studio_rules.specs.Layout.{Run, end, skip, known, size, identifiers, child, offsetOf}
 use Rattle.studio_rules.specs.Rules.{Parent, inside, tally}
@@ -92,6 +93,16 @@ child-onward x (known id own kids rest) = go (eqb id x) refl (child-onward x res
     go : (b : Bool) → eqb id x ≡ b → child x rest ≡ child x (onward x rest) → cond b own (child x rest) ≡ child x (cond b (known id own kids rest) (onward x rest))
     go true e ih = rw e
     go false e ih = ih
+
+pub among-onward : (x : ℕ) (t : Run) → among x (identifiers t) ≡ among x (identifiers (onward x t))
+among-onward x end = refl
+among-onward x (skip id body rest) = among-onward x rest
+among-onward x (known id own kids rest) = go (eqb id x) refl (among-onward x rest)
+  where
+    go : (b : Bool) → eqb id x ≡ b → among x (identifiers rest) ≡ among x (identifiers (onward x rest)) →
+        (eqb x id || among x (identifiers rest)) ≡ among x (identifiers (cond b (known id own kids rest) (onward x rest)))
+    go true e ih = refl
+    go false e ih = rw (ne-eqb x id (λ q. eqb-false id x e (sym q))) ih
 
 pub onward-spans : (x : ℕ) (p : Parent) (t : Run) (s : List ℕ) (at stop : ℕ) → Spans p t s at stop → Spans p (onward x t) s (offsetOf x at t) stop
 onward-spans x p end s at stop h = h

@@ -25,9 +25,9 @@ use Rattle.shared_numbers.proofs.Slices.{drop-slice, take-slice, word-slice}
 use Rattle.studio_scan.proofs.Parts.{numbers-slice, corners-slice}
 use Rattle.studio_mesh_find.specs.declared.Elements.{Elements}
 use Rattle.studio_mesh_find.specs.declared.Mapping.{Mapping}
-use Rattle.studio_mesh_find.specs.Runs.{Spans}
+use Rattle.studio_child.specs.Runs.{Spans}
 use Rattle.studio_mesh_find.specs.Places.{ElementsAre, MappingIs, PlaceIs}
-use Rattle.studio_mesh_find.proofs.Runs.{First, own-here, header-here, child-onward, among-onward, first-there, first-nowhere}
+use Rattle.studio_child.proofs.Runs.{First, own-here, header-here, child-onward, among-onward, first-there, first-nowhere}
 
 -- own data of a known chunk is as long as its shape says
 pub own-exact : (p : Parent) (x : ℕ) (own : List ℕ) (kids rest : Run) (s : List ℕ) (at stop : ℕ) → Spans p (known x own kids rest) s at stop →

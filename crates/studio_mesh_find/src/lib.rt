@@ -2,16 +2,18 @@
 // nothing else is looked into, and siblings are passed over by their lengths.
 use shared_numbers::long_at;
 use shared_numbers::word_at;
+use studio_child::next_child;
 ghost use mathlib.Core.Path.{_≡_};
 ghost use mathlib.Core.Bool.{true};
 ghost use mathlib.Core.List.{List};
 ghost use Prim.Native.Nat.{ℕ, _+_, _-_, _<_};
 ghost use Rattle.studio_rules.specs.Table.{listed, shape, counted};
 ghost use Rattle.studio_rules.specs.OwnData.{count};
-ghost use Rattle.studio_rules.specs.Layout.{Run, known, child, offsetOf};
+ghost use Rattle.studio_rules.specs.Layout.{Run, known, child};
 ghost use Rattle.studio_rules.specs.Rules.{Parent, Meets};
 ghost use Rattle.studio_rules.specs.Gives.{meshOf, meshesOf, meshes};
-ghost use Rattle.studio_mesh_find.specs.Runs.{Spans, SomeRun, Begins, SomeObjects, Accepted, IsCounted};
+ghost use Rattle.studio_child.specs.Runs.{Spans, SomeRun, Begins, Accepted};
+ghost use Rattle.studio_mesh_find.specs.Runs.{SomeObjects, IsCounted};
 ghost use Rattle.studio_mesh_find.specs.Places.{ElementsAre, MappingIs, ObjectIs, PlaceIs, FoundIs};
 
 // The elements of counted own data: where they begin, and how many there are.
@@ -49,21 +51,6 @@ pub struct Place {
 pub enum Found {
     Mesh(Place),
     Meshes(usize),
-}
-
-// Where the first chunk of an identifier stands among those from at to stop; stop, where there is none.
-fn next_child(file: &[u8], id: u32, at: usize, stop: usize) -> usize
-    requires { ⌜ (listed id ≡ true) × SomeRun (now file) at stop ⌝ }
-    ensures { λ r. ⌜ ((p : Parent) (t : Run) → Spans p t (now (file .entry)) at stop → r ≡ offsetOf id at t) ⌝ }
-{
-    let mut o = at;
-    while o < stop {
-        if word_at(file, o) == id {
-            return o;
-        }
-        o += long_at(file, o + 2) as usize;
-    }
-    o
 }
 
 // The elements of the first chunk of an identifier among those from at to stop; none, where there is no such chunk.

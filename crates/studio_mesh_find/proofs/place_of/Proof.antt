@@ -2,7 +2,7 @@
 use Prim.Native.Nat.{_+_}
 use native.Mathlib.Omega.{arith}
 use borrow.Author.Needs.{needs}
-use Rattle.studio_mesh_find.proofs.Runs.{header-here, kids-at}
+use Rattle.studio_child.proofs.Runs.{header-here, kids-at}
 use Rattle.studio_mesh_find.proofs.Parts.{all-listed, mesh-own, vertices-counted, faces-counted, place-there}
 use Rattle.studio_mesh_find.proofs.place_of.Statement.{statement}
 use Rattle.studio_mesh_find.proofs.place_of.Tie as tie
