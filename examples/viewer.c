@@ -51,12 +51,9 @@ static int no_memory(void) {
     return 2;
 }
 
-/* Names come from strangers: nothing in them may reach the terminal as a command. */
+/* Names come from strangers, but the check has let none pass that a label cannot take. */
 static void print_name(size_t offset, size_t length) {
-    size_t i;
-    for (i = offset; i < offset + length; i++) {
-        putchar(file[i] >= 0x20 && file[i] < 0x7F ? file[i] : '?');
-    }
+    fwrite(file + offset, 1, length, stdout);
 }
 
 static void print_corner(const uint8_t *box) {

@@ -240,7 +240,7 @@ static void at_end(struct check *check) {
         return;
     }
     if (check->figures == 0) {
-        could_not_for_words(check, check->root, "there is no figure (.3ds) in this folder",
+        could_not_for_words(check, check->root, "there is no figure in this folder",
                             "see that it is the right folder, and that the edition was copied");
     }
     /* What the master has is on its slip too, and is said once. */

@@ -1,8 +1,7 @@
 //! The writer of figures of many objects and materials, with face groups and
 //! smoothing words.
 
-use crate::slip::{label_fault, LABELS_JUDGED};
-use crate::writer::{corners_row, finite_row, length_of_row, zero_in};
+use crate::writer::{corners_row, finite_row, length_of_row, text_in, zero_in};
 use crate::{Number, Refusal, LIMIT};
 use std::collections::HashSet;
 
@@ -59,15 +58,9 @@ impl Figure<'_> {
     fn names(&self) -> Result<(), Refusal> {
         let objects = self.objects.iter().map(|object| object.name);
         let materials = self.materials.iter().map(|material| material.name);
-        objects
-            .clone()
-            .chain(materials.clone())
-            .try_for_each(zero_in)?;
-        if LABELS_JUDGED {
-            let faults = objects.clone().chain(materials.clone());
-            let fault = faults.filter_map(label_fault).next();
-            fault.map_or(Ok(()), |position| Err(Number::Text.at(position)))?;
-        }
+        let mut all = objects.clone().chain(materials.clone());
+        all.clone().try_for_each(zero_in)?;
+        all.try_for_each(text_in)?;
         different(objects)?;
         let known = different(materials)?;
         let mut groups = self.objects.iter().flat_map(|object| &object.groups);

@@ -4,6 +4,7 @@
 use crate::bytes::header;
 use crate::own::Mesh;
 use crate::table::{place, row, Own, Row};
+use crate::version::mapped_whole;
 use crate::{Number, Refusal, HEADER, LIMIT};
 
 /// The identifier that a figure begins with, and its row.
@@ -39,6 +40,8 @@ struct Parent {
 /// The walk, and what it has gathered so far.
 struct Walk<'a> {
     file: &'a [u8],
+    /// Whether mapping lists must be as long as the vertices.
+    mapped_whole: bool,
     counts: Counts,
     /// The span of the last object's name.
     name: (usize, usize),
@@ -70,6 +73,7 @@ fn walked(file: &[u8], wanted: Option<u32>) -> Result<Walk<'_>, Refusal> {
     Number::Trailing.unless(length == file.len(), length)?;
     let mut walk = Walk {
         file,
+        mapped_whole: mapped_whole(file),
         counts: Counts::default(),
         name: (0, 0),
         mesh: Mesh::default(),
@@ -146,7 +150,7 @@ impl Walk<'_> {
         }
         self.children(&mut parent, start + own)?;
         if row.holds == place::H4100 {
-            self.mesh.close(self.file)?;
+            self.mesh.close(self.file, self.mapped_whole)?;
             self.count_mesh();
         }
         Ok(())
@@ -169,7 +173,7 @@ impl Walk<'_> {
 
 /// Identifier and length of the child that some bytes begin with, or 6, 4 or 5.
 #[inline(always)]
-fn child(rest: &[u8], at: usize) -> Result<(u16, usize), Refusal> {
+pub fn child(rest: &[u8], at: usize) -> Result<(u16, usize), Refusal> {
     let (identifier, length) = header(rest).ok_or(Number::Stray.at(at))?;
     Number::Short.unless(length >= HEADER, at)?;
     Number::Overrun.unless(length <= rest.len(), at)?;

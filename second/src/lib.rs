@@ -9,13 +9,16 @@ mod cob;
 pub mod differ;
 mod figures;
 mod judge;
+mod label;
 mod list;
+mod mapping;
 mod own;
 mod refusal;
 mod slip;
 mod sums;
 mod table;
 mod tables;
+mod version;
 mod writer;
 
 pub use bounding_box::{bounding_box, BoundingBox};
@@ -23,12 +26,15 @@ pub use c4d::{read_c4d, C4d};
 pub use cob::{read_cob, Cob, CobMesh, CobRecord};
 pub use figures::{write_figure, Figure, Group, Material, Object};
 pub use judge::{check, Counts};
+pub use label::LABELS_JUDGED;
 pub use list::{list, record};
+pub use mapping::mapping;
 pub use refusal::{Number, Refusal};
-pub use slip::{read_slip, write_slip, Entry, LABELS_JUDGED, MOST as MOST_ENTRIES};
+pub use slip::{read_slip, write_slip, Entry, MOST as MOST_ENTRIES};
 pub use sums::{sums, Sums};
 pub use table::{place, row, Own, Row};
 pub use tables::{name, tables};
+pub use version::OLD_MAPPING;
 pub use writer::write;
 
 /// The bytes of a chunk's header: identifier and length.

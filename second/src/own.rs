@@ -1,7 +1,8 @@
 //! A known chunk's own data: how long the row wants it, whether the body
-//! agrees (9, 10), and what its numbers must be (11; 12 for a 4130).
+//! agrees (9, 24, 10), and what its numbers must be (11; 12 for a 4130).
 
 use crate::bytes::{all_finite, corners_below, first_word, name_length, words_below};
+use crate::label::fits_label;
 use crate::table::{Own, Row};
 use crate::{Number, Refusal, HEADER};
 
@@ -24,7 +25,7 @@ impl Entries {
 pub struct Mesh {
     pub vertices: Entries,
     pub faces: Entries,
-    mapping: Option<Entries>,
+    pub mapping: Option<Entries>,
 }
 
 impl Mesh {
@@ -78,8 +79,9 @@ impl Mesh {
         }
     }
 
-    /// What is judged at the mesh's end: its corners, then its mapping count.
-    pub fn close(&self, file: &[u8]) -> Result<(), Refusal> {
+    /// What is judged at the mesh's end: its corners, then its mapping count,
+    /// which is that of the vertices, or may be less if it need not be whole.
+    pub fn close(&self, file: &[u8], mapped_whole: bool) -> Result<(), Refusal> {
         let start = self.faces.start();
         let faces = match self.faces.count {
             0 => &[],
@@ -87,19 +89,20 @@ impl Mesh {
         };
         let below = corners_below(faces, self.vertices.count);
         Number::Index.unless(below, self.faces.chunk)?;
-        match self.mapping {
-            Some(mapping) if mapping.count != self.vertices.count => {
-                Err(Number::Count.at(mapping.chunk))
-            }
-            _ => Ok(()),
-        }
+        let Some(mapping) = self.mapping else {
+            return Ok(());
+        };
+        let (m, n) = (mapping.count, self.vertices.count);
+        Number::Count.unless(m == n || (m < n && !mapped_whole), mapping.chunk)
     }
 }
 
-/// The length of the name a body begins with, or 9.
+/// The length of the name a body begins with, or 9 or 24.
 #[inline(never)]
 fn named(body: &[u8], at: usize) -> Result<usize, Refusal> {
-    name_length(body).ok_or(Number::Name.at(at))
+    let length = name_length(body).ok_or(Number::Name.at(at))?;
+    Number::Text.unless(fits_label(&body[..length - 1]), at)?;
+    Ok(length)
 }
 
 /// The length that own data must have, if the body agrees with the row, or 10.

@@ -1,6 +1,7 @@
 //! The slip on a stick, in the house manner, big-endian: its reader and its
 //! writer.
 
+use crate::label::fits_label;
 use crate::{Number, Refusal};
 use std::collections::HashSet;
 
@@ -24,12 +25,6 @@ const HEAD: usize = 7;
 /// The bytes of an entry but for its name.
 const AROUND: usize = 7;
 
-/// Whether names must be fit for a label; they need not be before Q-8.
-pub const LABELS_JUDGED: bool = false;
-
-/// The most bytes that a label takes.
-const LABEL: usize = 63;
-
 /// The entries of a slip.
 pub fn read_slip(slip: &[u8]) -> Result<Vec<Entry>, Refusal> {
     let count = head(slip).ok_or(Number::Slip.at(0))?;
@@ -43,7 +38,7 @@ pub fn read_slip(slip: &[u8]) -> Result<Vec<Entry>, Refusal> {
         entries.push(entry);
     }
     Number::Slip.unless(at == slip.len(), at)?;
-    match entries.iter().find(|entry| !entry.fits_label(slip)) {
+    match entries.iter().find(|entry| !fits_label(entry.name(slip))) {
         Some(entry) => Err(Number::Text.at(entry.name_offset as usize - 1)),
         None => Ok(entries),
     }
@@ -89,18 +84,6 @@ impl Entry {
         let end = u64::from(self.name_offset) + u64::from(self.name_length);
         (1..=255).contains(&self.name_length) && end <= names.len() as u64
     }
-
-    /// Whether the name can be printed on a label, once that is asked for.
-    fn fits_label(&self, names: &[u8]) -> bool {
-        !LABELS_JUDGED || label_fault(self.name(names)).is_none()
-    }
-}
-
-/// The first byte of a name that cannot be printed on a label.
-pub fn label_fault(name: &[u8]) -> Option<usize> {
-    let bad = name.iter().position(|byte| !(32..=126).contains(byte));
-    let long = (name.len() > LABEL).then_some(LABEL);
-    bad.into_iter().chain(long).min()
 }
 
 /// The bytes of a slip of these entries.
@@ -111,7 +94,10 @@ pub fn write_slip(names: &[u8], entries: &[Entry]) -> Result<Vec<u8>, Refusal> {
         let new = good && earlier.insert(entry.name(names));
         Number::Slip.unless(new, number)?;
     }
-    if let Some(number) = entries.iter().position(|entry| !entry.fits_label(names)) {
+    if let Some(number) = entries
+        .iter()
+        .position(|entry| !fits_label(entry.name(names)))
+    {
         return Err(Number::Text.at(number));
     }
     let mut body = (entries.len() as u16).to_be_bytes().to_vec();

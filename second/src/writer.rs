@@ -2,6 +2,7 @@
 //! a name, a row of floats and a row of corners.
 
 use crate::bytes::finite;
+use crate::label::label_fault;
 use crate::{Number, Refusal, HEADER, LIMIT};
 
 /// The most numbers in a row: a count word holds 65,535 vertices or faces.
@@ -34,9 +35,10 @@ pub fn write(
     Ok(size)
 }
 
-/// The refusals that the name and the rows give: 9, 13, 11, 12 in this order.
+/// The refusals that the name and the rows give: 9, 24, 13, 11, 12 in this order.
 fn judge(name: &[u8], vertices: &[f32], corners: &[u16]) -> Result<(), Refusal> {
     zero_in(name)?;
+    text_in(name)?;
     length_of_row(vertices.len())?;
     length_of_row(corners.len())?;
     finite_row(vertices)?;
@@ -46,6 +48,11 @@ fn judge(name: &[u8], vertices: &[f32], corners: &[u16]) -> Result<(), Refusal> 
 /// 9 for a zero in a name.
 pub fn zero_in(name: &[u8]) -> Result<(), Refusal> {
     refused(Number::Name, name, |byte| *byte == 0)
+}
+
+/// 24 for a name that no label takes.
+pub fn text_in(name: &[u8]) -> Result<(), Refusal> {
+    label_fault(name).map_or(Ok(()), |position| Err(Number::Text.at(position)))
 }
 
 /// 13 for the length of a row of vertices or corners.

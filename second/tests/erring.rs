@@ -5,6 +5,7 @@ use second::boundary::Second;
 use second::differ::compare::Pair;
 use second::differ::run::{Failure, Plan, Tally};
 use second::differ::{c4ds, cobs, figures, slips, sums};
+use second::LABELS_JUDGED;
 
 /// A small run that prints nothing.
 const PLAN: Plan = Plan {
@@ -41,6 +42,9 @@ fn errors_in_slips_are_seen() {
         )
     };
     agrees(run(None), &[0, 18]);
+    if LABELS_JUDGED {
+        agrees(run(None), &[24]);
+    }
     all_seen(slips::erring::ERRORS, |error| run(Some(error)));
 }
 
@@ -74,5 +78,8 @@ fn errors_in_figures_with_materials_are_seen() {
         )
     };
     agrees(run(None), &[0, 1, 9, 11, 12, 13, 29, 30]);
+    if LABELS_JUDGED {
+        agrees(run(None), &[24]);
+    }
     all_seen(figures::erring::ERRORS, |error| run(Some(error)));
 }

@@ -4,6 +4,8 @@
 mod common;
 use common::{chunk, counts, faces, figure, mapping, mesh, object, refusal, vertices, words};
 
+use second::LABELS_JUDGED;
+
 const POINT: [f32; 3] = [0.0; 3];
 
 #[test]
@@ -70,7 +72,8 @@ fn no_zero_is_name_before_length() {
     assert_eq!(refusal(&group(b"abc\0\0")), (10, 33));
     assert_eq!(counts(&group(b"abc\0\0\0")).2, 0);
     assert_eq!(refusal(&group(b"abc\0\0\0\0")), (10, 33));
-    assert_eq!(refusal(&group(b"abc\x01\0")), (10, 33));
+    let text = if LABELS_JUDGED { 24 } else { 10 };
+    assert_eq!(refusal(&group(b"abc\x01\0")), (text, 33));
     let material = |body: &[u8]| figure(&[&chunk(0xAFFF, &[&chunk(0xA000, &[body])])]);
     assert_eq!(refusal(&material(&[])), (9, 18));
     assert_eq!(refusal(&material(b"x")), (9, 18));
@@ -80,10 +83,43 @@ fn no_zero_is_name_before_length() {
 }
 
 #[test]
+#[cfg(feature = "labels")]
+fn names_fit_for_the_label() {
+    let object = |name: &[u8]| figure(&[&chunk(0x4000, &[name])]);
+    let material = |name: &[u8]| figure(&[&chunk(0xAFFF, &[&chunk(0xA000, &[name])])]);
+    let group = |name: &[u8]| mesh(&[&faces(&[], &[&chunk(0x4130, &[name, &[0; 2]])])]);
+    let spot = |name: &[u8]| {
+        let spot = chunk(0x4610, &[&[0; 20], &chunk(0x4653, &[name])]);
+        figure(&[&chunk(0x4000, &[&[0], &chunk(0x4600, &[&[0; 12], &spot])])])
+    };
+    for good in [&b"\0"[..], b" ~\0", &[&[b'n'; 63][..], &[0]].concat()] {
+        for file in [object(good), material(good), group(good), spot(good)] {
+            assert_eq!(counts(&file).2, 0);
+        }
+    }
+    for bad in [
+        &b"\x1F\0"[..],
+        b"\x7F\0",
+        b"\x80\0",
+        b"\xFF\0",
+        &[&[b'n'; 64][..], &[0]].concat(),
+    ] {
+        assert_eq!(refusal(&object(bad)), (24, 12));
+        assert_eq!(refusal(&material(bad)), (24, 18));
+        assert_eq!(refusal(&group(bad)), (24, 33));
+        assert_eq!(refusal(&spot(bad)), (24, 63));
+    }
+    // After 9, however long the name is, and before 10.
+    assert_eq!(refusal(&object(&[1; 99])), (9, 12));
+    assert_eq!(refusal(&material(b"\x1F\0\0")), (24, 18));
+}
+
+#[test]
 fn the_zero_is_searched_in_the_whole_body() {
     // The name runs on into the child's header, up to its length's first zero.
     let file = figure(&[&chunk(0x4000, &[b"abc", &chunk(0x4010, &[])])]);
-    assert_eq!(refusal(&file), (6, 25));
+    let met = if LABELS_JUDGED { (24, 12) } else { (6, 25) };
+    assert_eq!(refusal(&file), met);
     // In a 4130 the count and the entries are searched too, but no further.
     let file = mesh(&[&faces(&[], &[&chunk(0x4130, &[b"abc", &words(&[0x0101])])])]);
     assert_eq!(refusal(&file), (9, 33));

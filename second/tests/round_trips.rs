@@ -6,7 +6,7 @@ mod bare;
 mod common;
 use bare::{Figure, Seed, EDGES, FAULTS, MOST, SIGNALLING};
 use second::boundary::{refused, Boundary, Second, Tds};
-use second::{list, name, record, tables, LIMIT, RECORD};
+use second::{list, name, record, tables, LABELS_JUDGED, LIMIT, RECORD};
 
 /// Canaries on each side of the room; odd, so that the room is not aligned.
 const GUARD: usize = 37;
@@ -113,9 +113,14 @@ fn from_nothing_to_the_limit() {
     let near = [(0, all, fit), (2, all, fit), (LIMIT - 192, 7, 7)];
     let full = [filling(0, 0), filling(1, 0), filling(1, 1), filling(3, all)];
     let fullest = [filling(all, 0), filling(all, 1), filling(all, fit)];
-    let sizes = [&small[..], &wide, &long, &near, &full, &fullest].concat();
+    let labelled = [filling(43_687, all), filling(65_534, 32_765), (63, 1, 1)];
+    let sizes = [&small[..], &wide, &long, &near, &full, &fullest, &labelled].concat();
     for (at, (name, n, f)) in sizes.into_iter().enumerate() {
         let mut figure = Seed(at as u64).figure(name, n, f);
+        if LABELS_JUDGED && name > 63 {
+            figure.refuses(24, 63, &[0, LIMIT]);
+            continue;
+        }
         figure.goes_round();
         if figure.size() == LIMIT {
             figure.name.push(b'x');
@@ -136,13 +141,13 @@ fn seeded_figures_go_round() {
 fn of_two_faults_the_first_speaks() {
     let sound = Seed(3).figure(50, 3, 2);
     sound.goes_round();
-    for (first, (fault, number, place)) in FAULTS.into_iter().enumerate() {
+    for (first, (fault, number, place)) in FAULTS.iter().enumerate() {
         // The pair of a fault with itself is the fault alone.
         for (later, ..) in &FAULTS[first..] {
             let mut figure = sound.clone();
             later(&mut figure);
             fault(&mut figure);
-            figure.refuses(number, place, &[0, 41, figure.size()]);
+            figure.refuses(*number, *place, &[0, 41, figure.size()]);
         }
     }
 }

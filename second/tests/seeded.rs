@@ -4,8 +4,10 @@
 use second::boundary::Second;
 use second::differ::compare::Pair;
 use second::differ::named;
-use second::differ::run::{grown, Plan};
+use second::differ::run::{grown, Plan, Tally};
 use second::differ::seeded::{misread_rows, Error, Seeded, ERRORS};
+use second::LABELS_JUDGED;
+use std::ops::Range;
 
 /// A small run that prints nothing.
 fn plan(count: u64) -> Plan {
@@ -15,6 +17,14 @@ fn plan(count: u64) -> Plan {
         loud: false,
         trace: false,
     }
+}
+
+/// Those of the base's answers, and of the requests' that are on, that no case
+/// has met.
+fn unmet(tally: &Tally, base: Range<usize>) -> Vec<usize> {
+    let later = LABELS_JUDGED.then_some(24);
+    let numbers = base.chain(later);
+    numbers.filter(|number| tally[*number] == 0).collect()
 }
 
 /// Those of some errors that a run does not see.
@@ -37,7 +47,7 @@ fn readers_that_agree_agree() {
     let tally = grown(plan(6_000), &mut pair).unwrap_or_else(|failure| {
         panic!("{}", failure.shrunk(7, &mut pair).words(7));
     });
-    let unmet: Vec<usize> = (0..15).filter(|number| tally[*number] == 0).collect();
+    let unmet = unmet(&tally, 0..15);
     assert_eq!(unmet, [], "refusals that no case has met");
 }
 
@@ -52,7 +62,7 @@ fn named_cases_have_the_papers_answers() {
     let mut pair = Pair::new(Second, Seeded::default());
     let tally = named::run(&named::cases(), &mut pair)
         .unwrap_or_else(|failure| panic!("{}", failure.words(0)));
-    let unmet: Vec<usize> = (0..=15).filter(|number| tally[*number] == 0).collect();
+    let unmet = unmet(&tally, 0..16);
     assert_eq!(unmet, [], "refusals that no named case has met");
 }
 

@@ -3,7 +3,7 @@
 
 mod common;
 use common::{pair, triangle};
-use second::{check, name, tables, write, LIMIT};
+use second::{check, name, tables, write, LABELS_JUDGED, LIMIT};
 
 const FLOATS: [f32; 9] = [0.0, 0.0, 0.0, 1.0, 0.0, 0.0, 0.0, 1.0, 0.0];
 
@@ -43,12 +43,34 @@ fn refusals_in_order() {
 }
 
 #[test]
+#[cfg(feature = "labels")]
+fn names_fit_for_the_label() {
+    let named = |name: &[u8]| ask(name, &[], &[], 999);
+    assert_eq!(named(&[b'~'; 63]), Ok(41 + 63));
+    assert_eq!(named(&[b'~'; 64]), Err((24, 63)));
+    assert_eq!(named(&[b'~'; 99]), Err((24, 63)));
+    assert_eq!(named(b"ab\x1F\x7F"), Err((24, 2)));
+    assert_eq!(named(&[&[b' '; 62][..], &[255; 9]].concat()), Err((24, 62)));
+    assert_eq!(named(&[&[b' '; 70][..], &[255; 9]].concat()), Err((24, 63)));
+    assert_eq!(named(&[&[b' '; 70][..], &[255, 0]].concat()), Err((9, 71)));
+    assert_eq!(ask(b"\n", &[f32::NAN], &[9], 0), Err((24, 0)));
+}
+
+#[test]
 fn limits() {
-    let name = vec![b'x'; LIMIT - 41];
-    assert_eq!(ask(&name, &[], &[], LIMIT), Ok(LIMIT));
-    assert_eq!(ask(&name, &[], &[], LIMIT - 1), Err((15, LIMIT)));
-    assert_eq!(ask(&[&name[..], b"x"].concat(), &[], &[], 0), Err((1, 0)));
     let floats = vec![0.0; 196_605];
+    let full = |name: &[u8], room| ask(name, &floats, &[0; 3 * 32_764], room);
+    assert_eq!(full(b"abc", LIMIT), Ok(LIMIT));
+    assert_eq!(full(b"abc", LIMIT - 1), Err((15, LIMIT)));
+    assert_eq!(full(b"abcd", 0), Err((1, 0)));
+    // A long name is written where no label has to take it.
+    let name = vec![b'x'; LIMIT - 41];
+    let answer = if LABELS_JUDGED {
+        Err((24, 63))
+    } else {
+        Ok(LIMIT)
+    };
+    assert_eq!(ask(&name, &[], &[], LIMIT), answer);
     assert_eq!(ask(b"", &floats, &[], LIMIT), Ok(41 + 12 * 65_535));
     assert_eq!(ask(b"", &floats, &[0; 3 * 32_760], LIMIT), Ok(1_048_541));
     assert_eq!(ask(b"", &floats, &[0; 3 * 32_765], LIMIT), Err((1, 0)));

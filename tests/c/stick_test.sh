@@ -24,7 +24,7 @@ lines err 0
 try 'several folders'
 stick samples/edition samples/damaged
 status_is 1
-unsealed 24 18 0
+unsealed 25 19 0
 
 try 'endings of any case, in folders below, and no others'
 folder case
@@ -173,18 +173,18 @@ matches err "stick: '': not checked: the name is empty: give a folder, for examp
 try 'status 2 wins over 1'
 stick "$T/nowhere" samples/damaged
 status_is 2
-unsealed 18 18 1
+unsealed 19 19 1
 
 try 'a folder with no figure in it'
 folder none
 stick "$F"
 status_is 2
-matches err "stick: $F: not checked: there is no figure \(\.3ds\) in this folder: see that it is the right folder, and that the edition was copied"
+matches err "stick: $F: not checked: there is no figure in this folder: see that it is the right folder, and that the edition was copied"
 mkdir "$F/below"
 echo text >"$F/below/notes.txt"
 stick "$F" samples/edition
 status_is 2
-matches err "stick: $F: not checked: there is no figure \(\.3ds\) in this folder: see that it is the right folder, and that the edition was copied"
+matches err "stick: $F: not checked: there is no figure in this folder: see that it is the right folder, and that the edition was copied"
 lines err 1
 unsealed 6 0 1
 

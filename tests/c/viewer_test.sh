@@ -45,11 +45,16 @@ while read -r file number place; do
     lines out 0
 done <samples/damaged/expected.txt
 
-try 'a mesh without vertices, and a name with a control character'
-printf 'MM\037\0\0\0==\031\0\0\0\0@\023\0\0\0a\033[2J\n\0\0A\006\0\0\0' >"$T/empty"
+try 'a mesh without vertices'
+printf 'MM\037\0\0\0==\031\0\0\0\0@\023\0\0\0a [2J~\0\0A\006\0\0\0' >"$T/empty"
 run "$V" "$T/empty"
 status_is 0
-matches out 'mesh 0 "a\?\[2J\?": vertices 0, faces 0'
+matches out 'mesh 0 "a \[2J~": vertices 0, faces 0'
+try 'a name with a control character'
+printf 'MM\037\0\0\0==\031\0\0\0\0@\023\0\0\0a\033[2J\n\0\0A\006\0\0\0' >"$T/empty"
+run "$V" "$T/empty"
+status_is 1
+has err 'refusal 24, place 12'
 
 try 'a file that is too long'
 "$BUILD/make_samples" --too-long "$T/long"

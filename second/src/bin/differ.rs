@@ -97,6 +97,9 @@ const OTHERS: [Other; 5] = [
     }),
 ];
 
+/// The calls over figures that have landed later than others, or will.
+const LATER: [(&str, bool); 1] = [("mapping pairs", cfg!(feature = "mapping"))];
+
 /// Many cases from a seed, over figures and then over all other formats.
 fn grown<L: Boundary, R: Boundary>(plan: Plan, pair: &mut Pair<L, R>) -> Result<(), String> {
     let begin = Instant::now();
@@ -110,6 +113,11 @@ fn grown<L: Boundary, R: Boundary>(plan: Plan, pair: &mut Pair<L, R>) -> Result<
             let tally = run(plan).map_err(|failure| failure.words(plan.seed))?;
             add(&mut total, &tally);
         } else {
+            println!("{what} are not compared: the library under test has no such calls yet");
+        }
+    }
+    for (what, landed) in LATER {
+        if LINKED && !landed {
             println!("{what} are not compared: the library under test has no such calls yet");
         }
     }

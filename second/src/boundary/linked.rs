@@ -43,6 +43,14 @@ extern "C" {
         out: *mut u8,
         out_len: usize,
     ) -> u64;
+    #[cfg(feature = "mapping")]
+    fn tds_mapping(
+        file: *const u8,
+        file_len: usize,
+        mesh: u32,
+        mapping: *mut u8,
+        mapping_len: usize,
+    ) -> u64;
 }
 
 /// The address of a slice that is only read; of a stand-in if it is empty.
@@ -120,5 +128,12 @@ impl Boundary for Tds {
         let (b, b_len) = (read(vertices, &[0.0]), vertices.len());
         let (c, c_len) = (read(corners, &[0]), corners.len());
         unsafe { tds_write(a, a_len, b, b_len, c, c_len, out, len) }
+    }
+
+    #[cfg(feature = "mapping")]
+    fn mapping(&self, file: &[u8], mesh: u32, numbers: &mut [u8]) -> u64 {
+        let (len, mut some) = (numbers.len(), [0; 8]);
+        let numbers = lend(numbers, &mut some);
+        unsafe { tds_mapping(read(file, &[0]), file.len(), mesh, numbers, len) }
     }
 }

@@ -31,7 +31,7 @@ pub use figures::{FigureRight, Figures, Rows, FIGURES_LINKED};
 pub use slips::{SlipRight, Slips, ENTRY_BYTES, SLIPS_LINKED};
 pub use sums::{SumRight, Summing, SUMS_LINKED};
 
-use crate::{bounding_box, check, list, name, tables, write, Refusal, RECORD};
+use crate::{bounding_box, check, list, mapping, name, tables, write, Refusal, RECORD};
 
 /// The bytes of one record on the boundary.
 pub const RECORD_BYTES: usize = 4 * RECORD;
@@ -102,6 +102,13 @@ pub trait Boundary {
     fn bounding_box(&self, file: &[u8], mesh: u32, floats: &mut [u8]) -> u64;
     /// The size of the figure, now in the slice.
     fn write(&self, name: &[u8], vertices: &[f32], corners: &[u16], out: &mut [u8]) -> u64;
+
+    // Until a request has landed this library answers its calls.
+
+    /// The count of mapping numbers, now in the slice.
+    fn mapping(&self, file: &[u8], mesh: u32, numbers: &mut [u8]) -> u64 {
+        Second.mapping(file, mesh, numbers)
+    }
 }
 
 /// A refusal as the boundary answers it; a place too wide is capped.
@@ -147,8 +154,7 @@ impl Boundary for Second {
     }
 
     fn tables(&self, file: &[u8], mesh: u32, vertices: &mut [u8], corners: &mut [u8]) -> u64 {
-        let floats = numbers(vertices).into_iter().map(f32::from_bits);
-        let mut floats: Vec<f32> = floats.collect();
+        let mut floats = floats(vertices);
         let words = corners.as_chunks().0.iter();
         let mut words: Vec<u16> = words.map(|word| u16::from_le_bytes(*word)).collect();
         let filled = tables(file, mesh, &mut floats, &mut words);
@@ -185,6 +191,15 @@ impl Boundary for Second {
     fn write(&self, name: &[u8], vertices: &[f32], corners: &[u16], out: &mut [u8]) -> u64 {
         answer(write(name, vertices, corners, out))
     }
+
+    fn mapping(&self, file: &[u8], mesh: u32, numbers: &mut [u8]) -> u64 {
+        let mut row = floats(numbers);
+        let filled = mapping(file, mesh, &mut row);
+        if filled.is_ok() {
+            put(numbers, row.iter().map(|float| float.to_le_bytes()));
+        }
+        answer(filled)
+    }
 }
 
 /// The answer of a call: what it counts to, or its refusal.
@@ -199,6 +214,11 @@ pub(crate) fn answer(result: Result<usize, Refusal>) -> u64 {
 fn numbers(bytes: &[u8]) -> Vec<u32> {
     let whole = bytes.as_chunks().0.iter();
     whole.map(|number| u32::from_le_bytes(*number)).collect()
+}
+
+/// The whole floats in a slice.
+fn floats(bytes: &[u8]) -> Vec<f32> {
+    numbers(bytes).into_iter().map(f32::from_bits).collect()
 }
 
 /// Puts numbers into a slice, as many as there are.

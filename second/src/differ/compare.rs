@@ -17,6 +17,7 @@ pub enum Call {
     Tables(u32, usize, usize),
     Name(u32, usize),
     Box(u32, usize),
+    Mapping(u32, usize),
 }
 
 /// Two sides, and the bytes they are lent.
@@ -68,6 +69,7 @@ fn make(side: &impl Boundary, file: &[u8], call: Call, buffers: &mut Buffers) ->
         Call::Tables(mesh, ..) => side.tables(file, mesh, first, second),
         Call::Name(mesh, _) => side.name(file, mesh, first),
         Call::Box(mesh, _) => side.bounding_box(file, mesh, first),
+        Call::Mapping(mesh, _) => side.mapping(file, mesh, first),
     }
 }
 
@@ -106,7 +108,7 @@ impl Call {
             Call::Check => [0, 0],
             Call::List(bytes) | Call::Counts(bytes) => [bytes, 0],
             Call::Records(row, table) => [4 * row, RECORD_BYTES * table],
-            Call::Name(_, bytes) | Call::Box(_, bytes) => [bytes, 0],
+            Call::Name(_, bytes) | Call::Box(_, bytes) | Call::Mapping(_, bytes) => [bytes, 0],
             Call::Tables(_, vertices, corners) => [vertices, corners],
         }
     }
@@ -120,7 +122,7 @@ impl Call {
             Call::List(_) => [RECORD_BYTES * count, 0],
             Call::Records(..) => [RECORD_BYTES * count; 2],
             Call::Tables(..) => [12 * (count & 0xFFFF), 6 * (count >> 16)],
-            Call::Counts(_) | Call::Name(..) | Call::Box(..) => [4 * count, 0],
+            Call::Counts(_) | Call::Name(..) | Call::Box(..) | Call::Mapping(..) => [4 * count, 0],
         }
     }
 }
@@ -170,7 +172,7 @@ impl<L: Boundary, R: Boundary> Pair<L, R> {
         &mut self,
         file: &[u8],
         answer: u64,
-        calls: [Call; 6],
+        calls: impl IntoIterator<Item = Call>,
     ) -> Result<(), Difference> {
         for call in calls {
             let other = self.ask(file, call)?;
@@ -192,6 +194,7 @@ impl<L: Boundary, R: Boundary> Pair<L, R> {
             self.ask(file, Call::Tables(mesh, random.below(20), random.below(20)))?;
             self.ask(file, Call::Name(mesh, random.below(12)))?;
             self.ask(file, Call::Box(mesh, random.below(44)))?;
+            self.ask(file, Call::Mapping(mesh, random.below(20)))?;
         }
         let first = random.below(count.max(1) as usize) as u32;
         for mesh in (first..count).take(2) {
@@ -220,7 +223,18 @@ impl<L: Boundary, R: Boundary> Pair<L, R> {
         for bytes in [36 + random.below(6), 32 + random.below(4), random.below(36)] {
             self.ask(file, Call::Box(mesh, bytes))?;
         }
+        let m = self.pairs(file, mesh)?;
+        let less = (4 * m).saturating_sub(1 + random.below(8));
+        for bytes in [4 * m, 4 * m + random.below(9), less] {
+            self.ask(file, Call::Mapping(mesh, bytes))?;
+        }
         Ok(())
+    }
+
+    /// The mapping numbers of a mesh, learned in the same way.
+    pub fn pairs(&mut self, file: &[u8], mesh: u32) -> Result<usize, Difference> {
+        let answer = self.ask(file, Call::Mapping(mesh, 0))?;
+        Ok(refusal(answer).map_or(0, |(_, place)| place as usize))
     }
 
     /// The numbers that a mesh's tables need, learned from what no room
@@ -234,7 +248,7 @@ impl<L: Boundary, R: Boundary> Pair<L, R> {
 }
 
 /// All calls but the check, with rooms as they come.
-fn some_calls(random: &mut Random) -> [Call; 6] {
+fn some_calls(random: &mut Random) -> [Call; 7] {
     let mesh = random.pick(&[0, 1, 2, u32::MAX]);
     [
         Call::List(random.below(200)),
@@ -243,5 +257,6 @@ fn some_calls(random: &mut Random) -> [Call; 6] {
         Call::Tables(mesh, random.below(50), random.below(30)),
         Call::Name(mesh, random.below(12)),
         Call::Box(mesh, random.below(44)),
+        Call::Mapping(mesh, random.below(20)),
     ]
 }

@@ -5,14 +5,23 @@ use super::compare::Pair;
 use super::lent::{spoken, Difference};
 use super::node::Node;
 use crate::boundary::{refusal, Boundary, RECORD_BYTES};
-use crate::{record, row, RECORD};
+use crate::{record, row, OLD_MAPPING, RECORD};
 
 /// One mesh: its tables and the span of its name.
 #[derive(Clone, Debug, Default, PartialEq, Eq)]
 pub struct Mesh {
     pub vertices: Vec<u8>,
     pub corners: Vec<u8>,
+    /// None before Q-6.
+    pub mapping: Vec<u8>,
     pub name: [u32; 2],
+}
+
+impl Mesh {
+    /// Two numbers for each vertex; those that are missing are zero.
+    fn complete(&mut self) {
+        self.mapping.resize(self.vertices.len() / 12 * 8, 0);
+    }
 }
 
 /// All that is said of a file.
@@ -27,8 +36,8 @@ pub struct Facts {
 #[derive(Clone, Debug, Default, PartialEq, Eq)]
 pub struct Rooms {
     records: usize,
-    /// Bytes for the vertices and the corners of each mesh.
-    tables: Vec<(usize, usize)>,
+    /// Bytes for the vertices, the corners and the pairs of each mesh.
+    tables: Vec<[usize; 3]>,
 }
 
 impl Rooms {
@@ -38,7 +47,7 @@ impl Rooms {
         Rooms {
             records: facts.records.len(),
             tables: meshes
-                .map(|mesh| (mesh.vertices.len(), mesh.corners.len()))
+                .map(|mesh| [&mesh.vertices, &mesh.corners, &mesh.mapping].map(Vec::len))
                 .collect(),
         }
     }
@@ -61,16 +70,23 @@ pub fn ask(side: &impl Boundary, file: &[u8], rooms: &Rooms) -> Result<Facts, St
         meshes: Vec::with_capacity(rooms.tables.len()),
     };
     facts.records.truncate(records as usize);
-    for (number, (vertices, corners)) in rooms.tables.iter().enumerate() {
+    for (number, tables) in rooms.tables.iter().enumerate() {
+        let [vertices, corners, mapping] = tables.map(|bytes| vec![0xA5; bytes]);
         let mut mesh = Mesh {
-            vertices: vec![0; *vertices],
-            corners: vec![0; *corners],
+            vertices,
+            corners,
+            mapping,
             name: [0; 2],
         };
         let filled = side.tables(file, number as u32, &mut mesh.vertices, &mut mesh.corners);
         let filled = accepted("tables", filled)? as usize;
         mesh.vertices.truncate(12 * (filled & 0xFFFF));
         mesh.corners.truncate(6 * (filled >> 16));
+        if OLD_MAPPING {
+            let filled = side.mapping(file, number as u32, &mut mesh.mapping);
+            let filled = accepted("mapping", filled)? as usize;
+            mesh.mapping.truncate(4 * filled);
+        }
         let mut span = [0; 8];
         accepted("name", side.name(file, number as u32, &mut span))?;
         mesh.name = numbers(&span)[0];
@@ -95,7 +111,11 @@ pub fn rooms(side: &impl Boundary, file: &[u8]) -> Rooms {
         let vertices = 4 * needed(side.tables(file, mesh, &mut [], &mut []));
         let lent = &mut vec![0; vertices];
         let corners = 2 * needed(side.tables(file, mesh, lent, &mut []));
-        (vertices, corners)
+        let mapping = match OLD_MAPPING {
+            true => 4 * needed(side.mapping(file, mesh, &mut [])),
+            false => 0,
+        };
+        [vertices, corners, mapping]
     });
     Rooms {
         tables: tables.collect(),
@@ -162,6 +182,10 @@ impl Facts {
         for child in &node.children {
             next = self.add(child, next, depth + 1, number);
         }
+        let mapped = node.children.iter().any(|c| c.identifier == 0x4140);
+        if let (true, Some(mesh)) = (mapped && OLD_MAPPING, self.meshes.last_mut()) {
+            mesh.complete();
+        }
         if node.identifier == 0x4000 && !node.children.iter().any(|c| c.identifier == 0x4100) {
             self.meshes.pop();
         }
@@ -186,6 +210,7 @@ impl Facts {
         };
         match node.identifier {
             0x4110 => mesh.vertices = own[2..].to_vec(),
+            0x4140 if OLD_MAPPING => mesh.mapping = own[2..].to_vec(),
             0x4120 => {
                 let faces = own[2..].as_chunks::<8>().0.iter();
                 mesh.corners = faces.flat_map(|face| face[..6].to_vec()).collect();

@@ -10,7 +10,7 @@ use super::lent::Difference;
 use super::node::Node;
 use super::random::Random;
 use super::writing::Writing;
-use super::{damage, harm, long, rows};
+use super::{damage, harm, long, rows, versions};
 use crate::boundary::Boundary;
 use crate::{row, LIMIT};
 
@@ -20,6 +20,8 @@ pub enum Family {
     Grown,
     Rows,
     Faults,
+    Names,
+    Versions,
     Damage,
     Gaps,
     Boxes,
@@ -31,16 +33,18 @@ pub enum Family {
 }
 
 /// Each family, its share of all cases in ten thousand, and what it is.
-pub const FAMILIES: [(Family, u64, &str); 11] = [
+pub const FAMILIES: [(Family, u64, &str); 13] = [
     (Family::Grown, 1_700, "valid figures"),
     (Family::Rows, 1_500, "each row in each place"),
     (Family::Faults, 2_000, "each two faults at one chunk"),
+    (Family::Names, 400, "names that no label takes"),
+    (Family::Versions, 800, "versions and mapping lists"),
     (Family::Damage, 1_800, "bits, lengths, bytes damaged"),
     (Family::Gaps, 700, "private chunks in gaps"),
     (Family::Boxes, 300, "boxes of floats of note"),
     (Family::Soup, 1_200, "legal parents, all else free"),
     (Family::Noise, 277, "bytes of no sense"),
-    (Family::Writer, 500, "names and rows written"),
+    (Family::Writer, 900, "names and rows written"),
     (Family::LongWriter, 20, "writings at the limit"),
     (Family::Long, 3, "figures at the limit"),
 ];
@@ -59,6 +63,8 @@ pub fn make(family: Family, index: u64, random: &mut Random) -> Subject {
         Family::Grown | Family::Gaps => figure(random, Fill::Some).bytes(),
         Family::Rows => rows::tried(spread(rows::CASES), random).bytes(),
         Family::Faults => faulty(spread(harm::CASES), random),
+        Family::Names => harm::misnamed(random).bytes(),
+        Family::Versions => versions::figure(random).bytes(),
         Family::Damage => damaged(random),
         Family::Boxes => floats(random),
         Family::Soup => soup(0x4D4D, 0, random).bytes(),

@@ -1,9 +1,10 @@
 //! Valid figures, grown at random: every row of the table in every place it
 //! may stand, in any order, with private chunks between.
 
+use super::names;
 use super::node::Node;
 use super::random::Random;
-use crate::{row, Own};
+use crate::{row, Own, OLD_MAPPING};
 
 /// All identifiers with a row, in the table's order.
 pub const LISTED: [u16; 43] = [
@@ -39,6 +40,8 @@ pub struct Grower<'a> {
     fill: Fill,
     /// How many objects there are so far.
     objects: usize,
+    /// Whether the figure is one whose meshes may have fewer pairs than vertices.
+    old: bool,
 }
 
 /// A valid figure.
@@ -52,6 +55,7 @@ pub fn grower(random: &mut Random, fill: Fill) -> Grower<'_> {
         random,
         fill,
         objects: 0,
+        old: false,
     }
 }
 
@@ -77,7 +81,11 @@ impl Grower<'_> {
     /// The identifiers of a chunk's children.
     fn inside(&mut self, identifier: u16) -> Vec<u16> {
         match identifier {
-            0x4D4D => [self.some(&[0x0002], 1), vec![0x3D3D]].concat(),
+            0x4D4D => {
+                // The version grows before the meshes; without one the figure is old.
+                self.old = OLD_MAPPING;
+                [self.some(&[0x0002], 1), vec![0x3D3D]].concat()
+            }
             0x3D3D => {
                 let objects = match self.fill {
                     Fill::Full => 5,
@@ -130,12 +138,26 @@ impl Grower<'_> {
     /// Own data of a listed chunk, in a mesh of so many faces.
     pub fn own(&mut self, identifier: u16, faces: usize) -> Vec<u8> {
         match row(identifier).map(|row| row.own) {
+            _ if identifier == 0x0002 => self.version(),
             Some(Own::Bytes(count)) => self.random.bytes(usize::from(count)),
             Some(Own::Name) => self.name(),
             Some(Own::Smoothing) => self.random.bytes(4 * faces),
             Some(Own::Group) => self.group(faces),
             _ => vec![0, 0],
         }
+    }
+
+    /// A version, mostly near the one that decides over the mapping.
+    fn version(&mut self) -> Vec<u8> {
+        let version = match self.random.below(6) {
+            0 => self.random.next() as u32,
+            1 => self
+                .random
+                .pick(&[0x8000_0000, 0x0001_0000, 0x0300, 0x0001_0002]),
+            _ => self.random.below(5) as u32,
+        };
+        self.old = OLD_MAPPING && version < 3;
+        version.to_le_bytes().to_vec()
     }
 
     /// A name with its zero, mostly short.
@@ -145,8 +167,7 @@ impl Grower<'_> {
             39 => self.random.below(300),
             _ => self.random.from_to(1, 12),
         };
-        let mut name = self.random.bytes(length);
-        name.iter_mut().for_each(|byte| *byte = (*byte).max(1));
+        let mut name = names::name(length, self.random);
         name.push(0);
         name
     }
@@ -200,7 +221,9 @@ impl Grower<'_> {
             parts.push(self.faces(n, f));
         }
         if all || self.random.chance(40) {
-            parts.push(self.floats(0x4140, n, 2));
+            let fewer = self.old && self.random.chance(60);
+            let m = if fewer { self.random.below(n + 1) } else { n };
+            parts.push(self.floats(0x4140, m, 2));
         }
         for identifier in [0x4160, 0x4165] {
             if all || self.random.chance(30) {

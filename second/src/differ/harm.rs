@@ -2,6 +2,7 @@
 //! and every two of them at one chunk, to see which is answered.
 
 use super::grow::{figure, grower, unlisted, Fill, LISTED};
+use super::names;
 use super::node::{Node, Path};
 use super::random::Random;
 use crate::{row, Own};
@@ -12,6 +13,7 @@ pub enum Harm {
     Misplaced,
     Twice,
     Name,
+    Text,
     Length,
     Number,
     Index,
@@ -24,10 +26,11 @@ pub enum Harm {
 }
 
 /// In the order they are done: the first few move the chunk about.
-pub const HARMS: [Harm; 12] = [
+pub const HARMS: [Harm; 13] = [
     Harm::Misplaced,
     Harm::Twice,
     Harm::Name,
+    Harm::Text,
     Harm::Length,
     Harm::Number,
     Harm::Index,
@@ -41,6 +44,9 @@ pub const HARMS: [Harm; 12] = [
 
 /// The parts of a mesh, which most rules are about.
 const PARTS: [u16; 6] = [0x4100, 0x4110, 0x4120, 0x4130, 0x4140, 0x4150];
+
+/// The chunks that have names.
+const NAMED: [u16; 4] = [0xA000, 0x4000, 0x4130, 0x4653];
 
 /// The chunks that are harmed: all, and the parts of a mesh five times more.
 const TARGETS: usize = LISTED.len() + 5 * PARTS.len();
@@ -71,6 +77,34 @@ pub fn harmed(case: usize, random: &mut Random) -> Node {
     root
 }
 
+/// A figure with a name that no label takes, and perhaps another fault there.
+pub fn misnamed(random: &mut Random) -> Node {
+    let mut root = figure(random, Fill::Full);
+    let identifier = random.pick(&NAMED);
+    let paths = root.paths(&|node| node.identifier == identifier);
+    let mut path = paths[random.below(paths.len())].clone();
+    if random.chance(60) {
+        prune(&mut root, &mut path, 0, random);
+    }
+    let other = random.pick(&[None, Some(Harm::Twice), Some(Harm::Misplaced)]);
+    for harm in other.into_iter().chain([Harm::Text]) {
+        harm_at(harm, &mut root, &mut path, random);
+    }
+    let chunk = root.at(&path);
+    match (
+        random.below(4),
+        chunk.own.iter().position(|byte| *byte == 0),
+    ) {
+        (0, Some(zero)) => {
+            chunk.own.truncate(zero);
+            chunk.children.clear();
+        }
+        (1, _) => chunk.own.push(0),
+        _ => (),
+    }
+    root
+}
+
 /// Takes away what may go and is not on the way to the chunk.
 fn prune(node: &mut Node, path: &mut Path, step: usize, random: &mut Random) {
     const NEEDED: [u16; 5] = [0x3D3D, 0xA000, 0x4110, 0x4120, 0x4100];
@@ -97,6 +131,7 @@ pub fn harm_at(harm: Harm, root: &mut Node, path: &mut Path, random: &mut Random
         Harm::Misplaced => misplace(root, path, random),
         Harm::Twice => repeat(root, path, random),
         Harm::Name => unname(root.at(path), random),
+        Harm::Text => mistext(root.at(path), random),
         Harm::Length => stretch(root.at(path), random),
         Harm::Number => not_a_number(in_mesh(root, path, &[0x4110, 0x4140]), random),
         Harm::Index => index(root, path, random),
@@ -157,6 +192,17 @@ fn unname(chunk: &mut Node, random: &mut Random) {
         if random.chance(70) {
             chunk.children.clear();
         }
+    }
+}
+
+/// Makes a name one that no label takes.
+fn mistext(chunk: &mut Node, random: &mut Random) {
+    let own = row(chunk.identifier).map(|row| row.own);
+    let zero = chunk.own.iter().position(|byte| *byte == 0);
+    if let (Some(Own::Name | Own::Group), Some(zero)) = (own, zero) {
+        let behind = chunk.own.split_off(zero);
+        names::spoil(&mut chunk.own, random);
+        chunk.own.extend(behind);
     }
 }
 

@@ -1,15 +1,22 @@
 //! The comparison of two readers over many files, long and short, valid and
 //! damaged, all grown from one seed.
 
-/// Names the cases of an enum once, and lists them all.
+/// Names the cases of an enum once, those of a later request under its feature,
+/// and lists all that are on.
 macro_rules! listed {
-    ($(#[$about:meta])* $name:ident, $all:ident: $($case:ident)*) => {
+    (
+        $(#[$about:meta])* $name:ident, $all:ident: $($case:ident)*
+        $(; $feature:literal: $($later:ident)*)*
+    ) => {
         $(#[$about])*
         #[derive(Clone, Copy, Debug, PartialEq, Eq)]
-        pub enum $name { $($case,)* }
+        pub enum $name { $($case,)* $($($later,)*)* }
 
         /// All of them.
-        pub const $all: &[$name] = &[$($name::$case,)*];
+        pub const $all: &[$name] = &[
+            $($name::$case,)*
+            $($(#[cfg(feature = $feature)] $name::$later,)*)*
+        ];
     };
 }
 
@@ -29,6 +36,7 @@ pub mod kinds;
 pub mod lent;
 pub mod long;
 pub mod named;
+pub mod names;
 pub mod node;
 pub mod random;
 pub mod real;
@@ -39,4 +47,5 @@ pub mod shrink;
 pub mod slips;
 pub mod sums;
 pub mod turned;
+pub mod versions;
 pub mod writing;

@@ -5,6 +5,7 @@ use super::compare::Pair;
 use super::facts::{self, Facts, Rooms};
 use super::grow::finite;
 use super::lent::{hex, spoken, Difference};
+use super::names;
 use super::random::Random;
 use crate::boundary::{refusal, Boundary};
 use crate::record;
@@ -23,13 +24,13 @@ impl Writing {
     pub fn small(random: &mut Random) -> Writing {
         let n = random.below(9);
         let f = if n == 0 { 0 } else { random.below(9) };
-        let name = random.below(20);
-        let name = random.bytes(name).into_iter();
+        let length = random.below(20);
+        let name = names::name(length, random);
         let floats = (0..3 * n).map(|_| f32::from_bits(finite(random)));
         let vertices = floats.collect();
         let corners = (0..3 * f).map(|_| random.below(n) as u16).collect();
         let mut writing = Writing {
-            name: name.map(|byte| byte.max(1)).collect(),
+            name,
             vertices,
             corners,
             room: 0,
@@ -45,7 +46,8 @@ impl Writing {
     fn spoil(&mut self, n: usize, random: &mut Random) {
         let most = [self.name.len(), self.vertices.len(), self.corners.len()];
         let [byte, float, corner] = most.map(|most| random.below(most.max(1)));
-        match random.below(5) {
+        match random.below(7) {
+            5 | 6 => names::spoil(&mut self.name, random),
             0 => self.name.iter_mut().skip(byte).take(1).for_each(|b| *b = 0),
             1 => self.vertices.truncate(float),
             2 => self.corners.truncate(corner),
@@ -141,6 +143,7 @@ impl Writing {
             meshes: vec![facts::Mesh {
                 vertices: floats.collect(),
                 corners: words.collect(),
+                mapping: vec![],
                 name: [18, name as u32],
             }],
         }
@@ -186,7 +189,7 @@ impl Writing {
 
 /// A room around the size: too small, exact, more.
 pub fn room(size: usize, random: &mut Random) -> usize {
-    match random.below(6) {
+    match random.below(7) {
         0 => size - 1,
         1 => size + 1,
         2 => random.below(size),

@@ -8,7 +8,9 @@ listed! {
     Error, ERRORS:
     RowsNotJudged RowsPlace ZeroPlaceInAll SameNameEarlier GroupNumberOff NumberPlaceInAll
     CornerAtCount SmoothingLost FlagWords ColoursExchanged MaterialsLast LimitOff RoomOff
-    ClearsRest WritesBeforeRefusing
+    ClearsRest WritesBeforeRefusing;
+
+    "labels": TextNotJudged TextPlaceInAll TextAfterSameName
 }
 
 /// This library, with an error or without.
@@ -72,6 +74,15 @@ impl Erring {
     }
 }
 
+/// Whether two objects have one name.
+fn same_names(rows: &Rows) -> bool {
+    let figure = rows.figure();
+    let objects = figure.iter().flat_map(|figure| &figure.objects);
+    let names: Vec<&[u8]> = objects.map(|object| object.name).collect();
+    let again = |(at, name): (usize, &&[u8])| names[..at].contains(name);
+    names.iter().enumerate().any(again)
+}
+
 /// A refusal, given wrongly.
 fn misjudged(error: Error, number: u32, place: usize, rows: &Rows, out: &mut [u8]) -> u64 {
     let misfit = rows.figure().is_err();
@@ -81,6 +92,9 @@ fn misjudged(error: Error, number: u32, place: usize, rows: &Rows, out: &mut [u8
         (Error::RowsNotJudged, 13) if misfit => refused(12, place),
         (Error::RowsPlace, 13) if misfit => refused(13, place + 1),
         (Error::ZeroPlaceInAll, 9) if several => refused(9, place + first(0)),
+        (Error::TextNotJudged, 24) => refused(13, place),
+        (Error::TextPlaceInAll, 24) if several => refused(24, place + first(0)),
+        (Error::TextAfterSameName, 24) if same_names(rows) => refused(29, 1),
         (Error::SameNameEarlier, 29) => refused(29, place - 1),
         (Error::GroupNumberOff, 30) if place > 0 => refused(30, 0),
         (Error::NumberPlaceInAll, 11) if several => refused(11, place + first(1)),

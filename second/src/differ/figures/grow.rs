@@ -4,9 +4,10 @@
 use crate::boundary::Rows;
 use crate::differ::build::{faces, figure, meshed, named, points, words};
 use crate::differ::grow::finite;
+use crate::differ::names;
 use crate::differ::node::Node;
 use crate::differ::random::Random;
-use crate::LIMIT;
+use crate::{LABELS_JUDGED, LIMIT};
 
 /// A figure before it is rows or bytes.
 #[derive(Clone, Debug, Default)]
@@ -47,25 +48,17 @@ impl Draft {
     }
 
     /// A figure at the limit, or a byte more: very many objects, a large mesh
-    /// with large groups, or a long name.
+    /// with large groups, or one large object.
     pub fn long(index: u64, random: &mut Random) -> Draft {
         let mut draft = Draft::grown(random);
         match index % 4 {
             0 => {
+                let digit = |number: u32| 33 + (number % 90) as u8;
                 let object = |number: u32| Object {
-                    name: vec![
-                        number as u8 | 1,
-                        (number >> 7) as u8 | 1,
-                        (number >> 14) as u8 | 1,
-                    ],
+                    name: [number, number / 90, number / 8_100].map(digit).to_vec(),
                     ..Object::default()
                 };
-                draft.objects = (0..1 << 21)
-                    .step_by(2)
-                    .filter(|n| n & 0x4080 == 0)
-                    .take(20_000)
-                    .map(object)
-                    .collect();
+                draft.objects = (0..20_000).map(object).collect();
             }
             1 => {
                 draft.materials = vec![(b"oak".to_vec(), [7; 9])];
@@ -74,13 +67,10 @@ impl Draft {
             _ => (),
         }
         let more = usize::from(index % 8 == 7);
-        let mut last = Object {
-            name: vec![b'l'; 4],
-            ..Object::default()
-        };
         let size = draft.tree().size() + 29;
-        last.name.resize((LIMIT + more).saturating_sub(size), b'l');
-        draft.objects.push(last);
+        draft
+            .objects
+            .push(filling((LIMIT + more).saturating_sub(size)));
         draft
     }
 
@@ -178,15 +168,34 @@ impl Object {
     }
 }
 
+/// An object that takes so many bytes more than a bare one: in its name, or
+/// where that may not be long in vertices and faces.
+fn filling(bytes: usize) -> Object {
+    let name = |length| [&b"##"[..], &vec![b'l'; length]].concat();
+    let Some(bytes) = bytes.checked_sub(2).filter(|_| LABELS_JUDGED) else {
+        return Object {
+            name: name(bytes.saturating_sub(2)),
+            ..Object::default()
+        };
+    };
+    let n = (bytes / 12).min(65_535);
+    let f = if n > 0 { (bytes - 12 * n) / 8 } else { 0 };
+    Object {
+        name: name(bytes - 12 * n - 8 * f),
+        vertices: vec![0.25; 3 * n],
+        corners: vec![0; 3 * f],
+        ..Object::default()
+    }
+}
+
 /// A name like no other, as its number is in it; any bytes but zero.
 fn name(number: usize, random: &mut Random) -> Vec<u8> {
     let length = if random.chance(95) {
         random.below(5)
     } else {
-        random.below(90)
+        random.below(names::MOST - 1)
     };
-    let bytes = random.bytes(length).into_iter().map(|byte| byte.max(1));
-    let mut name: Vec<u8> = bytes.collect();
+    let mut name = names::name(length, random);
     if number > 0 {
         name.insert(0, b'0' + number as u8);
         name.insert(0, b'#');

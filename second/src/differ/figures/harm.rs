@@ -3,10 +3,11 @@
 
 use super::grow::{Draft, Object};
 use crate::boundary::Rows;
+use crate::differ::names;
 use crate::differ::random::Random;
 
 /// How many kinds of fault there are.
-pub const KINDS: u64 = 12;
+pub const KINDS: u64 = 14;
 
 /// How many rows can be of another length.
 pub const ROWS: u64 = 9;
@@ -31,6 +32,8 @@ pub fn once(draft: &mut Draft, kind: u64, random: &mut Random) {
             draft.materials.push(again);
         }
         3 => draft.materials.truncate(other),
+        12 if materials > 0 => names::spoil(&mut draft.materials[other].0, random),
+        13 if objects > 0 => names::spoil(&mut draft.objects[one].name, random),
         _ => {
             let object = draft.objects.iter_mut().skip(one).take(1);
             object.for_each(|object| in_object(object, kind, random));

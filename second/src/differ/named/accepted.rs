@@ -127,8 +127,8 @@ fn free() -> Figures {
         .children
         .insert(0, Node::leaf(0xB000, b"MM\x06\0\0\0".to_vec()));
     keyed.children.push(zeros(0x0002, 4));
-    // The first name's bytes are those of a chunk, but for the zero.
-    let disguised = object("\u{10}A\u{8}", vec![zeros(0x4010, 0)]);
+    // The name begins with the bytes of a 4120's header.
+    let disguised = object(" A ", vec![zeros(0x4010, 0)]);
     vec![
         ("a version behind, a keyframer before", keyed),
         (
@@ -140,7 +140,6 @@ fn free() -> Figures {
             figure(vec![zeros(0x3E3D, 0), zeros(0x4111, 5), zeros(0x7FFF, 300)]),
         ),
         ("a name that looks like a header", figure(vec![disguised])),
-        ("a long name", figure(vec![meshed("n".repeat(300), vec![])])),
     ]
 }
 

@@ -41,7 +41,7 @@ pub fn all<L: Boundary, R: Boundary>(
 }
 
 /// All calls but the check, each with the same room.
-fn refused_calls(room: usize) -> [Call; 6] {
+fn refused_calls(room: usize) -> [Call; 7] {
     [
         Call::List(room),
         Call::Records(room, room),
@@ -49,6 +49,7 @@ fn refused_calls(room: usize) -> [Call; 6] {
         Call::Tables(0, room, room),
         Call::Name(0, room),
         Call::Box(0, room),
+        Call::Mapping(0, room),
     ]
 }
 
@@ -62,6 +63,7 @@ fn absent<L: Boundary, R: Boundary>(
         pair.ask(file, Call::Tables(mesh, room, room))?;
         pair.ask(file, Call::Name(mesh, room))?;
         pair.ask(file, Call::Box(mesh, room))?;
+        pair.ask(file, Call::Mapping(mesh, room))?;
     }
     Ok(())
 }
@@ -89,6 +91,10 @@ fn one<L: Boundary, R: Boundary>(
     }
     for room in [35, 36, 37] {
         pair.ask(file, Call::Box(mesh, room))?;
+    }
+    let m = 4 * pair.pairs(file, mesh)?;
+    for room in [m.saturating_sub(1), m, m + 1] {
+        pair.ask(file, Call::Mapping(mesh, room))?;
     }
     Ok(())
 }

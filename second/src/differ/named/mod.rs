@@ -4,9 +4,11 @@
 mod accepted;
 mod bytes;
 mod calls;
+mod labels;
 mod refused;
 mod rows;
 mod tree;
+mod versions;
 mod writings;
 
 use super::compare::Pair;
@@ -33,6 +35,8 @@ pub fn cases() -> Vec<Case> {
     cases.extend(accepted::cases());
     cases.extend(refused::cases());
     cases.extend(rows::cases());
+    cases.extend(labels::cases());
+    cases.extend(versions::cases());
     cases.extend(bytes::cases());
     cases.extend(writings::cases());
     cases

@@ -5,6 +5,7 @@ use super::tree::refused_at;
 use super::Case;
 use crate::differ::build::{faces, figure, group, meshed, object, pairs, points, words};
 use crate::differ::node::Node;
+use crate::LABELS_JUDGED;
 
 /// A figure and its refusal: the number, the way to the chunk, and how many
 /// bytes behind the chunk's first the place is.
@@ -49,6 +50,13 @@ fn part(which: usize, name: &str, parts: Vec<Node>, number: u32) -> Fault {
 /// A figure of an only object, which is a mesh.
 fn mesh(parts: Vec<Node>) -> Node {
     figure(vec![meshed("m", parts)])
+}
+
+/// The same in a figure whose version asks for as many pairs as vertices.
+fn mapped(which: usize, name: &str, parts: Vec<Node>, number: u32) -> Fault {
+    let mut root = mesh(parts);
+    root.children.push(Node::leaf(0x0002, vec![3, 0, 0, 0]));
+    at(&[0, 0, 0, which], name, root, number)
 }
 
 /// A chunk without its last byte of own data, and one with a byte more.
@@ -143,10 +151,10 @@ fn mapping() -> Vec<Fault> {
     let bad = || faces(&[[0, 0, 2]], vec![]);
     let (less, more) = (|| pairs(&[0.0; 2]), || pairs(&[0.0; 6]));
     vec![
-        part(0, "a 4140 without a 4110", vec![less()], 13),
-        part(1, "a pair too few", vec![good(), less()], 13),
-        part(0, "a pair too many", vec![more(), good()], 13),
-        part(0, "no pairs", vec![pairs(&[]), good()], 13),
+        mapped(0, "a 4140 without a 4110", vec![less()], 13),
+        mapped(1, "a pair too few", vec![good(), less()], 13),
+        mapped(0, "a pair too many", vec![more(), good()], 13),
+        mapped(0, "no pairs", vec![pairs(&[]), good()], 13),
         part(2, "13 against 12", vec![more(), good(), bad()], 12),
         part(2, "13 against 10 behind it", vec![more(), good(), Node::leaf(0x4160, vec![0; 47])], 10),
     ]
@@ -261,12 +269,16 @@ fn names() -> Vec<Fault> {
     let named = |own| figure(vec![leaf(0x4000, own), Node::leaf(0x1470, vec![])]);
     let material = |own| figure(vec![Node::holding(0xAFFF, vec![], vec![leaf(0xA000, own)])]);
     let grouped = |own| mesh(vec![faces(&[], vec![leaf(0x4130, own)])]);
-    // The zero is found in the child's length, and three bytes are left.
+    // The zero is found in the child's length, and three bytes are left; such a
+    // name is none for a label.
     let run_on = figure(vec![shorter(object("abc", vec![Node::leaf(0x4010, vec![])]))]);
     vec![
         at(&[0, 0], "an object of no bytes", named(b""), 9),
         at(&[0, 0], "an object whose zero stands behind it", named(b"ab"), 9),
-        behind(13, &[0, 0], "a name that runs on", run_on, 6),
+        match LABELS_JUDGED {
+            true => at(&[0, 0], "a name that runs on", run_on, 24),
+            false => behind(13, &[0, 0], "a name that runs on", run_on, 6),
+        },
         at(&[0, 0, 0], "a material of no bytes", material(b""), 9),
         at(&[0, 0, 0], "a material without a zero", material(b"oak"), 9),
         at(&[0, 0, 0], "a byte behind a material's name", material(b"a\0b"), 10),

@@ -5,7 +5,7 @@ use super::Case;
 use crate::boundary::refused;
 use crate::differ::families::Subject;
 use crate::differ::writing::Writing;
-use crate::LIMIT;
+use crate::{LABELS_JUDGED, LIMIT};
 
 /// A writing, and the refusal it gets; without one its size is the answer.
 fn case(name: &str, writing: Writing, refusal: Option<(u32, usize)>) -> Case {
@@ -31,7 +31,7 @@ fn writing(name: &[u8], vertices: &[f32], corners: &[u16]) -> Writing {
 }
 
 pub fn cases() -> Vec<Case> {
-    [rooms(), faults(), long_rows(), sizes()].concat()
+    [rooms(), faults(), texts(), long_rows(), sizes()].concat()
 }
 
 fn rooms() -> Vec<Case> {
@@ -78,6 +78,53 @@ fn faults() -> Vec<Case> {
         .collect()
 }
 
+/// 24 at the first bad byte or at 63, after 9 and before 13; before names are
+/// judged such a name is written.
+fn texts() -> Vec<Case> {
+    let named = |count, at: usize, byte| {
+        let mut name = vec![b'n'; count];
+        name[at] = byte;
+        name
+    };
+    let names = [31, 127, 128, 255].map(|byte| (named(5, 3, byte), 3));
+    let long = [
+        (64, 63, b'~'),
+        (65, 64, 31),
+        (64, 63, 31),
+        (90, 62, 31),
+        (90, 0, 255),
+    ];
+    let long = long.map(|(count, at, byte)| (named(count, at, byte), at.min(63)));
+    let mut cases = Vec::with_capacity(32);
+    for (name, place) in names.into_iter().chain(long) {
+        let said = format!("a writing of the name {name:?}");
+        let refusal = LABELS_JUDGED.then_some((24, place));
+        cases.push(case(&said, writing(&name, &[0.5; 3], &[0; 3]), refusal));
+        let said = format!("{said}, 13 against 24");
+        let refusal = if LABELS_JUDGED { (24, place) } else { (13, 4) };
+        cases.push(case(
+            &said,
+            writing(&name, &[f32::NAN; 4], &[]),
+            Some(refusal),
+        ));
+        let zero = [&name[..], b"..\0"].concat();
+        let said = format!("{said} and 9");
+        cases.push(case(
+            &said,
+            writing(&zero, &[], &[]),
+            Some((9, zero.len() - 1)),
+        ));
+    }
+    for name in [&named(63, 62, b'~')[..], &named(63, 0, b' ')] {
+        cases.push(case(
+            "a writing of the longest name",
+            writing(name, &[], &[]),
+            None,
+        ));
+    }
+    cases
+}
+
 /// Rows as long as they may be, and three more.
 fn long_rows() -> Vec<Case> {
     const MOST: usize = 196_605;
@@ -98,8 +145,9 @@ fn long_rows() -> Vec<Case> {
 /// A size at the limit, and a byte more.
 fn sizes() -> Vec<Case> {
     let sized = |size: usize, corner: u16| {
-        let bare = writing(b"", &[0.0; 3], &[corner; 3]);
-        writing(&vec![b'n'; size - bare.size()], &[0.0; 3], &[corner; 3])
+        let (floats, corners) = ([0.0; 196_605], [corner; 3 * 32_764]);
+        let bare = writing(b"", &floats, &corners);
+        writing(&vec![b'n'; size - bare.size()], &floats, &corners)
     };
     let mut roomless = sized(LIMIT + 1, 0);
     roomless.room = 0;
@@ -107,6 +155,6 @@ fn sizes() -> Vec<Case> {
         case("a writing at the limit", sized(LIMIT, 0), None),
         case("a writing a byte longer", sized(LIMIT + 1, 0), Some((1, 0))),
         case("15 against 1", roomless, Some((1, 0))),
-        case("1 against 12", sized(LIMIT + 1, 1), Some((12, 0))),
+        case("1 against 12", sized(LIMIT + 1, 65_535), Some((12, 0))),
     ]
 }

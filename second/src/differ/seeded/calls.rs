@@ -69,6 +69,10 @@ impl Boundary for Seeded {
     fn write(&self, name: &[u8], vertices: &[f32], corners: &[u16], out: &mut [u8]) -> u64 {
         answer(writer::write(*self, name, vertices, corners, out))
     }
+
+    fn mapping(&self, file: &[u8], mesh: u32, numbers: &mut [u8]) -> u64 {
+        answer(self.mapped(file, mesh, numbers))
+    }
 }
 
 /// Puts bytes at the beginning of a slice, as many as there is room for.
@@ -189,6 +193,26 @@ impl Seeded {
         put(vertices, &mesh.vertices);
         put(corners, &mesh.corners);
         Ok(n + 65_536 * f)
+    }
+
+    fn mapped(self, file: &[u8], mesh: u32, numbers: &mut [u8]) -> Result<usize, Refusal> {
+        let (read, mesh) = self.find(file, mesh)?;
+        let pairs = match self.makes(Error::PairsOfFirst) {
+            true => &read.meshes[0].mapping,
+            false => &read.meshes[mesh].mapping,
+        };
+        let needed = pairs.len() / 4;
+        let part = if self.makes(Error::PairsRoomOfPart) {
+            3
+        } else {
+            0
+        };
+        if (numbers.len() + part) / 4 < needed {
+            let half = self.makes(Error::PairsRoomInVertices);
+            return Err(Number::NoRoom.at(if half { needed / 2 } else { needed }));
+        }
+        put(numbers, pairs);
+        Ok(needed)
     }
 
     /// Fills a few numbers, whose room is judged last.

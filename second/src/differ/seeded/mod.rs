@@ -5,6 +5,8 @@ mod calls;
 mod misread;
 mod own;
 mod reader;
+mod text;
+mod version;
 mod writer;
 
 pub use misread::{errors as misread_rows, Misread};
@@ -62,7 +64,17 @@ errors! {
     WriterRoomOff WriterInfinityAllowed WriterMinusInfinityAllowed WriterCountPlace
     WriterNumberPlace WriterIndexPlace WriterLimitOff WriterLimitNotJudged;
 
-    "next": NextWithoutOne NextIsCount NextOfUnlistedToo NextOfChildrenOnly
+    "next": NextWithoutOne NextIsCount NextOfUnlistedToo NextOfChildrenOnly;
+
+    "labels": TextNotJudged TextOf64 TextOf62 TextSpaceRefused TextTildeRefused Text127Allowed
+    Text128Allowed Text31Allowed TextBeforeName TextAfterLength TextBeforeTwice TextLongBeforeName
+    TextOfGroupsUnjudged TextOfSpotsUnjudged TextOfMaterialsUnjudged TextOfObjectsUnjudged TextPlace
+    TextFirst63Only WriterTextNotJudged WriterTextBeforeName WriterTextAfterCount
+    WriterTextAtFirstBad WriterTextAt63 WriterTextOf64;
+
+    "mapping": VersionAbsentIsNew Version3IsOld Version2IsNew VersionSigned VersionIsAByte VersionOfLast
+    VersionOfAnyLength VersionStopsAtOther VersionBeforeEditOnly VersionInside VersionLostAtBadHeader
+    PairsWithoutList PairsNotCompleted PairsOfOnes PairsOfFirst PairsRoomInVertices PairsRoomOfPart
 }
 
 /// The plain reader, with an error or without.

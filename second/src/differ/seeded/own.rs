@@ -7,7 +7,7 @@ use crate::differ::facts::Mesh;
 use crate::{Number, Own, Refusal, Row};
 
 impl Reader<'_> {
-    /// The length of own data, or 9 or 10.
+    /// The length of own data, or 9, 24 or 10.
     pub fn own(&self, row: Row, at: usize, length: usize) -> Result<usize, Refusal> {
         let body = &self.file[at + 6..at + length];
         let own = match row.own {
@@ -36,7 +36,12 @@ impl Reader<'_> {
         if row.own == Own::Group && own < body.len() && self.makes(Error::IndexBeforeLength) {
             self.group(&body[..own], at)?;
         }
-        match own == body.len() || (own < body.len() && longer) {
+        let fits = own == body.len() || (own < body.len() && longer);
+        if fits && matches!(row.own, Own::Name | Own::Group) {
+            let name = body.split(|byte| *byte == 0).next();
+            self.text(name.unwrap_or_default(), at)?;
+        }
+        match fits {
             true if row.holds == 0 => Ok(body.len()),
             true => Ok(own),
             false if self.number_first(row, body) => Err(Number::Number.at(at)),
@@ -51,7 +56,7 @@ impl Reader<'_> {
         self.makes(Error::NumberBeforeLength) && floats && body.len() > 2 && bad(body)
     }
 
-    /// The length of a name, or 9.
+    /// The length of a name, or 9 or 24.
     fn named(&self, body: &[u8], at: usize, least: usize) -> Result<usize, Refusal> {
         let searched = match self.seeded.error {
             Some(Error::NameBeyondChunk) => &self.file[at + 6..],
@@ -59,11 +64,12 @@ impl Reader<'_> {
         };
         match searched.iter().position(|byte| *byte == 0) {
             Some(0) if self.makes(Error::EmptyNameRefused) => Err(Number::Name.at(at)),
-            Some(zero) => Ok(zero + 1),
+            Some(zero) if self.makes(Error::TextAfterLength) => Ok(zero + 1),
+            Some(zero) => self.text(&searched[..zero], at).map(|()| zero + 1),
             None if self.makes(Error::LengthBeforeName) && body.len() < least => {
                 Err(Number::Length.at(at))
             }
-            None => Err(Number::Name.at(at)),
+            None => Err(self.nameless(body, at)),
         }
     }
 
@@ -88,7 +94,7 @@ impl Reader<'_> {
                 let vertices = floats.to_vec();
                 self.parts.vertices = Some(vertices);
             }
-            Own::Mapping => self.parts.mapping = count(&data).map(|count| (at, count)),
+            Own::Mapping => self.parts.mapping = Some((at, data[2..].to_vec())),
             Own::Group => self.group(&data, at)?,
             Own::Faces => return self.faces(data, at),
             _ => (),
@@ -147,7 +153,7 @@ impl Reader<'_> {
         }
     }
 
-    fn vertices(&self) -> usize {
+    pub fn vertices(&self) -> usize {
         self.parts
             .vertices
             .as_ref()
@@ -179,22 +185,6 @@ impl Reader<'_> {
         }
     }
 
-    /// The count of a 4140.
-    fn mapping(&self) -> Result<(), Refusal> {
-        if self.parts.vertices.is_none() && self.makes(Error::MappingAloneUnjudged) {
-            return Ok(());
-        }
-        let good = |m| match self.seeded.error {
-            Some(Error::MappingAtMost) => m <= self.vertices(),
-            Some(Error::MappingAtLeast) => m >= self.vertices(),
-            _ => m == self.vertices(),
-        };
-        match self.parts.mapping {
-            Some((at, m)) if !good(m) => Err(Number::Count.at(at)),
-            _ => Ok(()),
-        }
-    }
-
     /// The end of a mesh.
     pub fn close(&mut self, at: usize) -> Result<(), Refusal> {
         match self.seeded.error {
@@ -221,12 +211,32 @@ impl Reader<'_> {
         let faces = parts.faces.chunks_exact(8);
         let mut corners: Vec<u8> = faces.flat_map(|face| face[..words].to_vec()).collect();
         corners.truncate(parts.faces.len() / 8 * 6);
+        let vertices = parts.vertices.unwrap_or_default();
+        let mapping = self.completed(parts.mapping, vertices.len() / 12 * 8);
         self.read.meshes.push(Mesh {
-            vertices: parts.vertices.unwrap_or_default(),
+            vertices,
             corners,
+            mapping,
             name: self.name,
         });
         Ok(())
+    }
+}
+
+impl Reader<'_> {
+    /// The mapping table of so many bytes: what is missing is zero, and without a
+    /// 4140 there is none.
+    fn completed(&self, pairs: Option<(usize, Vec<u8>)>, bytes: usize) -> Vec<u8> {
+        let all = self.makes(Error::PairsWithoutList);
+        let Some((_, mut pairs)) = pairs.or(all.then_some((0, vec![]))) else {
+            return vec![];
+        };
+        match self.seeded.error {
+            Some(Error::PairsNotCompleted) => (),
+            Some(Error::PairsOfOnes) => pairs.resize(bytes, 0x3F),
+            _ => pairs.resize(bytes, 0),
+        }
+        pairs
     }
 }
 

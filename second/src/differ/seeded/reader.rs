@@ -22,7 +22,7 @@ pub struct Parts {
     pub vertices: Option<Vec<u8>>,
     pub faces: Vec<u8>,
     pub faces_at: usize,
-    pub mapping: Option<(usize, usize)>,
+    pub mapping: Option<(usize, Vec<u8>)>,
     /// A refusal put off to the mesh's end, by mistake.
     pub put_off: Option<Refusal>,
 }
@@ -107,7 +107,7 @@ impl Reader<'_> {
         usize::from(self.file[at]) + 256 * usize::from(self.file[at + 1])
     }
 
-    fn length(&self, at: usize) -> usize {
+    pub fn length(&self, at: usize) -> usize {
         let more = if self.makes(Error::LengthExcludesHeader) {
             6
         } else {
@@ -213,8 +213,10 @@ impl Reader<'_> {
         if self.makes(Error::TwiceEachAlone) && row.under == place::H4000 && once != 0 {
             once = 1 << (self.word(at) >> 8 & 7);
         }
-        if self.makes(Error::LengthBeforeTwice) {
-            self.own(row, at, length)?;
+        let own = self.own(row, at, length);
+        let text = own.is_err_and(|refusal| refusal.number == Number::Text as u32);
+        if self.makes(Error::LengthBeforeTwice) || text && self.makes(Error::TextBeforeTwice) {
+            own?;
         }
         let name = self.word(at) == 0xA000 && self.makes(Error::TwiceAcrossParents);
         if once & *met != 0 || (name && self.met_in_file != 0) {

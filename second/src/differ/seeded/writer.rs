@@ -4,7 +4,7 @@
 use super::{Error, Seeded};
 use crate::differ::build::{figure, meshed};
 use crate::differ::node::Node;
-use crate::{Number, Refusal, LIMIT};
+use crate::{Number, Refusal, LABELS_JUDGED, LIMIT};
 
 /// Writes a figure into lent bytes.
 pub fn write(
@@ -46,7 +46,10 @@ pub fn write(
 
 /// The refusals of the writer, but for the size.
 fn judge(seeded: Seeded, name: &[u8], vertices: &[f32], corners: &[u16]) -> Result<(), Refusal> {
-    let zero = zero(seeded, name);
+    let (zero, text) = (zero(seeded, name), text(seeded, name));
+    if seeded.makes(Error::WriterTextBeforeName) {
+        text.and(zero)?;
+    }
     let count = count(seeded, [vertices.len(), corners.len()]);
     if seeded.makes(Error::WriterCountBeforeName) {
         count.and(zero)?;
@@ -57,12 +60,15 @@ fn judge(seeded: Seeded, name: &[u8], vertices: &[f32], corners: &[u16]) -> Resu
         _ => float.is_finite(),
     };
     let float = vertices.iter().position(|float| !good(float));
-    if let (Some(float), Ok(())) = (float, zero) {
+    if let (Some(float), Ok(())) = (float, zero.and(text)) {
         if seeded.makes(Error::WriterNumberBeforeCount) {
             return Err(Number::Number.at(float));
         }
     }
-    zero.and(count)?;
+    match seeded.makes(Error::WriterTextAfterCount) {
+        true => zero.and(count).and(text)?,
+        false => zero.and(text).and(count)?,
+    }
     let n = vertices.len() / 3 + usize::from(seeded.makes(Error::WriterIndexAtCount));
     let corner = corners.iter().position(|corner| usize::from(*corner) >= n);
     match (float, corner) {
@@ -87,6 +93,23 @@ fn zero(seeded: Seeded, name: &[u8]) -> Result<(), Refusal> {
     match name.iter().position(|byte| *byte == 0) {
         Some(zero) => Err(Number::Name.at(zero + off)),
         None => Ok(()),
+    }
+}
+
+/// 24 for a name that no label takes.
+fn text(seeded: Seeded, name: &[u8]) -> Result<(), Refusal> {
+    let most = 63 + usize::from(seeded.makes(Error::WriterTextOf64));
+    let long = (name.len() > most).then_some(most);
+    let bad = name.iter().position(|byte| !(32..127).contains(byte));
+    let first = match seeded.error {
+        Some(Error::WriterTextNotJudged) => None,
+        Some(Error::WriterTextAtFirstBad) => bad.or(long),
+        Some(Error::WriterTextAt63) => long.or(bad),
+        _ => bad.into_iter().chain(long).min(),
+    };
+    match first {
+        Some(first) if LABELS_JUDGED => Err(Number::Text.at(first)),
+        _ => Ok(()),
     }
 }
 

@@ -81,7 +81,10 @@ pub fn entries<L: Slips, R: Slips>(
 ) -> Result<u64, Difference> {
     let length = random.below(600);
     // Of few different bytes, so that names are often alike.
-    let names: Vec<u8> = (0..length).map(|_| random.pick(b"aab")).collect();
+    let mut names: Vec<u8> = (0..length).map(|_| random.pick(b"aab")).collect();
+    if length > 0 && random.chance(15) {
+        names[random.below(length)] = random.pick(&[0, 31, 32, 126, 127, 128, 255]);
+    }
     let count = match random.below(40) {
         0 => random.from_to(995, 1_003),
         _ => random.below(6),

@@ -8,7 +8,9 @@ listed! {
     Error, ERRORS:
     SumOf255Read RepeatsRead EmptyNameRead CountMissingAtHead LeftOverAtHead CountUnlimited
     NameOffsetOfEntry RoomOfPart RoomFirst PartOfEntryLost RepeatsWritten ThousandthRefused
-    BadEntryAfterMany WritesBeforeRefusing
+    BadEntryAfterMany WritesBeforeRefusing;
+
+    "labels": TextNotJudged LongNotJudged TextBeforeSlip TextAtName TextWritten TextWrittenPlace
 }
 
 /// This library, with an error or without.
@@ -29,6 +31,11 @@ impl Slips for Erring {
                     false => u64::from(needed),
                 }
             }
+            (Some(Error::TextBeforeSlip), Some((18, place))) => {
+                let text = unfit(slip, place as usize);
+                text.map_or(refused(18, place as usize), |at| refused(24, at))
+            }
+            (Some(error), Some((24, place))) => mistext(error, slip, place as usize),
             (_, Some((18, place))) => self.misread(slip, place as usize, entries),
             (_, None) if self.error == Some(Error::NameOffsetOfEntry) => {
                 let answer = Second.slip_read(slip, entries);
@@ -45,6 +52,8 @@ impl Slips for Erring {
         let count = whole.len() / ENTRY_BYTES;
         match (self.error, refusal(answer)) {
             (Some(Error::PartOfEntryLost), Some(_)) => Second.slip_write(names, whole, out),
+            (Some(Error::TextWritten), Some((24, _))) => refused(15, 7),
+            (Some(Error::TextWrittenPlace), Some((24, number))) => refused(24, number as usize + 1),
             (Some(Error::ThousandthRefused), _) if count == 1_000 => refused(18, 999),
             (Some(Error::BadEntryAfterMany), Some((18, _))) if count > 1_000 => refused(18, 1_000),
             (Some(Error::RepeatsWritten), Some((18, number))) => {
@@ -59,6 +68,31 @@ impl Slips for Erring {
             _ => answer,
         }
     }
+}
+
+/// A slip whose name at a place no label takes, judged wrongly.
+fn mistext(error: Error, slip: &[u8], place: usize) -> u64 {
+    let count = u64::from(u16::from_be_bytes([slip[5], slip[6]]));
+    let name = &slip[place + 1..][..usize::from(slip[place])];
+    match error {
+        Error::TextNotJudged => count,
+        Error::LongNotJudged if name.iter().all(|byte| (32..127).contains(byte)) => count,
+        Error::TextAtName => refused(24, place + 1),
+        _ => refused(24, place),
+    }
+}
+
+/// The first entry before a place that has a name which no label takes.
+fn unfit(slip: &[u8], place: usize) -> Option<usize> {
+    let mut at = 7;
+    while at < place {
+        let name = &slip[at + 1..][..usize::from(slip[at])];
+        if name.len() > 63 || name.iter().any(|byte| !(32..127).contains(byte)) {
+            return Some(at);
+        }
+        at += 7 + name.len();
+    }
+    None
 }
 
 impl Erring {

@@ -1,6 +1,8 @@
 //! Slips grown at random: right ones, and ones with a fault put in.
 
+use crate::differ::names;
 use crate::differ::random::Random;
+use crate::LABELS_JUDGED;
 
 /// A slip before it is bytes.
 #[derive(Clone, Debug)]
@@ -65,7 +67,7 @@ impl Draft {
         let which = random.below(count.max(1));
         let other = random.below(count.max(1));
         let name = self.entries.get(other).map(|entry| entry.name.clone());
-        match (random.below(7), self.entries.get_mut(which)) {
+        match (random.below(8), self.entries.get_mut(which)) {
             (0, _) => self.version = random.pick(&[0, 2, 3, 128, 255]),
             (1, _) => self.length_off = random.pick(&[1, u32::MAX, 256, 5, 0xFFFF_FFFB, 1 << 24]),
             (2, _) => self.count_off = random.pick(&[1, 2, u16::MAX, 256, 1_000, 1_001, 0x8000]),
@@ -73,6 +75,7 @@ impl Draft {
             (4, Some(entry)) => entry.sums[other % 2] = 255,
             (5, Some(entry)) => entry.name.clear(),
             (6, Some(entry)) => entry.name = name.unwrap_or_default(),
+            (7, Some(entry)) => names::spoil(&mut entry.name, random),
             _ => (),
         }
     }
@@ -98,12 +101,18 @@ impl Draft {
 impl Entry {
     /// An entry whose name is like no other's, as its number is in it.
     fn any(number: usize, random: &mut Random) -> Entry {
+        let most = if LABELS_JUDGED { names::MOST } else { 255 } - 2;
         let length = match random.below(30) {
-            0 => 253,
-            1 => random.below(253),
+            0 => most,
+            1 => random.below(most),
             _ => random.below(4),
         };
-        let name = [&(number as u16).to_be_bytes()[..], &random.bytes(length)].concat();
+        let rest = match LABELS_JUDGED {
+            true => names::name(length, random),
+            false => random.bytes(length),
+        };
+        let number = [number / 64, number % 64].map(|digit| 32 + digit as u8);
+        let name = [&number[..], &rest].concat();
         let sums = [0, 1].map(|_| match random.below(5) {
             0 => random.pick(&[0, 254]),
             _ => random.below(255) as u8,
