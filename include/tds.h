@@ -93,7 +93,7 @@ enum tds_refusal {
     TDS_LENGTH = 10,       /* a chunk too long or too short for what it holds */
     TDS_NUMBER = 11,       /* an infinite coordinate, or one that is not a number */
     TDS_INDEX = 12,        /* a corner or face number that does not exist */
-    TDS_COUNT = 13,        /* mapping coordinates whose count is not that of the vertices */
+    TDS_COUNT = 13,        /* more mapping pairs than vertices; from version 3 on, or fewer */
     TDS_MISSING = 14,      /* a chunk that must be there is not (place: the chunk around it) */
     TDS_NO_ROOM = 15,      /* a lent slice is too small (place: records, numbers, parts needed) */
     TDS_NO_SUCH_MESH = 16, /* the file is good but has no such mesh (place: how many it has) */
@@ -208,6 +208,21 @@ uint64_t tds_records(const uint8_t *file, size_t file_len, uint32_t *row, size_t
  */
 uint64_t tds_tables(const uint8_t *file, size_t file_len, uint32_t mesh, uint8_t *vertices,
                     size_t vertices_len, uint8_t *corners, size_t corners_len);
+
+/*
+ * The mapping of one mesh: a pair of texture coordinates for each vertex.
+ *
+ * Fills two floats u, v for each vertex (8 bytes a vertex), in the order of the vertices; none
+ * where the mesh has no mapping (no 4140). Answers how many numbers were filled, 2 * vertices or 0;
+ * or refuses with 1 to 14; 16 with the count of meshes; or 15 with the numbers needed (place). Room
+ * is mapping_len / 4 numbers.
+ *
+ * Figures of versions below 3, and those that tell no version, may have fewer pairs than vertices:
+ * the missing ones are filled with zeros. The version of a file is that of its first 0002 of 10
+ * bytes among the chunks directly in 4D4D.
+ */
+uint64_t tds_mapping(const uint8_t *file, size_t file_len, uint32_t mesh, uint8_t *mapping,
+                     size_t mapping_len);
 
 /*
  * Where the bytes of a file went.

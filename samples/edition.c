@@ -16,16 +16,25 @@ const struct tool edition[] = {
     {NULL, NULL},
 };
 
+const struct tool older[] = {
+    {"gouge.3ds", make_gouge},
+    {NULL, NULL},
+};
+
 /* What most figures begin with: 4D4D with the version, 3D3D with the version of its mesh part. */
-static void open_figure(struct figure *figure) {
+static void open_version(struct figure *figure, uint32_t version) {
     open_chunk(figure, 0x4D4D);
     open_chunk(figure, 0x0002);
-    put_number(figure, 3);
+    put_number(figure, version);
     close_chunk(figure);
     open_chunk(figure, 0x3D3D);
     open_chunk(figure, 0x3D3E);
-    put_number(figure, 3);
+    put_number(figure, version);
     close_chunk(figure);
+}
+
+static void open_figure(struct figure *figure) {
+    open_version(figure, 3);
 }
 
 static void close_figure(struct figure *figure) {
@@ -212,4 +221,14 @@ void make_vice(struct figure *figure) {
     close_chunk(figure);
     put_keyframer(figure);
     close_chunk(figure);
+}
+
+void make_gouge(struct figure *figure) {
+    static const int blade[][2] = {{0, 4}, {60, 6}, {180, 12}, {190, 12}};
+    static const int handle[][2] = {{0, 10}, {20, 14}, {110, 12}, {120, 8}};
+    struct extras some = {.mapping = 1, .unmapped = 5}, none = {0};
+    open_version(figure, 2);
+    put_turned(figure, "blade", (struct point){0, 0, 0}, 0, blade, LENGTH(blade), &some);
+    put_turned(figure, "handle", (struct point){-120, 0, 0}, 0, handle, LENGTH(handle), &none);
+    close_figure(figure);
 }

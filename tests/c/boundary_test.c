@@ -8,6 +8,7 @@
 #include <sys/mman.h>
 
 #include "cases.h"
+#include "mapping_cases.h"
 #include "mesh_cases.h"
 #include "parts_cases.h"
 #include "slices.h"
@@ -337,6 +338,7 @@ int main(void) {
     each_case(try_case);
     each_case(try_huge_file);
     try_meshes();
+    try_mappings();
     try_parts();
     try_writer();
     try_slips();

@@ -14,11 +14,7 @@ ghost use Rattle.studio_marks.specs.Marks.{free, noted, MissingIs, EndIs
 fn counted(n: u32) -> u32
     ensures { λ r. ⌜ r ≡ min (n + 1) root ⌝ }
 {
-    if n < 65535 {
-        n + 1
-    } else {
-        65535
-    }
+    if n < 65535 { n + 1 } else { 65535 }
 }
 
 // Notes the chunk of a row at an offset in its slot; false where the slot was taken. A chunk of no group is counted, as far

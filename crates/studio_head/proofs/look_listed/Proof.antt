@@ -60,8 +60,7 @@ returns-2 c =
     let x = c .before .before .before .before .before .before .before .before in
     let g = c .before .before .before .before .size .given in
     let f = judged-ends (x .args .file .now) (x .args .at) (x .args .id) (x .args .stop) (x .args .count) (x .pre .0) (x .pre .1) (x .pre .2) _ (x .pre .3) (c .before .before .before .before .before .before .judge .ensures) (g .0 .0) (g .1) in
-    let pl = sym (plus-is (x .args .id) (x .pre .3)) ∙ ap plusIn (sym (x .pre .4)) ∙ sym (c .before .before .may-have-children .ensures) ∙ c .before .if1 .taken in
-    (
+    let pl = sym (plus-is (x .args .id) (x .pre .3)) ∙ ap plusIn (sym (x .pre .4)) ∙ sym (c .before .before .may-have-children .ensures) ∙ c .before .if1 .taken in (
       λ p seen rest u h o. subst (λ (y : Step). HeadIs p seen (x .args .at) y (Head.Enter (x .args .id) (x .args .row) (c .bound-inside .result) (x .args .at + 6 + g .0 .0) (x .args .stop)))
           (sym (opened-enters p seen (x .args .at) (x .args .id) (slice (x .args .at + 6) (x .args .stop) (x .args .file .now)) rest (g .0 .0)
           (subst (Judges p (x .args .at) (x .args .id) (slice (x .args .at + 6) (x .args .stop) (x .args .file .now))) (g .1) (c .before .before .before .before .before .before .judge .ensures p u h))))
