@@ -14,14 +14,16 @@
  * You need check nothing beforehand: any bytes of any length have an answer.
  *
  * SLICES. Each pointer is followed by the length of what it points to. It may have any alignment
- * where it points to bytes, and (NULL, 0) is an empty slice. The slices of a call must not overlap:
+ * where it points to bytes, and (NULL, 0) is an empty slice. NULL with a length above 0 is not: as
+ * with any pointer to less memory than its length says, nothing looks for it, and the program will
+ * mostly end there. The slices of a call must not overlap:
  * neither two slices lent to be filled, nor one of them and the file (or, for the calls that write,
  * what is to be written). The slices that are only read may overlap one another.
  *
  * ANSWERS. Each call answers one 64-bit number. Below 2^32 it is the answer proper, as each call
  * says; from 2^32 on it is a refusal: its number (enum tds_refusal) times 2^32, plus its place. The
- * macros TDS_REFUSED, TDS_REFUSAL and TDS_PLACE take it apart. (tds_sum_add and tds_sum_join alone
- * never refuse: all 64 bits of theirs are the answer.)
+ * macros TDS_REFUSED, TDS_REFUSAL and TDS_PLACE take it apart; tds_words.h has the numbers in
+ * words. (tds_sum_add and tds_sum_join alone never refuse: all 64 bits of theirs are the answer.)
  *
  * WHAT IS FILLED. Numbers go out little-endian, on every machine: four bytes each, corners two
  * bytes. Floats are the 4 bytes of an IEEE 754 single, bit for bit as in the file. tds_get2,
@@ -34,6 +36,12 @@
  * WHAT IS NEVER DONE. No call allocates memory, keeps or uses any state between calls, reads
  * anything but the slices it was given, writes anything but the slices it was lent, touches files,
  * prints, or ends the program. So all calls may be made from any number of threads at once.
+ *
+ * COST. Every call is linear in the lengths it is given, whatever is in the bytes; only the two
+ * calls about a whole slip compare names two by two, which takes 0.1 s at worst. Each call that
+ * reads a figure checks all of it first, in less than a millisecond for the longest: tds_list,
+ * tds_records and those about one mesh take up to twice that. tds_sum_join and tds_sum_matches read
+ * no bytes. Stack: a few kilobytes.
  *
  * ORDER OF REFUSALS. First what is wrong with the file (1 to 14; the first fault met, walking the
  * file from its start, a chunk's own faults before those inside it); then 16; then 17; then 15. So
@@ -52,6 +60,15 @@
 #ifdef __cplusplus
 extern "C" {
 #endif
+
+/*
+ * The version of this header, 65536 * major + 256 * minor + patch; tds_version answers that of the
+ * library, in the same way. Where the major numbers differ a program must not go on: memory that is
+ * lent may be filled in another way than it was built for. (Version 1 had six numbers a record, and
+ * no tds_version.) CHANGELOG.md says what came with each.
+ */
+#define TDS_VERSION (65536 * 2 + 256 * 1 + 0)
+uint64_t tds_version(void);
 
 /* No file longer than this is a figure. One byte more is enough to hand to tds_check to be told. */
 #define TDS_LONGEST_FILE 1048576
@@ -112,11 +129,13 @@ uint64_t tds_check(const uint8_t *file, size_t file_len);
  * Answers the count of records and fills as many, from the start of the slice; or refuses with 1 to
  * 14, or 15 with the records needed (place). Room is records_len / TDS_RECORD_BYTES records.
  *
- * A record is six numbers, in the order of enum tds_record; tds_get_record reads one of them.
+ * A record is seven numbers, in the order of enum tds_record; tds_get_record reads one of them. The
+ * last is for stepping over a branch: the records inside a chunk, at any depth, are those with a
+ * number above its own and below its TDS_RECORD_NEXT.
  */
 uint64_t tds_list(const uint8_t *file, size_t file_len, uint8_t *records, size_t records_len);
 
-#define TDS_RECORD_NUMBERS 6
+#define TDS_RECORD_NUMBERS 7
 #define TDS_RECORD_BYTES (4 * TDS_RECORD_NUMBERS)
 
 enum tds_record {
@@ -125,10 +144,11 @@ enum tds_record {
     TDS_RECORD_LENGTH = 2, /* its length, with its header and all that is inside it */
     TDS_RECORD_DEPTH = 3,  /* 0 for 4D4D, 1 for the chunks in it, and so on */
     TDS_RECORD_PARENT = 4, /* the record number, from 0, of the chunk around it; 0 for 4D4D */
-    TDS_RECORD_OWN = 5     /* bytes of its own data: no header, no chunks inside it */
+    TDS_RECORD_OWN = 5,    /* bytes of its own data: no header, no chunks inside it */
+    TDS_RECORD_NEXT = 6    /* its own number, plus one, plus the count of records inside it */
 };
 
-/* One record of the list as a struct: the same six numbers, in the same order. */
+/* One record of the list as a struct: the same seven numbers, in the same order. */
 struct tds_chunk {
     uint32_t identifier;
     uint32_t offset;
@@ -136,6 +156,7 @@ struct tds_chunk {
     uint32_t depth;
     uint32_t parent;
     uint32_t own;
+    uint32_t next;
 };
 
 /*
@@ -145,9 +166,9 @@ struct tds_chunk {
  * table_len are in elements, and both are the machine's own numbers, aligned as the language wants
  * them; file_len is bytes. Room is what both have room for: the smaller of row_len /
  * TDS_RECORD_NUMBERS and table_len records. Answers the count of records and fills as many from the
- * start of the table, and the same numbers, six a record, from the start of the row; what is behind
- * keeps its contents. Or refuses with 1 to 14, or 15 with the records needed (place), and changes
- * neither.
+ * start of the table, and the same numbers, seven a record, from the start of the row; what is
+ * behind keeps its contents. Or refuses with 1 to 14, or 15 with the records needed (place), and
+ * changes neither.
  */
 uint64_t tds_records(const uint8_t *file, size_t file_len, uint32_t *row, size_t row_len,
                      struct tds_chunk *table, size_t table_len);

@@ -145,6 +145,7 @@ static void look_at_file(struct check *check, const struct entry *entry) {
     struct subject subject = {.path = entry->path,
                               .below = below,
                               .kind = kind_of(entry->path),
+                              .format = format_of(last_name(entry->path)),
                               .list = check->report->style->list,
                               .master = master,
                               .entry = presence_meet(&check->on_slip, below)};
@@ -154,8 +155,9 @@ static void look_at_file(struct check *check, const struct entry *entry) {
     } else if (check->in_folder && is_slip(below)) {
         look_at_slip(check, &subject);
     } else {
-        if (!check->in_folder && subject.kind != KIND_NO_READER) {
-            subject.kind = KIND_FIGURE; /* it was asked for, whatever its name */
+        if (!check->in_folder && subject.format == NULL) { /* it was asked for, whatever its name */
+            subject.kind = KIND_FIGURE;
+            subject.format = studio_format();
         }
         judge_file(check, &subject);
     }

@@ -10,7 +10,7 @@
 #include "tds.h"
 
 enum { LONGEST_NAME = 63 };
-#define BAD_NAME ((uint64_t)24 << 32) /* TEXT, of document 02 */
+#define BAD_NAME ((uint64_t)24 << 32) /* TEXT */
 
 bool is_slip(const char *below) {
     return strcasecmp(below, SLIP_NAME) == 0;

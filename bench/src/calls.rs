@@ -3,7 +3,7 @@
 
 use crate::figures::{corners, vertices, Figure};
 use crate::measure::{both, Times};
-use second::boundary::{refusal, Boundary, Right};
+use second::boundary::{refusal, Boundary, Right, RECORD_BYTES};
 use second::Refusal;
 use std::hint::black_box;
 
@@ -33,10 +33,10 @@ impl Lent {
     pub fn new() -> Lent {
         let (records, numbers) = (second::LIMIT / 6, 196_605);
         Lent {
-            row: vec![0; 6 * records],
+            row: vec![0; second::RECORD * records],
             floats: vec![0.0; numbers],
             words: vec![0; numbers],
-            records: vec![0; 24 * records],
+            records: vec![0; RECORD_BYTES * records],
             vertices: vec![0; 4 * numbers],
             corners: vec![0; 2 * numbers],
         }

@@ -23,7 +23,7 @@ pub use c4d::{read_c4d, C4d};
 pub use cob::{read_cob, Cob, CobMesh, CobRecord};
 pub use figures::{write_figure, Figure, Group, Material, Object};
 pub use judge::{check, Counts};
-pub use list::list;
+pub use list::{list, record};
 pub use refusal::{Number, Refusal};
 pub use slip::{read_slip, write_slip, Entry, LABELS_JUDGED, MOST as MOST_ENTRIES};
 pub use sums::{sums, Sums};
@@ -37,5 +37,5 @@ pub const HEADER: usize = 6;
 /// The most bytes a figure may have.
 pub const LIMIT: usize = 1_048_576;
 
-/// The 32-bit numbers of one record in the list.
-pub const RECORD: usize = 6;
+/// The 32-bit numbers of one record in the list: seven with Q-9, else six.
+pub const RECORD: usize = if cfg!(feature = "next") { 7 } else { 6 };

@@ -1,4 +1,4 @@
-//! The list of known chunks: six numbers a record, into a lent row. The
+//! The list of known chunks, so many numbers a record, into a lent row. The
 //! first pass judges and counts, the second fills and judges nothing.
 
 use crate::bytes::{first_word, header, name_length};
@@ -40,23 +40,30 @@ impl Filling<'_> {
                     _ => own_before_children(row.own, body),
                 };
                 let number = self.number;
-                let (here, parent) = (at as u32, parent as u32);
-                self.row[number] = [
-                    u32::from(identifier),
-                    here,
-                    length as u32,
-                    depth,
-                    parent,
-                    own as u32,
-                ];
                 self.number += 1;
                 if own < body.len() {
                     self.run(at + HEADER + own, at + length, number, depth + 1);
                 }
+                self.row[number] = record([
+                    u32::from(identifier),
+                    at as u32,
+                    length as u32,
+                    depth,
+                    parent as u32,
+                    own as u32,
+                    self.number as u32,
+                ]);
             }
             at += length;
         }
     }
+}
+
+/// A record of its numbers: identifier, offset, length, depth, parent, own
+/// data, and the number of the next record that is not inside it.
+#[inline(always)]
+pub fn record(numbers: [u32; 7]) -> [u32; RECORD] {
+    std::array::from_fn(|which| numbers[which])
 }
 
 /// The own data of a chunk that children may follow, already judged.

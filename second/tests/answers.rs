@@ -3,7 +3,7 @@
 
 mod common;
 use common::{chunk, faces, figure, object, pair, triangle, vertices};
-use second::{bounding_box, list, name, tables};
+use second::{bounding_box, list, name, record, tables, RECORD};
 
 /// Two meshes: one point and a face in the first, nothing in the second.
 fn two() -> Vec<u8> {
@@ -39,21 +39,39 @@ fn room_is_judged_last_and_in_numbers() {
 #[test]
 fn a_record_in_part_is_no_room() {
     let file = figure(&[]);
-    let mut row = [7; 13];
-    assert_eq!(list(&file, &mut row[..11]).map_err(pair), Err((15, 2)));
-    assert_eq!(row, [7; 13]);
+    let mut row = [7; 2 * RECORD + 1];
+    let short = &mut row[..2 * RECORD - 1];
+    assert_eq!(list(&file, short).map_err(pair), Err((15, 2)));
+    assert_eq!(row, [7; 2 * RECORD + 1]);
     assert_eq!(list(&file, &mut row).unwrap().records, 2);
-    assert_eq!(row, [0x4D4D, 0, 12, 0, 0, 0, 0x3D3D, 6, 6, 1, 0, 0, 7]);
+    let figure = record([0x4D4D, 0, 12, 0, 0, 0, 2]);
+    let edit = record([0x3D3D, 6, 6, 1, 0, 0, 2]);
+    assert_eq!(row[..], [&figure[..], &edit, &[7]].concat());
 }
 
 #[test]
 fn groups_and_their_depth_are_listed() {
     let group = chunk(0x4130, &[b"steel\0\x01\0\0\0"]);
     let file = common::mesh(&[&vertices(&[0.0; 3]), &faces(&[[0; 3]], &[&group])]);
-    let mut row = [0; 42];
+    let mut row = [0; 7 * RECORD];
     assert_eq!(list(&file, &mut row).unwrap().records, 7);
-    assert_eq!(row[30..36], [0x4120, 45, 32, 4, 3, 10]);
-    assert_eq!(row[36..], [0x4130, 61, 16, 5, 5, 10]);
+    let last = [
+        record([0x4120, 45, 32, 4, 3, 10, 7]),
+        record([0x4130, 61, 16, 5, 5, 10, 7]),
+    ];
+    assert_eq!(row[5 * RECORD..], *last.as_flattened());
+}
+
+#[test]
+#[cfg(feature = "next")]
+fn a_record_says_where_its_branch_ends() {
+    let private = chunk(0x8123, &[b"1041"]);
+    let file = figure(&[&chunk(0x1470, &[]), &private, &two()[12..]]);
+    let mut row = [0; 20 * RECORD];
+    let records = list(&file, &mut row).unwrap().records;
+    let next: Vec<u32> = row.chunks(RECORD).map(|record| record[6]).collect();
+    // 4D4D, 3D3D, 1470; 4000, 4100, 4120, 4110; 4000, 4600; 4000, 4100
+    assert_eq!(next[..records], [11, 11, 3, 7, 7, 6, 7, 9, 9, 11, 11]);
 }
 
 #[test]

@@ -3,7 +3,8 @@
 
 mod common;
 use common::triangle;
-use second::boundary::{refusal, refused, Boundary, Chunk, Second};
+use second::boundary::{refusal, refused, Boundary, Chunk, Second, RECORD_BYTES};
+use second::{record, RECORD};
 
 #[test]
 fn answers_are_numbers() {
@@ -28,31 +29,35 @@ fn answers_are_numbers() {
 #[test]
 fn a_part_is_no_room() {
     let file = triangle();
-    let mut records = [7; 150];
-    assert_eq!(Second.list(&file, &mut records[..143]), (15 << 32) + 6);
-    assert_eq!(records, [7; 150]);
+    const ROOM: usize = 6 * RECORD_BYTES;
+    let mut records = [7; ROOM + 6];
+    assert_eq!(Second.list(&file, &mut records[..ROOM - 1]), (15 << 32) + 6);
+    assert_eq!(records, [7; ROOM + 6]);
     assert_eq!(Second.list(&file, &mut records), 6);
     assert_eq!(records[..8], [0x4D, 0x4D, 0, 0, 0, 0, 0, 0]);
-    assert_eq!(records[120..128], [0x20, 0x41, 0, 0, 70, 0, 0, 0]);
-    assert_eq!(records[144..], [7; 6]);
+    let last = &records[5 * RECORD_BYTES..ROOM];
+    assert_eq!(last[..8], [0x20, 0x41, 0, 0, 70, 0, 0, 0]);
+    assert_eq!(records[ROOM..], [7; 6]);
 }
 
 #[test]
 fn the_row_and_the_table_both_have_room() {
     let file = triangle();
-    let mut row = [7; 40];
-    let mut table = [Chunk::from([7; 6]); 7];
-    for (n, m) in [(35, 7), (40, 5), (0, 7), (40, 0)] {
+    const ROOM: usize = 6 * RECORD;
+    let seven = Chunk::from([7; RECORD]);
+    let (mut row, mut table) = ([7; ROOM + 4], [seven; 7]);
+    for (n, m) in [(ROOM - 1, 7), (ROOM + 4, 5), (0, 7), (ROOM + 4, 0)] {
         let answer = Second.records(&file, &mut row[..n], &mut table[..m]);
         assert_eq!(answer, (15 << 32) + 6);
     }
     assert_eq!(Second.records(&[], &mut row, &mut table), 2 << 32);
-    assert_eq!((row, table), ([7; 40], [Chunk::from([7; 6]); 7]));
+    assert_eq!((row, table), ([7; ROOM + 4], [seven; 7]));
     assert_eq!(Second.records(&file, &mut row, &mut table), 6);
-    assert_eq!(row[30..], [0x4120, 70, 16, 4, 3, 10, 7, 7, 7, 7]);
-    assert_eq!(table[0], Chunk::from([0x4D4D, 0, 86, 0, 0, 0]));
-    assert_eq!(<[u32; 6]>::from(table[5]), row[30..36]);
-    assert_eq!(table[6], Chunk::from([7; 6]));
+    let (first, last) = ([0x4D4D, 0, 86, 0, 0, 0, 6], [0x4120, 70, 16, 4, 3, 10, 6]);
+    assert_eq!(row[5 * RECORD..], [&record(last)[..], &[7; 4]].concat());
+    assert_eq!(table[0], Chunk::from(record(first)));
+    assert_eq!(<[u32; RECORD]>::from(table[5]), record(last));
+    assert_eq!(table[6], seven);
 }
 
 #[test]

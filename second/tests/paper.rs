@@ -3,7 +3,7 @@
 
 mod common;
 use common::{chunk, counts, hex, pair, refusal, triangle};
-use second::{bounding_box, check, list, name, tables};
+use second::{bounding_box, check, list, name, record, tables, RECORD};
 
 const P4: &str = "4D4D 0C000000 3D3D 06000000";
 
@@ -44,9 +44,9 @@ fn p8_to_p11() {
     let mut p10 = file.clone();
     p10[32] = 4;
     assert_eq!(refusal(&p10), (10, 26));
-    let mut row = [7; 35];
+    let mut row = [7; 6 * RECORD - 1];
     assert_eq!(list(&file, &mut row).map_err(pair), Err((15, 6)));
-    assert_eq!(row, [7; 35]);
+    assert_eq!(row, [7; 6 * RECORD - 1]);
 }
 
 #[test]
@@ -59,9 +59,10 @@ fn p12() {
     }
     assert_eq!(file.len(), 96);
     assert_eq!(counts(&file), (36, 50, 10));
-    let mut row = [0; 36];
+    let mut row = [0; 6 * RECORD];
     assert_eq!(list(&file, &mut row).unwrap().records, 6);
-    assert_eq!(row[18..24], [0x4100, 30, 66, 3, 2, 0]);
+    let mesh = record([0x4100, 30, 66, 3, 2, 0, 6]);
+    assert_eq!(row[3 * RECORD..4 * RECORD], mesh);
     assert_eq!(table_of(&file), table_of(&triangle()));
     assert_eq!(name(&file, 0), Ok((18, 1)));
 }
@@ -76,19 +77,20 @@ fn table_of(file: &[u8]) -> (Vec<u32>, [u16; 4]) {
 #[test]
 fn the_triangles_list_and_tables() {
     let file = triangle();
-    let mut row = [7; 40];
+    let mut row = [7; 6 * RECORD + 4];
     let counts = list(&file, &mut row).unwrap();
     assert_eq!(Ok(counts), check(&file));
     let expected = [
-        [0x4D4D, 0, 86, 0, 0, 0],
-        [0x3D3D, 6, 80, 1, 0, 0],
-        [0x4000, 12, 74, 2, 1, 2],
-        [0x4100, 20, 66, 3, 2, 0],
-        [0x4110, 26, 44, 4, 3, 38],
-        [0x4120, 70, 16, 4, 3, 10],
+        [0x4D4D, 0, 86, 0, 0, 0, 6],
+        [0x3D3D, 6, 80, 1, 0, 0, 6],
+        [0x4000, 12, 74, 2, 1, 2, 6],
+        [0x4100, 20, 66, 3, 2, 0, 6],
+        [0x4110, 26, 44, 4, 3, 38, 5],
+        [0x4120, 70, 16, 4, 3, 10, 6],
     ];
-    assert_eq!(row[..36], *expected.as_flattened());
-    assert_eq!(row[36..], [7; 4]);
+    let expected = expected.map(record);
+    assert_eq!(row[..6 * RECORD], *expected.as_flattened());
+    assert_eq!(row[6 * RECORD..], [7; 4]);
     let (vertices, corners) = table_of(&file);
     let floats = [0.0, 0.0, 0.0, 1.0, 0.0, 0.0, 0.0, 1.0, 0.0, 9.0_f32];
     assert_eq!(vertices, floats.map(f32::to_bits));

@@ -6,7 +6,7 @@ mod bare;
 mod common;
 use bare::{Figure, Seed, EDGES, FAULTS, MOST, SIGNALLING};
 use second::boundary::{refused, Boundary, Second, Tds};
-use second::{list, name, tables, LIMIT, RECORD};
+use second::{list, name, record, tables, LIMIT, RECORD};
 
 /// Canaries on each side of the room; odd, so that the room is not aligned.
 const GUARD: usize = 37;
@@ -41,15 +41,18 @@ impl Figure {
     fn read(file: &[u8], size_of_name: usize) -> Figure {
         let mut row = [0; 7 * RECORD];
         assert_eq!(list(file, &mut row).unwrap().records, 6);
-        let record = |number: usize| &row[RECORD * number..][..RECORD];
+        let listed = row.as_chunks::<RECORD>().0;
         let (all, mesh) = (file.len() as u32, size_of_name as u32 + 19);
-        let (v, c) = (record(4)[2], record(5)[2]);
-        assert_eq!(record(0), [0x4D4D, 0, all, 0, 0, 0]);
-        assert_eq!(record(1), [0x3D3D, 6, all - 6, 1, 0, 0]);
-        assert_eq!(record(2), [0x4000, 12, all - 12, 2, 1, mesh - 18]);
-        assert_eq!(record(3), [0x4100, mesh, v + c + 6, 3, 2, 0]);
-        assert_eq!(record(4), [0x4110, mesh + 6, v, 4, 3, v - 6]);
-        assert_eq!(record(5), [0x4120, mesh + 6 + v, c, 4, 3, c - 6]);
+        let (v, c) = (listed[4][2], listed[5][2]);
+        let expected = [
+            [0x4D4D, 0, all, 0, 0, 0, 6],
+            [0x3D3D, 6, all - 6, 1, 0, 0, 6],
+            [0x4000, 12, all - 12, 2, 1, mesh - 18, 6],
+            [0x4100, mesh, v + c + 6, 3, 2, 0, 6],
+            [0x4110, mesh + 6, v, 4, 3, v - 6, 5],
+            [0x4120, mesh + 6 + v, c, 4, 3, c - 6, 6],
+        ];
+        assert_eq!(listed[..6], expected.map(record));
         let (n, f) = ((v as usize - 8) / 12, (c as usize - 8) / 8);
         let (mut vertices, mut corners) = (vec![f32::NAN; 3 * n], vec![7; 3 * f]);
         assert_eq!(tables(file, 0, &mut vertices, &mut corners), Ok((n, f)));

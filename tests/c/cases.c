@@ -1,6 +1,6 @@
 /*
- * The files that the boundary is tried with: document 01's bench samples, and one for each refusal.
- * All answers are written down here by hand, from the rules.
+ * The files that the boundary is tried with: the samples of docs/FORMAT.md, and one for each
+ * refusal. All answers are written down here by hand, from the rules.
  */
 #include "cases.h"
 
@@ -9,7 +9,7 @@
 
 #define REFUSAL(number, place) ((uint64_t)(number) << 32 | (place))
 
-/* The triangle of document 01, 86 bytes. */
+/* The triangle of docs/FORMAT.md, 86 bytes. */
 static const uint8_t triangle[] = {
     0x4D, 0x4D, 0x56, 0,    0, 0, 0x3D, 0x3D, 0x50, 0,    0,    0,             /* 0, 6 */
     0x00, 0x40, 0x4A, 0,    0, 0, 0x41, 0x00, 0x00, 0x41, 0x42, 0, 0, 0,       /* 12, 20 */
@@ -134,7 +134,7 @@ static void use_shortest(void (*use)(const struct file_case *file)) {
         .bytes = bytes,
         .length = sizeof bytes,
         .records = 2,
-        .list = {{0x4D4D, 0, 12, 0, 0, 0}, {0x3D3D, 6, 6, 1, 0, 0}},
+        .list = {{0x4D4D, 0, 12, 0, 0, 0, 2}, {0x3D3D, 6, 6, 1, 0, 0, 2}},
         .counts = {12, 0, 0},
     };
     use(&file);
@@ -152,12 +152,12 @@ static void use_triangle(void (*use)(const struct file_case *file), uint32_t mor
         .bytes = file.bytes,
         .length = file.length,
         .records = 6,
-        .list = {{0x4D4D, 0, 86 + more, 0, 0, 0},
-                 {0x3D3D, 6, 80 + more, 1, 0, 0},
-                 {0x4000, 12, 74 + more, 2, 1, 2},
-                 {0x4100, 20 + more, 66, 3, 2, 0},
-                 {0x4110, 26 + more, 44, 4, 3, 38},
-                 {0x4120, 70 + more, 16, 4, 3, 10}},
+        .list = {{0x4D4D, 0, 86 + more, 0, 0, 0, 6},
+                 {0x3D3D, 6, 80 + more, 1, 0, 0, 6},
+                 {0x4000, 12, 74 + more, 2, 1, 2, 6},
+                 {0x4100, 20 + more, 66, 3, 2, 0, 6},
+                 {0x4110, 26 + more, 44, 4, 3, 38, 5},
+                 {0x4120, 70 + more, 16, 4, 3, 10, 6}},
         .counts = {36, 50, more},
         .meshes = 1,
         .mesh = {{18, 1, 34 + more, 3, 78 + more, 1, TRIANGLE_BOX}},
@@ -176,14 +176,14 @@ static void use_empty_mesh(void (*use)(const struct file_case *file)) {
         .bytes = file.bytes,
         .length = file.length,
         .records = 8,
-        .list = {{0x4D4D, 0, 99, 0, 0, 0},
-                 {0x3D3D, 6, 93, 1, 0, 0},
-                 {0x4000, 12, 74, 2, 1, 2},
-                 {0x4100, 20, 66, 3, 2, 0},
-                 {0x4110, 26, 44, 4, 3, 38},
-                 {0x4120, 70, 16, 4, 3, 10},
-                 {0x4000, 86, 13, 2, 1, 1},
-                 {0x4100, 93, 6, 3, 6, 0}},
+        .list = {{0x4D4D, 0, 99, 0, 0, 0, 8},
+                 {0x3D3D, 6, 93, 1, 0, 0, 8},
+                 {0x4000, 12, 74, 2, 1, 2, 6},
+                 {0x4100, 20, 66, 3, 2, 0, 6},
+                 {0x4110, 26, 44, 4, 3, 38, 5},
+                 {0x4120, 70, 16, 4, 3, 10, 6},
+                 {0x4000, 86, 13, 2, 1, 1, 8},
+                 {0x4100, 93, 6, 3, 6, 0, 8}},
         .counts = {48, 51, 0},
         .meshes = 2,
         .mesh = {{18, 1, 34, 3, 78, 1, TRIANGLE_BOX}, {.name_at = 92}},
@@ -222,12 +222,12 @@ static void use_box(void (*use)(const struct file_case *file), size_t which) {
         .bytes = file.bytes,
         .length = file.length,
         .records = 6,
-        .list = {{0x4D4D, 0, 86, 0, 0, 0},
-                 {0x3D3D, 6, 80, 1, 0, 0},
-                 {0x4000, 12, 74, 2, 1, 2},
-                 {0x4100, 20, 66, 3, 2, 0},
-                 {0x4110, 26, 44, 4, 3, 38},
-                 {0x4120, 70, 16, 4, 3, 10}},
+        .list = {{0x4D4D, 0, 86, 0, 0, 0, 6},
+                 {0x3D3D, 6, 80, 1, 0, 0, 6},
+                 {0x4000, 12, 74, 2, 1, 2, 6},
+                 {0x4100, 20, 66, 3, 2, 0, 6},
+                 {0x4110, 26, 44, 4, 3, 38, 5},
+                 {0x4120, 70, 16, 4, 3, 10, 6}},
         .counts = {36, 50, 0},
         .meshes = 1,
         .mesh = {{.name_at = 18,

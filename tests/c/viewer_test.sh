@@ -24,11 +24,15 @@ for file in samples/edition/*.3ds; do
     status_is 0
 done
 
+try 'why a figure is not shown, in words'
+run "$V" samples/damaged/overrun-length-bit-turned.3ds
+matches err 'viewer: not shown: a length runs past the end of the chunk around it \(refusal 5, place [0-9]+\)'
+
 try 'no damaged figure is shown'
 while read -r file number place; do
     run "$V" "samples/damaged/$file"
     status_is 1
-    has err "not shown: refusal $number, place $place"
+    has err "(refusal $number, place $place)"
     lines out 0
 done <samples/damaged/expected.txt
 

@@ -117,7 +117,7 @@ static void try_case(const struct writer_case *this) {
     }
 }
 
-/* The triangle is document 01's, byte for byte. */
+/* The triangle is that of docs/FORMAT.md, byte for byte. */
 static void try_triangle(void) {
     static const uint8_t right[] =
         "MM\x56\0\0\0==\x50\0\0\0\0@\x4A\0\0\0A\0\0A\x42\0\0\0\x10\x41\x2C\0\0\0\3\0"
@@ -129,7 +129,7 @@ static void try_triangle(void) {
                            sizeof out),
                  86);
     expect(sizeof right == 86 && memcmp(out, right, 86) == 0,
-           "the bytes are not those of document 01");
+           "the bytes are not those of docs/FORMAT.md");
 }
 
 /* Names that take the size to the limit, and one byte over it. */

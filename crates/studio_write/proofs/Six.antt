@@ -17,7 +17,7 @@ use Rattle.shared_words.specs.Floats.{finite}
 use Rattle.studio_rules.specs.OwnData.{nameSize, count, vertexNumbers, faceCorners}
 use Rattle.studio_rules.specs.Layout.{Run, figure}
 use Rattle.studio_rules.specs.Rules.{Parent, file, inPlace, notTwice, ownDataExact, numbersFinite, faceNumbersBelow, allBelow, childrenInPlus, noneMissing, cornersBelow, mappingMatches, Own, Children, Obeys}
-use Rattle.studio_rules.specs.Gives.{owned, Mesh}
+use Rattle.studio_rules.specs.Gives.{recordNumbers, owned, Mesh}
 use Rattle.shared_words.specs.Conditions.{accepted}
 use Rattle.studio_rules.specs.Walk.{verdict}
 use Rattle.studio_rules.specs.Encodings.{flatRecords}
@@ -103,7 +103,7 @@ module _ (s name vertices faces : List ℕ) (e : verdict s ≡ accepted (sixChun
   unfolding tablesCall
   tables-call rows = ap (ofMesh (λ r. leaving (Tabled.Refused r) rows) (tablesOf inNumbers rows) 0) e
 
-  pub list-call : (k n f : ℕ) → length name ≡ 1 + k → length vertices ≡ 2 + 12 * n → length faces ≡ 2 + 8 * f → (row : List ℕ) → 36 ≤ length row →
+  pub list-call : (k n f : ℕ) → length name ≡ 1 + k → length vertices ≡ 2 + 12 * n → length faces ≡ 2 + 8 * f → (row : List ℕ) → 6 * recordNumbers ≤ length row →
       listCall flatRecords s row ≡
       leaving (Checked.Accepted record { records = 6; headers = 36; own = 5 + k + 12 * n + 8 * f; skipped = 0 }) (filled (sixRecords k n f) row)
   unfolding listCall
@@ -118,4 +118,4 @@ module _ (s name vertices faces : List ℕ) (e : verdict s ≡ accepted (sixChun
       let o₄ : 12 + (6 + length name) ≡ 19 + k = omega arith in
       let n₅ : 6 + length vertices + 0 ≡ 8 + 12 * n = omega arith in
       let n₆ : 6 + length faces + 0 ≡ 8 + 8 * f = omega arith in
-      ap (listOf flatRecords row) e ∙ rw (le-leb 6 (length row / 6) (omega arith), own, n₁, n₂, n₃, n₄, o₆, o₅, o₄, n₅, n₆, a, b, c)
+      ap (listOf flatRecords row) e ∙ rw (le-leb 6 (length row / recordNumbers) (omega arith), own, n₁, n₂, n₃, n₄, o₆, o₅, o₄, n₅, n₆, a, b, c)

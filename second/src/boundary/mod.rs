@@ -34,7 +34,7 @@ pub use sums::{SumRight, Summing, SUMS_LINKED};
 use crate::{bounding_box, check, list, name, tables, write, Refusal, RECORD};
 
 /// The bytes of one record on the boundary.
-pub const RECORD_BYTES: usize = 24;
+pub const RECORD_BYTES: usize = 4 * RECORD;
 
 /// One record of the list as a struct, as C lays it out.
 #[repr(C)]
@@ -46,11 +46,15 @@ pub struct Chunk {
     pub depth: u32,
     pub parent: u32,
     pub own: u32,
+    /// The next record that is not inside it.
+    #[cfg(feature = "next")]
+    pub next: u32,
 }
 
 impl From<[u32; RECORD]> for Chunk {
-    /// The six numbers in the list's order.
-    fn from([identifier, offset, length, depth, parent, own]: [u32; RECORD]) -> Chunk {
+    /// The numbers in the list's order.
+    fn from(numbers: [u32; RECORD]) -> Chunk {
+        let [identifier, offset, length, depth, parent, own, ..] = numbers;
         Chunk {
             identifier,
             offset,
@@ -58,12 +62,14 @@ impl From<[u32; RECORD]> for Chunk {
             depth,
             parent,
             own,
+            #[cfg(feature = "next")]
+            next: numbers[6],
         }
     }
 }
 
 impl From<Chunk> for [u32; RECORD] {
-    /// The six numbers in the list's order.
+    /// The numbers in the list's order.
     fn from(chunk: Chunk) -> [u32; RECORD] {
         [
             chunk.identifier,
@@ -72,6 +78,8 @@ impl From<Chunk> for [u32; RECORD] {
             chunk.depth,
             chunk.parent,
             chunk.own,
+            #[cfg(feature = "next")]
+            chunk.next,
         ]
     }
 }

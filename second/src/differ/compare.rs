@@ -136,7 +136,7 @@ impl<L: Boundary, R: Boundary> Pair<L, R> {
         }
         let needed = RECORD_BYTES * answer as usize;
         self.ask(file, Call::List(needed + random.below(30)))?;
-        self.ask(file, Call::List(needed - 1 - random.below(24)))?;
+        self.ask(file, Call::List(needed - 1 - random.below(RECORD_BYTES)))?;
         self.ask(file, Call::List(random.below(needed + 40)))?;
         self.records(file, answer as usize, random)?;
         self.ask(file, Call::Counts(12 + random.below(6)))?;

@@ -5,7 +5,7 @@ use super::compare::Pair;
 use super::lent::{spoken, Difference};
 use super::node::Node;
 use crate::boundary::{refusal, Boundary, RECORD_BYTES};
-use crate::row;
+use crate::{record, row, RECORD};
 
 /// One mesh: its tables and the span of its name.
 #[derive(Clone, Debug, Default, PartialEq, Eq)]
@@ -18,7 +18,7 @@ pub struct Mesh {
 /// All that is said of a file.
 #[derive(Clone, Debug, Default, PartialEq, Eq)]
 pub struct Facts {
-    pub records: Vec<[u32; 6]>,
+    pub records: Vec<[u32; RECORD]>,
     pub counts: [u32; 3],
     pub meshes: Vec<Mesh>,
 }
@@ -148,24 +148,15 @@ impl Facts {
     }
 
     /// Adds a chunk that stands at an offset, and answers its end.
-    fn add(&mut self, node: &Node, at: usize, depth: u32, parent: usize) -> usize {
+    fn add(&mut self, node: &Node, at: usize, depth: usize, parent: usize) -> usize {
         let size = node.size();
         if row(node.identifier).is_none() {
             self.counts[2] += size as u32;
             return at + size;
         }
         let (number, own) = (self.records.len(), node.own.len());
-        let numbers = [at, size, depth as usize, parent, own].map(|number| number as u32);
-        let [at_number, size_number, depth_number, parent_number, own_number] = numbers;
-        self.records.push([
-            u32::from(node.identifier),
-            at_number,
-            size_number,
-            depth_number,
-            parent_number,
-            own_number,
-        ]);
-        self.counts[1] += own_number;
+        self.records.push([0; RECORD]);
+        self.counts[1] += own as u32;
         self.note(node, at);
         let mut next = at + 6 + own;
         for child in &node.children {
@@ -174,6 +165,9 @@ impl Facts {
         if node.identifier == 0x4000 && !node.children.iter().any(|c| c.identifier == 0x4100) {
             self.meshes.pop();
         }
+        let (identifier, inside) = (usize::from(node.identifier), self.records.len());
+        let numbers = [identifier, at, size, depth, parent, own, inside];
+        self.records[number] = record(numbers.map(|number| number as u32));
         next
     }
 

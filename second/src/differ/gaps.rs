@@ -6,7 +6,7 @@ use super::grow::unlisted;
 use super::lent::{hex, Difference};
 use super::random::Random;
 use crate::boundary::Boundary;
-use crate::row;
+use crate::{row, RECORD};
 
 /// Bytes put in at, or taken out from, a spot in a known chunk.
 #[derive(Clone, Debug)]
@@ -57,8 +57,8 @@ impl Try {
 }
 
 /// The spots of a known chunk: behind its own data and behind each child.
-fn spots(file: &[u8], record: &[u32; 6]) -> Vec<usize> {
-    let [identifier, offset, length, _, _, own] = record.map(|number| number as usize);
+fn spots(file: &[u8], record: &[u32; RECORD]) -> Vec<usize> {
+    let [identifier, offset, length, _, _, own, ..] = record.map(|number| number as usize);
     if row(identifier as u16).is_none_or(|row| row.holds == 0) {
         return vec![];
     }
@@ -137,7 +137,7 @@ fn growth(change: &Change) -> i64 {
 }
 
 /// Whether a record is a chunk, or one of those around it.
-fn around(records: &[[u32; 6]], record: usize, mut inner: usize) -> bool {
+fn around(records: &[[u32; RECORD]], record: usize, mut inner: usize) -> bool {
     while inner > record {
         inner = records[inner][4] as usize;
     }

@@ -63,7 +63,7 @@ pub fn kinds(file: &[u8]) -> Vec<Kind> {
     while let Some((_, length)) = header(&file[kinds.len()..]) {
         let at = kinds.len();
         match known.next_if(|record| record[1] as usize == at) {
-            Some(&[identifier, _, _, _, _, own]) => {
+            Some(&[identifier, _, _, _, _, own, ..]) => {
                 kinds.extend([Kind::Identifier; 2]);
                 kinds.extend([Kind::Length; 4]);
                 let own = &file[at + HEADER..][..own as usize];

@@ -7,6 +7,7 @@ use super::grow::finite;
 use super::lent::{hex, spoken, Difference};
 use super::random::Random;
 use crate::boundary::{refusal, Boundary};
+use crate::record;
 
 /// What the writer is handed.
 #[derive(Clone, Debug, Default)]
@@ -123,18 +124,18 @@ impl Writing {
         let (size, name) = (self.size(), self.name.len());
         let mesh = 19 + name;
         let records = [
-            [0x4D4D, 0, size, 0, 0, 0],
-            [0x3D3D, 6, size - 6, 1, 0, 0],
-            [0x4000, 12, size - 12, 2, 1, name + 1],
-            [0x4100, mesh, size - mesh, 3, 2, 0],
-            [0x4110, mesh + 6, 8 + 12 * n, 4, 3, 2 + 12 * n],
-            [0x4120, mesh + 14 + 12 * n, 8 + 8 * f, 4, 3, 2 + 8 * f],
+            [0x4D4D, 0, size, 0, 0, 0, 6],
+            [0x3D3D, 6, size - 6, 1, 0, 0, 6],
+            [0x4000, 12, size - 12, 2, 1, name + 1, 6],
+            [0x4100, mesh, size - mesh, 3, 2, 0, 6],
+            [0x4110, mesh + 6, 8 + 12 * n, 4, 3, 2 + 12 * n, 5],
+            [0x4120, mesh + 14 + 12 * n, 8 + 8 * f, 4, 3, 2 + 8 * f, 6],
         ];
         let floats = self.vertices.iter().flat_map(|float| float.to_le_bytes());
         let words = self.corners.iter().flat_map(|corner| corner.to_le_bytes());
         Facts {
             records: records
-                .map(|record| record.map(|number| number as u32))
+                .map(|numbers| record(numbers.map(|number| number as u32)))
                 .to_vec(),
             counts: [36, size as u32 - 36, 0],
             meshes: vec![facts::Mesh {

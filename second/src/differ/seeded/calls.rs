@@ -3,9 +3,9 @@
 
 use super::reader::{read, Read};
 use super::{writer, Error, Seeded};
-use crate::boundary::{answer, Boundary, Chunk};
+use crate::boundary::{answer, Boundary, Chunk, RECORD_BYTES};
 use crate::differ::facts::Mesh;
-use crate::{Number, Refusal};
+use crate::{Number, Refusal, RECORD};
 
 impl Boundary for Seeded {
     fn check(&self, file: &[u8]) -> u64 {
@@ -87,7 +87,7 @@ fn lose_minus(floats: &mut [u8]) {
 
 impl Seeded {
     fn listed(self, file: &[u8], records: &mut [u8]) -> Result<usize, Refusal> {
-        if records.len() < 24 && self.makes(Error::RoomBeforeFault) {
+        if records.len() < RECORD_BYTES && self.makes(Error::RoomBeforeFault) {
             return Err(Number::NoRoom.at(1));
         }
         let read = read(self, file)?;
@@ -95,9 +95,9 @@ impl Seeded {
         let numbers = read.records.iter().flatten();
         let bytes: Vec<u8> = numbers.flat_map(|number| number.to_le_bytes()).collect();
         let room = match self.error {
-            Some(Error::RoomOfPart) => records.len().div_ceil(24),
-            Some(Error::RoomOffByOne) => (records.len() / 24).saturating_sub(1),
-            _ => records.len() / 24,
+            Some(Error::RoomOfPart) => records.len().div_ceil(RECORD_BYTES),
+            Some(Error::RoomOffByOne) => (records.len() / RECORD_BYTES).saturating_sub(1),
+            _ => records.len() / RECORD_BYTES,
         };
         if room < needed {
             if self.makes(Error::WritesBeforeRefusing) {
@@ -116,7 +116,7 @@ impl Seeded {
     fn recorded(self, file: &[u8], row: &mut [u32], table: &mut [Chunk]) -> Result<usize, Refusal> {
         let read = read(self, file)?;
         let needed = read.records.len();
-        let (of_row, of_table) = (row.len() / 6, table.len());
+        let (of_row, of_table) = (row.len() / RECORD, table.len());
         let room = match self.error {
             Some(Error::RecordsRoomOfRow) => of_row,
             Some(Error::RecordsRoomOfTable) => of_table,

@@ -11,19 +11,24 @@ pub use misread::{errors as misread_rows, Misread};
 
 use crate::{row, Row};
 
-/// Names the errors once, and lists them all.
+/// Names the errors once, those of a later request under its feature, and lists
+/// them all.
 macro_rules! errors {
-    ($($name:ident)*) => {
+    ($($name:ident)* $(; $feature:literal: $($later:ident)*)*) => {
         /// The errors it can make: some were made by others, all are easily made.
         #[derive(Clone, Copy, Debug, PartialEq, Eq)]
         pub enum Error {
             $($name,)*
+            $($($later,)*)*
             /// A row of the table read wrongly.
             Row(u16, Misread),
         }
 
-        /// All of them but the misread rows.
-        pub const ERRORS: &[Error] = &[$(Error::$name,)*];
+        /// All of them but the misread rows, and those of requests that are off.
+        pub const ERRORS: &[Error] = &[
+            $(Error::$name,)*
+            $($(#[cfg(feature = $feature)] Error::$later,)*)*
+        ];
     };
 }
 
@@ -55,7 +60,9 @@ errors! {
     TablesOfFirst BoxOfFirst MeshesReversed FewRoomOfPart TablesRoomOfPart
     SkippedWithoutHeaders CentreFromDifference
     WriterRoomOff WriterInfinityAllowed WriterMinusInfinityAllowed WriterCountPlace
-    WriterNumberPlace WriterIndexPlace WriterLimitOff WriterLimitNotJudged
+    WriterNumberPlace WriterIndexPlace WriterLimitOff WriterLimitNotJudged;
+
+    "next": NextWithoutOne NextIsCount NextOfUnlistedToo NextOfChildrenOnly
 }
 
 /// The plain reader, with an error or without.

@@ -3,12 +3,12 @@
 
 use super::{Error, Seeded};
 use crate::differ::facts::Mesh;
-use crate::{place, row, Number, Own, Refusal, Row, LIMIT};
+use crate::{place, record, row, Number, Own, Refusal, Row, LIMIT, RECORD};
 
 /// What the plain reader makes of a file.
 #[derive(Debug, Default)]
 pub struct Read {
-    pub records: Vec<[u32; 6]>,
+    pub records: Vec<[u32; RECORD]>,
     pub own: usize,
     pub skipped: usize,
     /// How many unlisted chunks were passed over.
@@ -235,7 +235,7 @@ impl Reader<'_> {
         }
         let own = self.own(row, at, length)?;
         self.numbers(row, at, own)?;
-        let record = self.record(row, numbers, own);
+        let (record, passed) = (self.record(row, numbers, own), self.read.passed);
         if row.holds == place::H4000 {
             self.name = [at as u32 + 6, own as u32 - 1];
         }
@@ -258,7 +258,27 @@ impl Reader<'_> {
         if mesh {
             self.close(at)?;
         }
+        self.next(record, self.read.passed - passed);
         Ok(())
+    }
+
+    /// Notes the number behind a record and all inside it.
+    fn next(&mut self, number: usize, passed: usize) {
+        let behind = &self.read.records[number + 1..];
+        let next = match self.seeded.error {
+            Some(Error::NextWithoutOne) => number + behind.len(),
+            Some(Error::NextIsCount) => 1 + behind.len(),
+            Some(Error::NextOfUnlistedToo) => number + 1 + behind.len() + passed,
+            Some(Error::NextOfChildrenOnly) => {
+                let children = behind.iter().filter(|record| record[4] == number as u32);
+                number + 1 + children.count()
+            }
+            _ => number + 1 + behind.len(),
+        };
+        let mut slot = self.read.records[number].iter_mut().skip(6);
+        if let Some(slot) = slot.next() {
+            *slot = next as u32;
+        }
     }
 
     /// Lists a chunk, and answers the number of its record.
@@ -285,8 +305,9 @@ impl Reader<'_> {
         } else {
             at
         };
-        let numbers = [self.word(at), offset, length, depth, parent, said];
-        self.read.records.push(numbers.map(|number| number as u32));
+        let numbers = [self.word(at), offset, length, depth, parent, said, 0];
+        let numbers = numbers.map(|number| number as u32);
+        self.read.records.push(record(numbers));
         self.read.own += own;
         number
     }
