@@ -44,10 +44,10 @@
  * tds_records and those about one mesh take up to twice that. tds_sum_join and tds_sum_matches read
  * no bytes. Stack: a few kilobytes.
  *
- * ORDER OF REFUSALS. First the faults of the file, which are 1 to 14 and 24: the first that is met,
- * walking the file from its start, a chunk's own faults before those inside it, 24 right after 9.
- * Then 16; then 17; then 15. So a damaged file is refused as damaged whatever mesh was asked for
- * and whatever room was lent.
+ * ORDER OF REFUSALS. First the faults of the file, which are 1 to 14, 23 and 24: the first that is
+ * met, walking the file from its start, a chunk's own faults before those inside it, 24 right after
+ * 9 and 23 after 10. Then 16; then 17; then 15. So a damaged file is refused as damaged whatever
+ * mesh was asked for and whatever room was lent.
  *
  * LANGUAGE. C89 and later, and C++. <stdint.h> came only with C99, but is there with every compiler
  * this library is built for, in C89 mode too, and is the one thing beyond C89 that is used here.
@@ -69,7 +69,7 @@ extern "C" {
  * lent may be filled in another way than it was built for. (Version 1 had six numbers a record, and
  * no tds_version.) CHANGELOG.md says what came with each.
  */
-#define TDS_VERSION (65536 * 2 + 256 * 0 + 0)
+#define TDS_VERSION (65536 * 2 + 256 * 2 + 0)
 uint64_t tds_version(void);
 
 /* No file longer than this is a figure. One byte more is enough to hand to tds_check to be told. */
@@ -93,13 +93,14 @@ enum tds_refusal {
     TDS_LENGTH = 10,       /* a chunk too long or too short for what it holds */
     TDS_NUMBER = 11,       /* an infinite coordinate, or one that is not a number */
     TDS_INDEX = 12,        /* a corner or face number that does not exist */
-    TDS_COUNT = 13,        /* mapping coordinates whose count is not that of the vertices */
+    TDS_COUNT = 13,        /* more mapping pairs than vertices; from version 3 on, or fewer */
     TDS_MISSING = 14,      /* a chunk that must be there is not (place: the chunk around it) */
-    TDS_NO_ROOM = 15,      /* a lent slice is too small (place: records or numbers needed) */
+    TDS_NO_ROOM = 15,      /* a lent slice is too small (place: records, numbers, parts needed) */
     TDS_NO_SUCH_MESH = 16, /* the file is good but has no such mesh (place: how many it has) */
     TDS_EMPTY = 17,        /* the file is good but the mesh has no vertices, so no box (place 0) */
     TDS_SLIP = 18,         /* a slip that breaks its rules (place: see the calls about slips) */
     TDS_DIFFERS = 19,      /* a file is not the one of an entry (place 0: length, 1: sums) */
+    TDS_FATHER = 23,       /* a part that hangs on none before it: see tds_parts (the B010) */
     TDS_TEXT = 24          /* a name that does not fit the label: see TDS_LONGEST_NAME */
 };
 
@@ -209,6 +210,21 @@ uint64_t tds_tables(const uint8_t *file, size_t file_len, uint32_t mesh, uint8_t
                     size_t vertices_len, uint8_t *corners, size_t corners_len);
 
 /*
+ * The mapping of one mesh: a pair of texture coordinates for each vertex.
+ *
+ * Fills two floats u, v for each vertex (8 bytes a vertex), in the order of the vertices; none
+ * where the mesh has no mapping (no 4140). Answers how many numbers were filled, 2 * vertices or 0;
+ * or refuses with 1 to 14; 16 with the count of meshes; or 15 with the numbers needed (place). Room
+ * is mapping_len / 4 numbers.
+ *
+ * Figures of versions below 3, and those that tell no version, may have fewer pairs than vertices:
+ * the missing ones are filled with zeros. The version of a file is that of its first 0002 of 10
+ * bytes among the chunks directly in 4D4D.
+ */
+uint64_t tds_mapping(const uint8_t *file, size_t file_len, uint32_t mesh, uint8_t *mapping,
+                     size_t mapping_len);
+
+/*
  * Where the bytes of a file went.
  *
  * Fills three numbers: headers (6 for each record), own data of all records, and bytes of unknown
@@ -238,6 +254,39 @@ uint64_t tds_name(const uint8_t *file, size_t file_len, uint32_t mesh, uint8_t *
  * mesh has no vertices; or 15 with 9 (place). Room is box_len / 4 numbers.
  */
 uint64_t tds_box(const uint8_t *file, size_t file_len, uint32_t mesh, uint8_t *box, size_t box_len);
+
+/*
+ * The parts of a moving figure, and who hangs on whom: a vice's screw hangs on its moving jaw, that
+ * on its fixed jaw, and goes where it goes.
+ *
+ * A part is a B002 in the figure's keyframer, B000; parts are numbered from 0 in file order, and no
+ * other chunk is counted with them. Fills two numbers a part, 8 bytes, in the order of enum
+ * tds_part; tds_get_part reads one of them. A father always has a lower number than the parts that
+ * hang on him, so they can be gone through from the first to the last. Answers the count of parts,
+ * 0 where there is no B000, and fills as many from the start of the slice; or refuses with a fault
+ * of the file, or 15 with the parts needed (place). Room is parts_len / TDS_PART_BYTES parts.
+ */
+uint64_t tds_parts(const uint8_t *file, size_t file_len, uint8_t *parts, size_t parts_len);
+
+#define TDS_PART_NUMBERS 2
+#define TDS_PART_BYTES (4 * TDS_PART_NUMBERS)
+
+enum tds_part {
+    TDS_PART_FATHER = 0, /* the number of the part that it hangs on, or TDS_NO_FATHER */
+    TDS_PART_DEPTH = 1   /* how many fathers there are above it: 0 where it has none */
+};
+
+/* The father of a part that hangs on none. No figure has so many parts. */
+#define TDS_NO_FATHER 65535u
+
+/*
+ * The identifiers of a moving figure, for reading the list. Each B002 has one B010, so those are
+ * the parts in order too; the own data of a B010 is the part's name with its zero, and six bytes
+ * more.
+ */
+#define TDS_ID_KEYFRAMER 0xB000u
+#define TDS_ID_PART 0xB002u
+#define TDS_ID_PART_HEAD 0xB010u
 
 /*
  * Writes a bare figure: one object with one mesh.
@@ -398,6 +447,11 @@ TDS_INLINE float tds_get_float(const uint8_t *at) {
 /* One number of one entry of a slip. */
 TDS_INLINE uint32_t tds_get_entry(const uint8_t *entries, size_t entry, enum tds_entry number) {
     return tds_get4(entries + entry * TDS_ENTRY_BYTES + 4 * (size_t)number);
+}
+
+/* One number of one part. */
+TDS_INLINE uint32_t tds_get_part(const uint8_t *parts, size_t part, enum tds_part number) {
+    return tds_get4(parts + part * TDS_PART_BYTES + 4 * (size_t)number);
 }
 
 /* One number of one record of a filled list. */

@@ -1,7 +1,7 @@
 /*
- * Makes the sample edition and the damaged samples, the same bytes on every machine.
+ * Makes the sample edition, an older figure and the damaged ones, the same bytes on every machine.
  *
- *     make_samples FOLDER              FOLDER/edition/ and FOLDER/damaged/
+ *     make_samples FOLDER              FOLDER/edition/, FOLDER/old/ and FOLDER/damaged/
  *     make_samples --too-long FILE     the one damaged figure that is too long to be kept
  *
  * FOLDER/damaged/expected.txt says of each damaged figure its refusal: file, number and place.
@@ -50,9 +50,9 @@ static void write_in(const char *folder, const char *file, const struct figure *
     free(path);
 }
 
-static void make_edition(const char *parent) {
-    char *folder = make_folder(parent, "edition");
-    for (const struct tool *tool = edition; tool->file != NULL; tool++) {
+static void make_tools(const char *parent, const char *name, const struct tool *tools) {
+    char *folder = make_folder(parent, name);
+    for (const struct tool *tool = tools; tool->file != NULL; tool++) {
         struct figure figure = {0};
         tool->make(&figure);
         write_in(folder, tool->file, &figure);
@@ -96,7 +96,8 @@ int main(int argc, char **argv) {
         fprintf(stderr, "usage: make_samples FOLDER | make_samples --too-long FILE\n");
         return 2;
     }
-    make_edition(argv[1]);
+    make_tools(argv[1], "edition", edition);
+    make_tools(argv[1], "old", older);
     make_damaged(argv[1]);
     return 0;
 }

@@ -8,7 +8,9 @@
 #include <sys/mman.h>
 
 #include "cases.h"
+#include "mapping_cases.h"
 #include "mesh_cases.h"
+#include "parts_cases.h"
 #include "slices.h"
 #include "slip_cases.h"
 #include "tds.h"
@@ -336,6 +338,8 @@ int main(void) {
     each_case(try_case);
     each_case(try_huge_file);
     try_meshes();
+    try_mappings();
+    try_parts();
     try_writer();
     try_slips();
     return finish("boundary_test");

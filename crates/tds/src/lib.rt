@@ -3,14 +3,13 @@ use c_codes::checked_code;
 use studio_rules::Record;
 ghost use mathlib.Core.Path.{_≡_};
 ghost use Prim.Native.Nat.{_/_, _%_};
-ghost use Rattle.shared_words.specs.Encodings.{numberBytes};
-ghost use Rattle.studio_rules.specs.Encodings.{recordBytes};
-ghost use Rattle.studio_rules.specs.Calls.{checkCall, listCall, tablesCall, nameCall, boxCall};
+ghost use Rattle.studio_rules.specs.Encodings.{recordBytes, partBytes};
+ghost use Rattle.studio_rules.specs.Calls.{checkCall, listCall, inBytes, mappingInBytes, tablesCall, nameCall, boxCall, partsCall};
 ghost use Rattle.studio_list_table.specs.Listed.{inTable, inRow};
-ghost use Rattle.studio_mesh_tables.specs.Rows.{rows};
+ghost use Rattle.studio_mesh_tables.specs.Rows.{twoRows, mappingRow};
 ghost use Rattle.studio_write.specs.Write.{writeCall};
 ghost use Rattle.c_version.specs.Version.{versionCode};
-ghost use Rattle.c_codes.specs.Codes.{recordsOr, sizesOr, sizeOr};
+ghost use Rattle.c_codes.specs.Codes.{recordsOr, sizesOr, numbersOr, sizeOr};
 ghost use Rattle.c_answers.specs.Given.{countsGiven, nameGiven, boxGiven};
 ghost use Rattle.c4d_rules.specs.Calls.{objectBytes, twoRows, c4dCheckCall, c4dListCall};
 ghost use Rattle.c_c4d.specs.Codes.{objectsOr};
@@ -18,12 +17,13 @@ ghost use Rattle.slip_sums.specs.Fletcher.{sumOf};
 ghost use Rattle.slip_sums.specs.Passes.{sumsCall, matchOf};
 ghost use Rattle.slip_rules.specs.Calls.{byteRow, slipReadCall, givenBytes, slipWriteCall};
 ghost use Rattle.c_slip.specs.Codes.{entriesOr};
+ghost use Rattle.c_parts.specs.Codes.{partsOr};
 ghost use Rattle.c_sums.specs.Numbers.{sumsOr, zeroOr, sumIn, withPartNumber, joinNumbers};
 
 // The version of the library.
 #[no_mangle]
 pub extern "C" fn tds_version() -> u64
-    ensures { λ n. ⌜ n ≡ versionCode 2 0 0 ⌝ }
+    ensures { λ n. ⌜ n ≡ versionCode 2 2 0 ⌝ }
 {
     c_version::version()
 }
@@ -58,10 +58,19 @@ pub extern "C" fn tds_records(file: &[u8], row: &mut [u32], table: &mut [Record]
 // The vertices plus 65,536 times the faces of a mesh, whose tables now stand in the front of the slices, or a refusal.
 #[no_mangle]
 pub extern "C" fn tds_tables(file: &[u8], mesh: u32, vertices: &mut [u8], corners: &mut [u8]) -> u64
-    ensures answer { λ n. ⌜ n ≡ sizesOr (tablesCall (numberBytes 4) (numberBytes 2) (now (file .entry)) mesh (rows (now (vertices .entry)) (now (corners .entry))) .answer) ⌝ }
-    ensures rows { λ _. ⌜ rows (now (vertices .exit)) (now (corners .exit)) ≡ tablesCall (numberBytes 4) (numberBytes 2) (now (file .entry)) mesh (rows (now (vertices .entry)) (now (corners .entry))) .rows ⌝ }
+    ensures answer { λ n. ⌜ n ≡ sizesOr (tablesCall inBytes (now (file .entry)) mesh (twoRows (now (vertices .entry)) (now (corners .entry))) .answer) ⌝ }
+    ensures rows { λ _. ⌜ twoRows (now (vertices .exit)) (now (corners .exit)) ≡ tablesCall inBytes (now (file .entry)) mesh (twoRows (now (vertices .entry)) (now (corners .entry))) .rows ⌝ }
 {
     c_codes::tabled_code(studio_mesh_tables::tables_bytes(file, mesh, vertices, corners))
+}
+
+// How many numbers the mapping of a mesh has, which now stands in the front of the slice, or a refusal.
+#[no_mangle]
+pub extern "C" fn tds_mapping(file: &[u8], mesh: u32, mapping: &mut [u8]) -> u64
+    ensures answer { λ n. ⌜ n ≡ numbersOr (tablesCall mappingInBytes (now (file .entry)) mesh (mappingRow (now (mapping .entry))) .answer) ⌝ }
+    ensures row { λ _. ⌜ mappingRow (now (mapping .exit)) ≡ tablesCall mappingInBytes (now (file .entry)) mesh (mappingRow (now (mapping .entry))) .rows ⌝ }
+{
+    c_codes::mapped_code(studio_mesh_tables::mapping_bytes(file, mesh, mapping))
 }
 
 // The three byte counts, or a refusal.
@@ -89,6 +98,15 @@ pub extern "C" fn tds_box(file: &[u8], mesh: u32, out: &mut [u8]) -> u64
     ensures out { λ _. ⌜ now (out .exit) ≡ boxGiven (now (out .entry)) (boxCall (now (file .entry)) mesh) .rows ⌝ }
 {
     c_answers::give_box(studio_mesh_calls::bounding_box(file, mesh), out)
+}
+
+// The count of parts whose fathers and depths now stand in the front of the slice, 8 bytes each, or a refusal.
+#[no_mangle]
+pub extern "C" fn tds_parts(file: &[u8], parts: &mut [u8]) -> u64
+    ensures answer { λ n. ⌜ n ≡ partsOr (partsCall partBytes (now (file .entry)) (now (parts .entry)) .answer) ⌝ }
+    ensures parts { λ _. ⌜ now (parts .exit) ≡ partsCall partBytes (now (file .entry)) (now (parts .entry)) .rows ⌝ }
+{
+    c_parts::parts_code(studio_parts::parts_bytes(file, parts))
 }
 
 // The size of the figure that now stands in the front of out, or a refusal.

@@ -4,10 +4,10 @@ use Prim.Native.Nat.{_-_}
 use native.Mathlib.Omega.{arith}
 use Rattle.studio_rules.specs.Layout.{Run}
 use Rattle.studio_rules.specs.Rules.{Parent}
-use Rattle.studio_mesh_find.specs.Runs.{Spans}
-use Rattle.studio_mesh_find.proofs.Runs.{Reached, header-there, reached-x, passed, reached-end}
-use Rattle.studio_mesh_find.proofs.next_child.Statement.{statement}
-use Rattle.studio_mesh_find.proofs.next_child.Tie as tie
+use Rattle.studio_child.specs.Runs.{Spans}
+use Rattle.studio_child.proofs.Runs.{Reached, header-there, reached-x, passed, reached-end}
+use Rattle.studio_child.proofs.next_child.Statement.{statement}
+use Rattle.studio_child.proofs.next_child.Tie as tie
 
 abbrev Inv-loop : tie.InvT-loop
 Inv-loop file id at stop o₀ o = (p : Parent) (t : Run) → Spans p t file at stop → Reached id p t file at stop o

@@ -1,6 +1,6 @@
 -- A run in the file: its first chunk, what is in it and what follows it; and the run from its first child x on.
 use mathlib.Core.Path.{_≡_, refl, sym, ap, _∙_, subst}
-use mathlib.Core.Bool.{Bool, true, false, cond}
+use mathlib.Core.Bool.{Bool, true, false, _||_, cond}
 use mathlib.Core.List.{List, [], _∷_}
 use mathlib.Core.Logic.{_⊎_, inl, inr}
 use Prim.Native.Nat.{ℕ, _+_, _≤_, _<_}
@@ -8,17 +8,18 @@ use native.Mathlib.Omega.{arith}
 use lib.Dec.{eqb}
 use lib.ListN.{length}
 use lib.Seq.{slice}
-use borrow.Author.Tests.{eqb-true, eq-eqb, ne-eqb}
+use borrow.Author.Tests.{eqb-true, eqb-false, eq-eqb, ne-eqb}
+use Rattle.shared_words.specs.Lists.{among}
 use Rattle.studio_rules.specs.Table.{listed}
-use Rattle.studio_rules.specs.Layout.{Run, end, skip, known, size, child, offsetOf}
-use Rattle.studio_rules.specs.Rules.{Parent, inside}
+use Rattle.studio_rules.specs.Layout.{Run, end, skip, known, size, identifiers, child, offsetOf}
+use Rattle.studio_rules.specs.Rules.{Parent, inside, tally}
 use Rattle.studio_rules.specs.Parses.{Place, within, Parses}
 use Rattle.studio_rules.proofs.Parses.{parses}
 use Rattle.shared_numbers.specs.Numbers.{wordAt, longAt}
 use Rattle.studio_stands.specs.Stands.{Headed}
 use Rattle.studio_stands.proofs.Chunks as Chunks
 use Rattle.studio_stands.proofs.Chunks.{unlisted-other, stands-size, skip-header, known-header}
-use Rattle.studio_mesh_find.specs.Runs.{Spans, onward}
+use Rattle.studio_child.specs.Runs.{Spans, onward}
 
 -- the chunk around, as far as it tells where chunks stand
 abbrev pub around : Parent → Place
@@ -92,6 +93,16 @@ child-onward x (known id own kids rest) = go (eqb id x) refl (child-onward x res
     go : (b : Bool) → eqb id x ≡ b → child x rest ≡ child x (onward x rest) → cond b own (child x rest) ≡ child x (cond b (known id own kids rest) (onward x rest))
     go true e ih = rw e
     go false e ih = ih
+
+pub among-onward : (x : ℕ) (t : Run) → among x (identifiers t) ≡ among x (identifiers (onward x t))
+among-onward x end = refl
+among-onward x (skip id body rest) = among-onward x rest
+among-onward x (known id own kids rest) = go (eqb id x) refl (among-onward x rest)
+  where
+    go : (b : Bool) → eqb id x ≡ b → among x (identifiers rest) ≡ among x (identifiers (onward x rest)) →
+        (eqb x id || among x (identifiers rest)) ≡ among x (identifiers (cond b (known id own kids rest) (onward x rest)))
+    go true e ih = refl
+    go false e ih = rw (ne-eqb x id (λ q. eqb-false id x e (sym q))) ih
 
 pub onward-spans : (x : ℕ) (p : Parent) (t : Run) (s : List ℕ) (at stop : ℕ) → Spans p t s at stop → Spans p (onward x t) s (offsetOf x at t) stop
 onward-spans x p end s at stop h = h
@@ -189,3 +200,22 @@ module _ (x : ℕ) (l : listed x ≡ true) (p : Parent) (s : List ℕ) (o stop :
   reached-end end h b = refl
   reached-end (skip id body rest) h b = absurd (omega (arith, span-size p s o stop (skip id body rest) h))
   reached-end (known id own kids rest) h b = absurd (omega (arith, span-size p s o stop (known id own kids rest) h))
+
+-- ---- a child x that must be there
+
+pub tally-onward : (x : ℕ) (t : Run) → tally (x ∷ []) (identifiers t) ≡ tally (x ∷ []) (identifiers (onward x t))
+tally-onward x end = refl
+tally-onward x (skip id body rest) = tally-onward x rest
+tally-onward x (known id own kids rest) = go (eqb id x) refl (tally-onward x rest)
+  where
+    go : (b : Bool) → eqb id x ≡ b → tally (x ∷ []) (identifiers rest) ≡ tally (x ∷ []) (identifiers (onward x rest)) →
+        cond (eqb id x || false) 1 0 + tally (x ∷ []) (identifiers rest) ≡ tally (x ∷ []) (identifiers (cond b (known id own kids rest) (onward x rest)))
+    go true e ih = refl
+    go false e ih = rw e (omega (arith, ih))
+
+pub first-some : (x : ℕ) (p : Parent) (t : Run) (s : List ℕ) (at stop : ℕ) → Spans p t s at stop → 1 ≤ tally (x ∷ []) (identifiers t) → offsetOf x at t < stop
+first-some x p t s at stop h n = go (onward-is x t) (onward-spans x p t s at stop h)
+  where
+    go : (onward x t ≡ end) ⊎ ((own : List ℕ) × (kids : Run) × (rest : Run) × (onward x t ≡ known x own kids rest)) → Spans p (onward x t) s (offsetOf x at t) stop → offsetOf x at t < stop
+    go (inl e) q = absurd (omega (arith, n, tally-onward x t ∙ ap (λ (r : Run). tally (x ∷ []) (identifiers r)) e))
+    go (inr (own, kids, rest, e)) q = omega (arith, header-here p s (offsetOf x at t) stop x own kids rest (subst (λ (r : Run). Spans p r s (offsetOf x at t) stop) e q) .six)
