@@ -1,8 +1,9 @@
 //! The strict walk over a whole file: the first fault in the paper's order,
 //! or the byte counts and the place of the mesh that is asked for.
 
-use crate::bytes::header;
+use crate::bytes::{header, word};
 use crate::own::Mesh;
+use crate::parts::{next_part, Part};
 use crate::table::{place, row, Own, Row};
 use crate::version::mapped_whole;
 use crate::{Number, Refusal, HEADER, LIMIT};
@@ -47,6 +48,7 @@ struct Walk<'a> {
     name: (usize, usize),
     mesh: Mesh,
     meshes: usize,
+    parts: Vec<Part>,
     wanted: Option<u32>,
     found: Option<Found>,
 }
@@ -60,6 +62,11 @@ pub fn check(file: &[u8]) -> Result<Counts, Refusal> {
 pub(crate) fn find(file: &[u8], mesh: u32) -> Result<Found, Refusal> {
     let walk = walked(file, Some(mesh))?;
     walk.found.ok_or(Number::NoSuchMesh.at(walk.meshes))
+}
+
+/// The parts of a file.
+pub(crate) fn hung(file: &[u8]) -> Result<Vec<Part>, Refusal> {
+    Ok(walked(file, None)?.parts)
 }
 
 /// The walk over a whole file, after 1 and 2, and 4, 5 and 3 for the 4D4D.
@@ -78,6 +85,7 @@ fn walked(file: &[u8], wanted: Option<u32>) -> Result<Walk<'_>, Refusal> {
         name: (0, 0),
         mesh: Mesh::default(),
         meshes: 0,
+        parts: Vec::new(),
         wanted,
         found: None,
     };
@@ -123,12 +131,23 @@ impl Walk<'_> {
     #[inline(always)]
     fn known(&mut self, row: &Row, at: usize, body: &[u8]) -> Result<(), Refusal> {
         let own = self.mesh.own(row, body, at)?;
+        if row.own == Own::Part {
+            self.hang(word(body, own - 2), at)?;
+        }
         self.counts.records += 1;
         self.counts.own += own;
         match row.holds {
             0 => Ok(()),
             _ => self.inside(row, at, own, at + HEADER + body.len()),
         }
+    }
+
+    /// Notes the next part, if its father is an earlier one, or 23.
+    #[inline(never)]
+    fn hang(&mut self, father: u16, at: usize) -> Result<(), Refusal> {
+        let part = next_part(&self.parts, father, at)?;
+        self.parts.push(part);
+        Ok(())
     }
 
     /// Walks what stands behind the own data of a chunk whose row has a "+";

@@ -51,6 +51,8 @@ extern "C" {
         mapping: *mut u8,
         mapping_len: usize,
     ) -> u64;
+    #[cfg(feature = "parts")]
+    fn tds_parts(file: *const u8, file_len: usize, parts: *mut u8, parts_len: usize) -> u64;
 }
 
 /// The address of a slice that is only read; of a stand-in if it is empty.
@@ -135,5 +137,12 @@ impl Boundary for Tds {
         let (len, mut some) = (numbers.len(), [0; 8]);
         let numbers = lend(numbers, &mut some);
         unsafe { tds_mapping(read(file, &[0]), file.len(), mesh, numbers, len) }
+    }
+
+    #[cfg(feature = "parts")]
+    fn parts(&self, file: &[u8], numbers: &mut [u8]) -> u64 {
+        let (len, mut some) = (numbers.len(), [0; 8]);
+        let numbers = lend(numbers, &mut some);
+        unsafe { tds_parts(read(file, &[0]), file.len(), numbers, len) }
     }
 }

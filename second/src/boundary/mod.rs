@@ -31,10 +31,13 @@ pub use figures::{FigureRight, Figures, Rows, FIGURES_LINKED};
 pub use slips::{SlipRight, Slips, ENTRY_BYTES, SLIPS_LINKED};
 pub use sums::{SumRight, Summing, SUMS_LINKED};
 
-use crate::{bounding_box, check, list, mapping, name, tables, write, Refusal, RECORD};
+use crate::{bounding_box, check, list, mapping, name, parts, tables, write, Refusal, RECORD};
 
 /// The bytes of one record on the boundary.
 pub const RECORD_BYTES: usize = 4 * RECORD;
+
+/// The bytes of one part on the boundary.
+pub const PART_BYTES: usize = 8;
 
 /// One record of the list as a struct, as C lays it out.
 #[repr(C)]
@@ -108,6 +111,10 @@ pub trait Boundary {
     /// The count of mapping numbers, now in the slice.
     fn mapping(&self, file: &[u8], mesh: u32, numbers: &mut [u8]) -> u64 {
         Second.mapping(file, mesh, numbers)
+    }
+    /// The count of parts, their fathers and depths now in the slice.
+    fn parts(&self, file: &[u8], numbers: &mut [u8]) -> u64 {
+        Second.parts(file, numbers)
     }
 }
 
@@ -200,6 +207,16 @@ impl Boundary for Second {
         }
         answer(filled)
     }
+
+    fn parts(&self, file: &[u8], numbers: &mut [u8]) -> u64 {
+        let all = parts(file);
+        let each = all.map(|all| {
+            all.iter()
+                .map(|part| [part.father.into(), part.depth])
+                .collect()
+        });
+        many(each, numbers)
+    }
 }
 
 /// The answer of a call: what it counts to, or its refusal.
@@ -234,6 +251,19 @@ fn few<const N: usize>(result: Result<[u32; N], Refusal>, bytes: &mut [u8]) -> u
         crate::Number::NoRoom.unless(bytes.len() / 4 >= N, N)?;
         put(bytes, numbers.iter().map(|number| number.to_le_bytes()));
         Ok(N)
+    });
+    answer(filled)
+}
+
+/// The answer of a call that fills so many numbers for each of many, whose room
+/// is counted in wholes and judged last.
+fn many<const N: usize>(result: Result<Vec<[u32; N]>, Refusal>, bytes: &mut [u8]) -> u64 {
+    let filled = result.and_then(|all| {
+        let fits = all.len() <= bytes.len() / (4 * N);
+        crate::Number::NoRoom.unless(fits, all.len())?;
+        let numbers = all.as_flattened().iter();
+        put(bytes, numbers.map(|number| number.to_le_bytes()));
+        Ok(all.len())
     });
     answer(filled)
 }

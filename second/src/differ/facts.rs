@@ -4,7 +4,7 @@
 use super::compare::Pair;
 use super::lent::{spoken, Difference};
 use super::node::Node;
-use crate::boundary::{refusal, Boundary, RECORD_BYTES};
+use crate::boundary::{refusal, Boundary, PART_BYTES, RECORD_BYTES};
 use crate::{record, row, OLD_MAPPING, RECORD};
 
 /// One mesh: its tables and the span of its name.
@@ -30,12 +30,15 @@ pub struct Facts {
     pub records: Vec<[u32; RECORD]>,
     pub counts: [u32; 3],
     pub meshes: Vec<Mesh>,
+    /// Father and depth of each part.
+    pub parts: Vec<[u32; 2]>,
 }
 
 /// The room that is lent when facts are asked for.
 #[derive(Clone, Debug, Default, PartialEq, Eq)]
 pub struct Rooms {
     records: usize,
+    parts: usize,
     /// Bytes for the vertices, the corners and the pairs of each mesh.
     tables: Vec<[usize; 3]>,
 }
@@ -46,6 +49,7 @@ impl Rooms {
         let meshes = facts.meshes.iter();
         Rooms {
             records: facts.records.len(),
+            parts: facts.parts.len(),
             tables: meshes
                 .map(|mesh| [&mesh.vertices, &mesh.corners, &mesh.mapping].map(Vec::len))
                 .collect(),
@@ -64,12 +68,16 @@ pub fn ask(side: &impl Boundary, file: &[u8], rooms: &Rooms) -> Result<Facts, St
     let records = accepted("list", side.list(file, &mut bytes))?;
     let mut counts = [0; 12];
     accepted("counts", side.counts(file, &mut counts))?;
+    let mut parts = vec![0; PART_BYTES * rooms.parts];
+    let hung = accepted("parts", side.parts(file, &mut parts))?;
     let mut facts = Facts {
         records: numbers(&bytes),
         counts: numbers(&counts)[0],
         meshes: Vec::with_capacity(rooms.tables.len()),
+        parts: numbers(&parts),
     };
     facts.records.truncate(records as usize);
+    facts.parts.truncate(hung as usize);
     for (number, tables) in rooms.tables.iter().enumerate() {
         let [vertices, corners, mapping] = tables.map(|bytes| vec![0xA5; bytes]);
         let mut mesh = Mesh {
@@ -120,6 +128,7 @@ pub fn rooms(side: &impl Boundary, file: &[u8]) -> Rooms {
     Rooms {
         tables: tables.collect(),
         records: side.check(file) as u32 as usize,
+        parts: needed(side.parts(file, &mut [])),
     }
 }
 
@@ -195,9 +204,16 @@ impl Facts {
         next
     }
 
-    /// Notes what a chunk says of a mesh; an object is one until its end.
+    /// Notes what a chunk says of a mesh or a part; an object is a mesh until
+    /// its end.
     fn note(&mut self, node: &Node, at: usize) {
         let own = &node.own;
+        if node.identifier == 0xB010 {
+            let father = u16::from_le_bytes([own[own.len() - 2], own[own.len() - 1]]);
+            let above = self.parts.get(usize::from(father));
+            let depth = above.map_or(0, |above| above[1] + 1);
+            self.parts.push([u32::from(father), depth]);
+        }
         if node.identifier == 0x4000 {
             let name = [at as u32 + 6, own.len() as u32 - 1];
             self.meshes.push(Mesh {

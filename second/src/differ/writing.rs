@@ -146,6 +146,7 @@ impl Writing {
                 mapping: vec![],
                 name: [18, name as u32],
             }],
+            parts: vec![],
         }
     }
 

@@ -1,7 +1,7 @@
 //! Every call over one file, with just the room that is needed, a byte less
 //! and a byte more; of every mesh, and of some that are not there.
 
-use crate::boundary::{refusal, Boundary, RECORD_BYTES};
+use crate::boundary::{refusal, Boundary, PART_BYTES, RECORD_BYTES};
 use crate::differ::compare::{Call, Pair};
 use crate::differ::lent::Difference;
 use crate::RECORD;
@@ -29,6 +29,10 @@ pub fn all<L: Boundary, R: Boundary>(
     for room in [11, 12, 13] {
         pair.ask(file, Call::Counts(room))?;
     }
+    let parts = PART_BYTES * pair.wanting(file, Call::Parts(0))?;
+    for room in [parts.saturating_sub(1), parts, parts + 1] {
+        pair.ask(file, Call::Parts(room))?;
+    }
     let count = pair.ask(file, Call::Name(u32::MAX, 8))? as u32;
     for mesh in count..count + 3 {
         absent(file, mesh, pair)?;
@@ -41,7 +45,7 @@ pub fn all<L: Boundary, R: Boundary>(
 }
 
 /// All calls but the check, each with the same room.
-fn refused_calls(room: usize) -> [Call; 7] {
+fn refused_calls(room: usize) -> [Call; 8] {
     [
         Call::List(room),
         Call::Records(room, room),
@@ -50,6 +54,7 @@ fn refused_calls(room: usize) -> [Call; 7] {
         Call::Name(0, room),
         Call::Box(0, room),
         Call::Mapping(0, room),
+        Call::Parts(room),
     ]
 }
 
@@ -92,7 +97,7 @@ fn one<L: Boundary, R: Boundary>(
     for room in [35, 36, 37] {
         pair.ask(file, Call::Box(mesh, room))?;
     }
-    let m = 4 * pair.pairs(file, mesh)?;
+    let m = 4 * pair.wanting(file, Call::Mapping(mesh, 0))?;
     for room in [m.saturating_sub(1), m, m + 1] {
         pair.ask(file, Call::Mapping(mesh, room))?;
     }

@@ -5,6 +5,7 @@ mod accepted;
 mod bytes;
 mod calls;
 mod labels;
+mod parts;
 mod refused;
 mod rows;
 mod tree;
@@ -37,6 +38,7 @@ pub fn cases() -> Vec<Case> {
     cases.extend(rows::cases());
     cases.extend(labels::cases());
     cases.extend(versions::cases());
+    cases.extend(parts::cases());
     cases.extend(bytes::cases());
     cases.extend(writings::cases());
     cases

@@ -73,6 +73,10 @@ impl Boundary for Seeded {
     fn mapping(&self, file: &[u8], mesh: u32, numbers: &mut [u8]) -> u64 {
         answer(self.mapped(file, mesh, numbers))
     }
+
+    fn parts(&self, file: &[u8], numbers: &mut [u8]) -> u64 {
+        answer(self.hung(file, numbers))
+    }
 }
 
 /// Puts bytes at the beginning of a slice, as many as there is room for.
@@ -193,6 +197,30 @@ impl Seeded {
         put(vertices, &mesh.vertices);
         put(corners, &mesh.corners);
         Ok(n + 65_536 * f)
+    }
+
+    fn hung(self, file: &[u8], numbers: &mut [u8]) -> Result<usize, Refusal> {
+        let mut parts = read(self, file)?.parts;
+        let needed = parts.len();
+        let part = if self.makes(Error::PartsRoomOfPart) {
+            7
+        } else {
+            0
+        };
+        if (numbers.len() + part) / 8 < needed {
+            let numbers = self.makes(Error::PartsRoomInNumbers);
+            return Err(Number::NoRoom.at(if numbers { 2 * needed } else { needed }));
+        }
+        if self.makes(Error::PartsRootIsNone) {
+            let roots = parts.iter_mut().filter(|part| part[0] == 65_535);
+            roots.for_each(|part| part[0] = u32::MAX);
+        }
+        let bytes = parts
+            .as_flattened()
+            .iter()
+            .flat_map(|number| number.to_le_bytes());
+        put(numbers, &bytes.collect::<Vec<u8>>());
+        Ok(needed)
     }
 
     fn mapped(self, file: &[u8], mesh: u32, numbers: &mut [u8]) -> Result<usize, Refusal> {

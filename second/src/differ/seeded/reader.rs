@@ -14,6 +14,8 @@ pub struct Read {
     /// How many unlisted chunks were passed over.
     pub passed: usize,
     pub meshes: Vec<Mesh>,
+    /// Father and depth of each.
+    pub parts: Vec<[u32; 2]>,
 }
 
 /// What is known of a mesh before its end.
@@ -42,6 +44,9 @@ pub struct Reader<'a> {
     pub read: Read,
     pub name: [u32; 2],
     pub parts: Parts,
+    /// Blocks of all kinds met in a keyframer, and the last part.
+    pub blocks: usize,
+    pub part_at: usize,
     met_in_file: u8,
 }
 
@@ -78,6 +83,8 @@ pub fn read(seeded: Seeded, file: &[u8]) -> Result<Read, Refusal> {
         read: Read::default(),
         name: [0; 2],
         parts: Parts::default(),
+        blocks: 0,
+        part_at: 0,
         met_in_file: 0,
     };
     let length = reader.length(0);
@@ -183,6 +190,10 @@ impl Reader<'_> {
             return Err(Number::Overrun.at(at));
         }
         let length = length.min(left);
+        if (0xB001..=0xB007).contains(&self.word(at)) {
+            self.blocks += 1;
+            self.part_at = at;
+        }
         let Some(row) = row else {
             return Ok(self.pass_over(length));
         };
