@@ -7,6 +7,7 @@ use crate::parts::{next_part, Part};
 use crate::table::{place, row, Own, Row};
 use crate::version::mapped_whole;
 use crate::{Number, Refusal, HEADER, LIMIT};
+use std::ops::Range;
 
 /// The identifier that a figure begins with, and its row.
 const FIGURE: u16 = 0x4D4D;
@@ -49,28 +50,36 @@ struct Walk<'a> {
     mesh: Mesh,
     meshes: usize,
     parts: Vec<Part>,
-    wanted: Option<u32>,
-    found: Option<Found>,
+    /// The numbers of the meshes that are asked for, and those that were found.
+    wanted: Range<usize>,
+    found: Vec<Found>,
 }
 
 /// Whether a file is a figure, and what it counts to.
 pub fn check(file: &[u8]) -> Result<Counts, Refusal> {
-    Ok(walked(file, None)?.counts)
+    Ok(walked(file, 0..0)?.counts)
 }
 
 /// A mesh of a file; the file's own fault comes before "no such mesh".
 pub(crate) fn find(file: &[u8], mesh: u32) -> Result<Found, Refusal> {
-    let walk = walked(file, Some(mesh))?;
-    walk.found.ok_or(Number::NoSuchMesh.at(walk.meshes))
+    let mesh = mesh as usize;
+    let walk = walked(file, mesh..mesh + 1)?;
+    let found = walk.found.first().copied();
+    found.ok_or(Number::NoSuchMesh.at(walk.meshes))
+}
+
+/// All meshes of a file.
+pub(crate) fn found(file: &[u8]) -> Result<Vec<Found>, Refusal> {
+    Ok(walked(file, 0..usize::MAX)?.found)
 }
 
 /// The parts of a file.
 pub(crate) fn hung(file: &[u8]) -> Result<Vec<Part>, Refusal> {
-    Ok(walked(file, None)?.parts)
+    Ok(walked(file, 0..0)?.parts)
 }
 
 /// The walk over a whole file, after 1 and 2, and 4, 5 and 3 for the 4D4D.
-fn walked(file: &[u8], wanted: Option<u32>) -> Result<Walk<'_>, Refusal> {
+fn walked(file: &[u8], wanted: Range<usize>) -> Result<Walk<'_>, Refusal> {
     Number::TooLong.unless(file.len() <= LIMIT, 0)?;
     let (FIGURE, length) = header(file).ok_or(Number::NotAFigure.at(0))? else {
         return Err(Number::NotAFigure.at(0));
@@ -87,7 +96,7 @@ fn walked(file: &[u8], wanted: Option<u32>) -> Result<Walk<'_>, Refusal> {
         meshes: 0,
         parts: Vec::new(),
         wanted,
-        found: None,
+        found: Vec::new(),
     };
     walk.known(FIGURE_ROW, 0, &file[HEADER..])?;
     walk.counts.headers = HEADER * walk.counts.records;
@@ -177,11 +186,8 @@ impl Walk<'_> {
 
     /// Counts a mesh that met the rules, and keeps it if it is asked for.
     fn count_mesh(&mut self) {
-        if self
-            .wanted
-            .is_some_and(|wanted| wanted as usize == self.meshes)
-        {
-            self.found = Some(Found {
+        if self.wanted.contains(&self.meshes) {
+            self.found.push(Found {
                 mesh: self.mesh,
                 name: self.name,
             });

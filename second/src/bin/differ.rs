@@ -98,9 +98,10 @@ const OTHERS: [Other; 5] = [
 ];
 
 /// The calls over figures that have landed later than others, or will.
-const LATER: [(&str, bool); 2] = [
+const LATER: [(&str, bool); 3] = [
     ("mapping pairs", cfg!(feature = "mapping")),
     ("parts", cfg!(feature = "parts")),
+    ("places of all meshes", cfg!(feature = "meshes")),
 ];
 
 /// Many cases from a seed, over figures and then over all other formats.

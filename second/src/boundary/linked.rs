@@ -51,6 +51,8 @@ extern "C" {
         mapping: *mut u8,
         mapping_len: usize,
     ) -> u64;
+    #[cfg(feature = "meshes")]
+    fn tds_meshes(file: *const u8, file_len: usize, meshes: *mut u8, meshes_len: usize) -> u64;
     #[cfg(feature = "parts")]
     fn tds_parts(file: *const u8, file_len: usize, parts: *mut u8, parts_len: usize) -> u64;
 }
@@ -144,5 +146,12 @@ impl Boundary for Tds {
         let (len, mut some) = (numbers.len(), [0; 8]);
         let numbers = lend(numbers, &mut some);
         unsafe { tds_parts(read(file, &[0]), file.len(), numbers, len) }
+    }
+
+    #[cfg(feature = "meshes")]
+    fn meshes(&self, file: &[u8], numbers: &mut [u8]) -> u64 {
+        let (len, mut some) = (numbers.len(), [0; 8]);
+        let numbers = lend(numbers, &mut some);
+        unsafe { tds_meshes(read(file, &[0]), file.len(), numbers, len) }
     }
 }

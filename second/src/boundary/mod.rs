@@ -31,13 +31,17 @@ pub use figures::{FigureRight, Figures, Rows, FIGURES_LINKED};
 pub use slips::{SlipRight, Slips, ENTRY_BYTES, SLIPS_LINKED};
 pub use sums::{SumRight, Summing, SUMS_LINKED};
 
-use crate::{bounding_box, check, list, mapping, name, parts, tables, write, Refusal, RECORD};
+use crate::{bounding_box, check, list, mapping, meshes, name, parts, tables, write};
+use crate::{MeshPlaces, Refusal, RECORD};
 
 /// The bytes of one record on the boundary.
 pub const RECORD_BYTES: usize = 4 * RECORD;
 
 /// The bytes of one part on the boundary.
 pub const PART_BYTES: usize = 8;
+
+/// The bytes of one mesh's places on the boundary.
+pub const PLACES_BYTES: usize = 32;
 
 /// One record of the list as a struct, as C lays it out.
 #[repr(C)]
@@ -115,6 +119,10 @@ pub trait Boundary {
     /// The count of parts, their fathers and depths now in the slice.
     fn parts(&self, file: &[u8], numbers: &mut [u8]) -> u64 {
         Second.parts(file, numbers)
+    }
+    /// The count of meshes, where they stand now in the slice.
+    fn meshes(&self, file: &[u8], numbers: &mut [u8]) -> u64 {
+        Second.meshes(file, numbers)
     }
 }
 
@@ -217,6 +225,26 @@ impl Boundary for Second {
         });
         many(each, numbers)
     }
+
+    fn meshes(&self, file: &[u8], numbers: &mut [u8]) -> u64 {
+        let all = meshes(file);
+        let each = all.map(|all| all.iter().map(eight).collect());
+        many(each, numbers)
+    }
+}
+
+/// The eight numbers of a mesh.
+fn eight(mesh: &MeshPlaces) -> [u32; 8] {
+    let MeshPlaces {
+        name,
+        vertices,
+        faces,
+        mapping,
+    } = *mesh;
+    let pairs = [name, vertices, faces, mapping].map(|(a, b)| [a as u32, b as u32]);
+    let mut numbers = [0; 8];
+    numbers.copy_from_slice(pairs.as_flattened());
+    numbers
 }
 
 /// The answer of a call: what it counts to, or its refusal.

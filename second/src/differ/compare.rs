@@ -4,7 +4,7 @@
 use super::lent::{inside, spoken, Buffers, Difference, Lender, Lent};
 use super::random::Random;
 use super::run::{count, Tally};
-use crate::boundary::{refusal, Boundary, Chunk, PART_BYTES, RECORD_BYTES};
+use crate::boundary::{refusal, Boundary, Chunk, PART_BYTES, PLACES_BYTES, RECORD_BYTES};
 use crate::RECORD;
 
 /// One call, with the bytes it lends; of a row and a table, the elements.
@@ -19,6 +19,7 @@ pub enum Call {
     Box(u32, usize),
     Mapping(u32, usize),
     Parts(usize),
+    Meshes(usize),
 }
 
 /// Two sides, and the bytes they are lent.
@@ -72,6 +73,7 @@ fn make(side: &impl Boundary, file: &[u8], call: Call, buffers: &mut Buffers) ->
         Call::Box(mesh, _) => side.bounding_box(file, mesh, first),
         Call::Mapping(mesh, _) => side.mapping(file, mesh, first),
         Call::Parts(_) => side.parts(file, first),
+        Call::Meshes(_) => side.meshes(file, first),
     }
 }
 
@@ -108,7 +110,8 @@ impl Call {
     fn lent(self) -> [usize; 2] {
         match self {
             Call::Check => [0, 0],
-            Call::List(bytes) | Call::Counts(bytes) | Call::Parts(bytes) => [bytes, 0],
+            Call::List(bytes) | Call::Counts(bytes) => [bytes, 0],
+            Call::Parts(bytes) | Call::Meshes(bytes) => [bytes, 0],
             Call::Records(row, table) => [4 * row, RECORD_BYTES * table],
             Call::Name(_, bytes) | Call::Box(_, bytes) | Call::Mapping(_, bytes) => [bytes, 0],
             Call::Tables(_, vertices, corners) => [vertices, corners],
@@ -123,6 +126,7 @@ impl Call {
             Call::Check => [0, 0],
             Call::List(_) => [RECORD_BYTES * count, 0],
             Call::Parts(_) => [PART_BYTES * count, 0],
+            Call::Meshes(_) => [PLACES_BYTES * count, 0],
             Call::Records(..) => [RECORD_BYTES * count; 2],
             Call::Tables(..) => [12 * (count & 0xFFFF), 6 * (count >> 16)],
             Call::Counts(_) | Call::Name(..) | Call::Box(..) | Call::Mapping(..) => [4 * count, 0],
@@ -151,6 +155,15 @@ impl<L: Boundary, R: Boundary> Pair<L, R> {
             self.ask(file, Call::Parts(bytes))?;
         }
         let count = self.ask(file, Call::Name(u32::MAX, 8))? as u32;
+        let places = PLACES_BYTES * count as usize;
+        for bytes in [
+            0,
+            places.saturating_sub(1),
+            places,
+            places + random.below(40),
+        ] {
+            self.ask(file, Call::Meshes(bytes))?;
+        }
         self.meshes(file, count, random)?;
         Ok(answer)
     }
@@ -254,7 +267,7 @@ impl<L: Boundary, R: Boundary> Pair<L, R> {
 }
 
 /// All calls but the check, with rooms as they come.
-fn some_calls(random: &mut Random) -> [Call; 8] {
+fn some_calls(random: &mut Random) -> [Call; 9] {
     let mesh = random.pick(&[0, 1, 2, u32::MAX]);
     [
         Call::List(random.below(200)),
@@ -265,5 +278,6 @@ fn some_calls(random: &mut Random) -> [Call; 8] {
         Call::Box(mesh, random.below(44)),
         Call::Mapping(mesh, random.below(20)),
         Call::Parts(random.below(20)),
+        Call::Meshes(random.below(80)),
     ]
 }

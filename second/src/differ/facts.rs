@@ -4,7 +4,7 @@
 use super::compare::Pair;
 use super::lent::{spoken, Difference};
 use super::node::Node;
-use crate::boundary::{refusal, Boundary, PART_BYTES, RECORD_BYTES};
+use crate::boundary::{refusal, Boundary, PART_BYTES, PLACES_BYTES, RECORD_BYTES};
 use crate::{record, row, OLD_MAPPING, RECORD};
 
 /// One mesh: its tables and the span of its name.
@@ -15,6 +15,8 @@ pub struct Mesh {
     /// None before Q-6.
     pub mapping: Vec<u8>,
     pub name: [u32; 2],
+    /// Where it stands: name, vertices, faces, pairs.
+    pub places: [u32; 8],
 }
 
 impl Mesh {
@@ -84,7 +86,7 @@ pub fn ask(side: &impl Boundary, file: &[u8], rooms: &Rooms) -> Result<Facts, St
             vertices,
             corners,
             mapping,
-            name: [0; 2],
+            ..Mesh::default()
         };
         let filled = side.tables(file, number as u32, &mut mesh.vertices, &mut mesh.corners);
         let filled = accepted("tables", filled)? as usize;
@@ -99,6 +101,11 @@ pub fn ask(side: &impl Boundary, file: &[u8], rooms: &Rooms) -> Result<Facts, St
         accepted("name", side.name(file, number as u32, &mut span))?;
         mesh.name = numbers(&span)[0];
         facts.meshes.push(mesh);
+    }
+    let mut places = vec![0; PLACES_BYTES * rooms.meshes()];
+    accepted("meshes", side.meshes(file, &mut places))?;
+    for (mesh, places) in facts.meshes.iter_mut().zip(numbers(&places)) {
+        mesh.places = places;
     }
     Ok(facts)
 }
@@ -218,12 +225,20 @@ impl Facts {
             let name = [at as u32 + 6, own.len() as u32 - 1];
             self.meshes.push(Mesh {
                 name,
+                places: [name[0], name[1], 0, 0, 0, 0, 0, 0],
                 ..Mesh::default()
             });
         }
         let Some(mesh) = self.meshes.last_mut() else {
             return;
         };
+        if let Some(list) = [0x4110, 0x4120, 0x4140]
+            .iter()
+            .position(|id| *id == node.identifier)
+        {
+            let count = u32::from(u16::from_le_bytes([own[0], own[1]]));
+            mesh.places[2 + 2 * list..][..2].copy_from_slice(&[count, at as u32 + 8]);
+        }
         match node.identifier {
             0x4110 => mesh.vertices = own[2..].to_vec(),
             0x4140 if OLD_MAPPING => mesh.mapping = own[2..].to_vec(),

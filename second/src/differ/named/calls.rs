@@ -1,7 +1,7 @@
 //! Every call over one file, with just the room that is needed, a byte less
 //! and a byte more; of every mesh, and of some that are not there.
 
-use crate::boundary::{refusal, Boundary, PART_BYTES, RECORD_BYTES};
+use crate::boundary::{refusal, Boundary, PART_BYTES, PLACES_BYTES, RECORD_BYTES};
 use crate::differ::compare::{Call, Pair};
 use crate::differ::lent::Difference;
 use crate::RECORD;
@@ -34,6 +34,10 @@ pub fn all<L: Boundary, R: Boundary>(
         pair.ask(file, Call::Parts(room))?;
     }
     let count = pair.ask(file, Call::Name(u32::MAX, 8))? as u32;
+    let places = PLACES_BYTES * count as usize;
+    for room in [places.saturating_sub(1), places, places + 1] {
+        pair.ask(file, Call::Meshes(room))?;
+    }
     for mesh in count..count + 3 {
         absent(file, mesh, pair)?;
     }
@@ -45,7 +49,7 @@ pub fn all<L: Boundary, R: Boundary>(
 }
 
 /// All calls but the check, each with the same room.
-fn refused_calls(room: usize) -> [Call; 8] {
+fn refused_calls(room: usize) -> [Call; 9] {
     [
         Call::List(room),
         Call::Records(room, room),
@@ -55,6 +59,7 @@ fn refused_calls(room: usize) -> [Call; 8] {
         Call::Box(0, room),
         Call::Mapping(0, room),
         Call::Parts(room),
+        Call::Meshes(room),
     ]
 }
 

@@ -77,6 +77,10 @@ impl Boundary for Seeded {
     fn parts(&self, file: &[u8], numbers: &mut [u8]) -> u64 {
         answer(self.hung(file, numbers))
     }
+
+    fn meshes(&self, file: &[u8], numbers: &mut [u8]) -> u64 {
+        answer(self.placed(file, numbers))
+    }
 }
 
 /// Puts bytes at the beginning of a slice, as many as there is room for.
@@ -197,6 +201,32 @@ impl Seeded {
         put(vertices, &mesh.vertices);
         put(corners, &mesh.corners);
         Ok(n + 65_536 * f)
+    }
+
+    fn placed(self, file: &[u8], numbers: &mut [u8]) -> Result<usize, Refusal> {
+        let read = read(self, file)?;
+        let needed = read.meshes.len();
+        let part = if self.makes(Error::PlacesRoomOfPart) {
+            31
+        } else {
+            0
+        };
+        if (numbers.len() + part) / 32 < needed {
+            let numbers = self.makes(Error::PlacesRoomInNumbers);
+            return Err(Number::NoRoom.at(if numbers { 8 * needed } else { needed }));
+        }
+        let first = self.makes(Error::PlacesOfFirst);
+        let meshes = read.meshes.iter();
+        let places = meshes.map(|mesh| {
+            if first {
+                read.meshes[0].places
+            } else {
+                mesh.places
+            }
+        });
+        let bytes = places.flatten().flat_map(|number| number.to_le_bytes());
+        put(numbers, &bytes.collect::<Vec<u8>>());
+        Ok(needed)
     }
 
     fn hung(self, file: &[u8], numbers: &mut [u8]) -> Result<usize, Refusal> {

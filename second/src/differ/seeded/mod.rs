@@ -5,6 +5,7 @@ mod calls;
 mod misread;
 mod own;
 mod parts;
+mod places;
 mod reader;
 mod text;
 mod version;
@@ -82,7 +83,10 @@ errors! {
     PartDepthOfRootIsOne PartDepthOfPrevious PartDepthIsFather PartDepthIsAByte PartDepthIsFathers
     PartsRoomOfPart PartsRoomInNumbers PartsRootIsNone;
 
-    all(feature = "labels", feature = "parts"): TextOfPartsUnjudged
+    all(feature = "labels", feature = "parts"): TextOfPartsUnjudged;
+
+    feature = "meshes": PlacesOfChunk PlacesOfCount PlacesOfFewNone PlacesOfNameEnd PlacesTurned
+    PlacesOfAbsent PlacesInNumbers PlacesRoomOfPart PlacesRoomInNumbers PlacesOfFirst PlacesOfPairsLast
 }
 
 /// The plain reader, with an error or without.

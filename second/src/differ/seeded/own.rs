@@ -94,6 +94,7 @@ impl Reader<'_> {
                 false => return Err(refusal),
             }
         }
+        self.place(row.own, at, &data);
         match row.own {
             Own::Vertices => {
                 let vertices = floats.to_vec();
@@ -224,6 +225,7 @@ impl Reader<'_> {
             corners,
             mapping,
             name: self.name,
+            places: self.places(parts.places),
         });
         Ok(())
     }

@@ -25,6 +25,8 @@ pub struct Parts {
     pub faces: Vec<u8>,
     pub faces_at: usize,
     pub mapping: Option<(usize, Vec<u8>)>,
+    /// Count and offset of the vertices, the faces and the pairs.
+    pub places: [u32; 6],
     /// A refusal put off to the mesh's end, by mistake.
     pub put_off: Option<Refusal>,
 }
