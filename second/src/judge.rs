@@ -4,6 +4,7 @@
 use crate::bytes::{header, word};
 use crate::own::Mesh;
 use crate::parts::{next_part, Part};
+use crate::rescue::Cut;
 use crate::table::{place, row, Own, Row};
 use crate::version::mapped_whole;
 use crate::{Number, Refusal, HEADER, LIMIT};
@@ -53,6 +54,10 @@ struct Walk<'a> {
     /// The numbers of the meshes that are asked for, and those that were found.
     wanted: Range<usize>,
     found: Vec<Found>,
+    /// Whether the 3D3D is to be mended; where it stands, and what is cut.
+    mending: bool,
+    edit: usize,
+    cuts: Vec<Cut>,
 }
 
 /// Whether a file is a figure, and what it counts to.
@@ -78,8 +83,25 @@ pub(crate) fn hung(file: &[u8]) -> Result<Vec<Part>, Refusal> {
     Ok(walked(file, 0..0)?.parts)
 }
 
-/// The walk over a whole file, after 1 and 2, and 4, 5 and 3 for the 4D4D.
+/// The 3D3D of a damaged file and what must be cut out of it, or the first fault
+/// outside its children.
+pub(crate) fn cuts(file: &[u8]) -> Result<(usize, Vec<Cut>), Refusal> {
+    let mut walk = begun(file, 0..0)?;
+    walk.mending = true;
+    walk.known(FIGURE_ROW, 0, &file[HEADER..])?;
+    Ok((walk.edit, walk.cuts))
+}
+
+/// The walk over a whole file.
 fn walked(file: &[u8], wanted: Range<usize>) -> Result<Walk<'_>, Refusal> {
+    let mut walk = begun(file, wanted)?;
+    walk.known(FIGURE_ROW, 0, &file[HEADER..])?;
+    walk.counts.headers = HEADER * walk.counts.records;
+    Ok(walk)
+}
+
+/// A walk that has judged 1 and 2, and 4, 5 and 3 for the 4D4D.
+fn begun(file: &[u8], wanted: Range<usize>) -> Result<Walk<'_>, Refusal> {
     Number::TooLong.unless(file.len() <= LIMIT, 0)?;
     let (FIGURE, length) = header(file).ok_or(Number::NotAFigure.at(0))? else {
         return Err(Number::NotAFigure.at(0));
@@ -87,7 +109,7 @@ fn walked(file: &[u8], wanted: Range<usize>) -> Result<Walk<'_>, Refusal> {
     Number::Short.unless(length >= HEADER, 0)?;
     Number::Overrun.unless(length <= file.len(), 0)?;
     Number::Trailing.unless(length == file.len(), length)?;
-    let mut walk = Walk {
+    Ok(Walk {
         file,
         mapped_whole: mapped_whole(file),
         counts: Counts::default(),
@@ -97,10 +119,10 @@ fn walked(file: &[u8], wanted: Range<usize>) -> Result<Walk<'_>, Refusal> {
         parts: Vec::new(),
         wanted,
         found: Vec::new(),
-    };
-    walk.known(FIGURE_ROW, 0, &file[HEADER..])?;
-    walk.counts.headers = HEADER * walk.counts.records;
-    Ok(walk)
+        mending: false,
+        edit: 0,
+        cuts: Vec::new(),
+    })
 }
 
 impl Parent {
@@ -171,6 +193,11 @@ impl Walk<'_> {
             needs: row.needs,
         };
         let start = at + HEADER;
+        if row.holds == place::H3D3D && self.mending {
+            self.edit = at;
+            self.mend(start, end);
+            return Ok(());
+        }
         match row.own {
             Own::Name => self.name = (start, own - 1),
             _ if row.holds == place::H4100 => self.mesh = Mesh::default(),
@@ -182,6 +209,38 @@ impl Walk<'_> {
             self.count_mesh();
         }
         Ok(())
+    }
+
+    /// Judges each child of a 3D3D by itself, and adds those that fail to the
+    /// cuts; from a bad header on all is cut.
+    fn mend(&mut self, start: usize, end: usize) {
+        let mut at = start;
+        while at < end {
+            let (failed, bytes) = match child(&self.file[at..end], at) {
+                Err(refusal) => (Err(refusal), end - at),
+                Ok((_, length)) => (self.alone(at, at + length), length),
+            };
+            if let Err(Refusal { number, .. }) = failed {
+                self.cuts.push(Cut {
+                    offset: at,
+                    number,
+                    bytes,
+                });
+            }
+            at += bytes;
+        }
+    }
+
+    /// Judges one child of a 3D3D as if it were the only one.
+    fn alone(&mut self, at: usize, end: usize) -> Result<(), Refusal> {
+        let mut parent = Parent {
+            chunk: at,
+            end,
+            place: place::H3D3D,
+            seen: 0,
+            needs: 0,
+        };
+        self.children(&mut parent, at)
     }
 
     /// Counts a mesh that met the rules, and keeps it if it is asked for.

@@ -31,8 +31,8 @@ pub use figures::{FigureRight, Figures, Rows, FIGURES_LINKED};
 pub use slips::{SlipRight, Slips, ENTRY_BYTES, SLIPS_LINKED};
 pub use sums::{SumRight, Summing, SUMS_LINKED};
 
-use crate::{bounding_box, check, list, mapping, meshes, name, parts, tables, write};
-use crate::{MeshPlaces, Refusal, RECORD};
+use crate::{bounding_box, check, list, mapping, meshes, name, parts, rescue, tables, write};
+use crate::{Cut, MeshPlaces, Number, Refusal, RECORD};
 
 /// The bytes of one record on the boundary.
 pub const RECORD_BYTES: usize = 4 * RECORD;
@@ -42,6 +42,9 @@ pub const PART_BYTES: usize = 8;
 
 /// The bytes of one mesh's places on the boundary.
 pub const PLACES_BYTES: usize = 32;
+
+/// The bytes of one cut on the boundary.
+pub const CUT_BYTES: usize = 12;
 
 /// One record of the list as a struct, as C lays it out.
 #[repr(C)]
@@ -123,6 +126,10 @@ pub trait Boundary {
     /// The count of meshes, where they stand now in the slice.
     fn meshes(&self, file: &[u8], numbers: &mut [u8]) -> u64 {
         Second.meshes(file, numbers)
+    }
+    /// The count of cuts, now in the slice, and the mended figure in the other.
+    fn rescue(&self, file: &[u8], cuts: &mut [u8], out: &mut [u8]) -> u64 {
+        Second.rescue(file, cuts, out)
     }
 }
 
@@ -231,6 +238,18 @@ impl Boundary for Second {
         let each = all.map(|all| all.iter().map(eight).collect());
         many(each, numbers)
     }
+
+    fn rescue(&self, file: &[u8], cuts: &mut [u8], out: &mut [u8]) -> u64 {
+        let rescued = rescue(file).and_then(|rescued| {
+            let (count, size) = (rescued.cuts.len(), rescued.figure.len());
+            Number::NoRoom.unless(count <= cuts.len() / CUT_BYTES, count)?;
+            Number::NoRoom.unless(size <= out.len(), size)?;
+            out[..size].copy_from_slice(&rescued.figure);
+            Ok(rescued.cuts)
+        });
+        let three = |cut: &Cut| [cut.offset as u32, cut.number, cut.bytes as u32];
+        many(rescued.map(|all| all.iter().map(three).collect()), cuts)
+    }
 }
 
 /// The eight numbers of a mesh.
@@ -276,7 +295,7 @@ fn put<const N: usize>(bytes: &mut [u8], numbers: impl Iterator<Item = [u8; N]>)
 /// The answer of a call that fills a few numbers, whose room is judged last.
 fn few<const N: usize>(result: Result<[u32; N], Refusal>, bytes: &mut [u8]) -> u64 {
     let filled = result.and_then(|numbers| {
-        crate::Number::NoRoom.unless(bytes.len() / 4 >= N, N)?;
+        Number::NoRoom.unless(bytes.len() / 4 >= N, N)?;
         put(bytes, numbers.iter().map(|number| number.to_le_bytes()));
         Ok(N)
     });
@@ -288,7 +307,7 @@ fn few<const N: usize>(result: Result<[u32; N], Refusal>, bytes: &mut [u8]) -> u
 fn many<const N: usize>(result: Result<Vec<[u32; N]>, Refusal>, bytes: &mut [u8]) -> u64 {
     let filled = result.and_then(|all| {
         let fits = all.len() <= bytes.len() / (4 * N);
-        crate::Number::NoRoom.unless(fits, all.len())?;
+        Number::NoRoom.unless(fits, all.len())?;
         let numbers = all.as_flattened().iter();
         put(bytes, numbers.map(|number| number.to_le_bytes()));
         Ok(all.len())

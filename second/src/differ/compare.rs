@@ -4,8 +4,9 @@
 use super::lent::{inside, spoken, Buffers, Difference, Lender, Lent};
 use super::random::Random;
 use super::run::{count, Tally};
-use crate::boundary::{refusal, Boundary, Chunk, PART_BYTES, PLACES_BYTES, RECORD_BYTES};
-use crate::RECORD;
+use crate::boundary::{refusal, Boundary, Chunk};
+use crate::boundary::{CUT_BYTES, PART_BYTES, PLACES_BYTES, RECORD_BYTES};
+use crate::{rescue, RECORD};
 
 /// One call, with the bytes it lends; of a row and a table, the elements.
 #[derive(Clone, Copy, Debug, PartialEq, Eq)]
@@ -20,6 +21,8 @@ pub enum Call {
     Mapping(u32, usize),
     Parts(usize),
     Meshes(usize),
+    /// Cuts, and the mended figure.
+    Rescue(usize, usize),
 }
 
 /// Two sides, and the bytes they are lent.
@@ -50,7 +53,7 @@ impl<L: Boundary, R: Boundary> Pair<L, R> {
             Lent {
                 call: &|| format!("{call:?}"),
                 bytes: call.lent(),
-                filled: &|answer| call.filled(answer),
+                filled: &|answer| call.filled(answer, file),
             },
             |buffers| make(left, file, call, buffers),
             |buffers| make(right, file, call, buffers),
@@ -74,6 +77,7 @@ fn make(side: &impl Boundary, file: &[u8], call: Call, buffers: &mut Buffers) ->
         Call::Mapping(mesh, _) => side.mapping(file, mesh, first),
         Call::Parts(_) => side.parts(file, first),
         Call::Meshes(_) => side.meshes(file, first),
+        Call::Rescue(..) => side.rescue(file, first, second),
     }
 }
 
@@ -115,11 +119,12 @@ impl Call {
             Call::Records(row, table) => [4 * row, RECORD_BYTES * table],
             Call::Name(_, bytes) | Call::Box(_, bytes) | Call::Mapping(_, bytes) => [bytes, 0],
             Call::Tables(_, vertices, corners) => [vertices, corners],
+            Call::Rescue(cuts, out) => [cuts, out],
         }
     }
 
     /// The bytes that an answer says are filled.
-    fn filled(self, answer: u64) -> [usize; 2] {
+    fn filled(self, answer: u64, file: &[u8]) -> [usize; 2] {
         let count = answer as usize;
         match self {
             _ if refusal(answer).is_some() => [0, 0],
@@ -127,6 +132,10 @@ impl Call {
             Call::List(_) => [RECORD_BYTES * count, 0],
             Call::Parts(_) => [PART_BYTES * count, 0],
             Call::Meshes(_) => [PLACES_BYTES * count, 0],
+            Call::Rescue(..) => {
+                let mended = rescue(file).map_or(0, |rescued| rescued.figure.len());
+                [CUT_BYTES * count, mended]
+            }
             Call::Records(..) => [RECORD_BYTES * count; 2],
             Call::Tables(..) => [12 * (count & 0xFFFF), 6 * (count >> 16)],
             Call::Counts(_) | Call::Name(..) | Call::Box(..) | Call::Mapping(..) => [4 * count, 0],
@@ -139,6 +148,7 @@ impl<L: Boundary, R: Boundary> Pair<L, R> {
     /// the check, if both sides agree in all.
     pub fn whole(&mut self, file: &[u8], random: &mut Random) -> Result<u64, Difference> {
         let answer = self.ask(file, Call::Check)?;
+        self.rescued(file, random)?;
         if refusal(answer).is_some() {
             self.refused(file, answer, some_calls(random))?;
             return Ok(answer);

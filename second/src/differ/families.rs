@@ -10,7 +10,7 @@ use super::lent::Difference;
 use super::node::Node;
 use super::random::Random;
 use super::writing::Writing;
-use super::{damage, harm, long, parts, rows, versions};
+use super::{damage, harm, long, parts, rescues, rows, versions};
 use crate::boundary::Boundary;
 use crate::{row, LIMIT};
 
@@ -23,6 +23,7 @@ pub enum Family {
     Names,
     Versions,
     Parts,
+    Rescues,
     Damage,
     Gaps,
     Boxes,
@@ -34,13 +35,14 @@ pub enum Family {
 }
 
 /// Each family, its share of all cases in ten thousand, and what it is.
-pub const FAMILIES: [(Family, u64, &str); 14] = [
+pub const FAMILIES: [(Family, u64, &str); 15] = [
     (Family::Grown, 1_700, "valid figures"),
     (Family::Rows, 1_500, "each row in each place"),
     (Family::Faults, 2_000, "each two faults at one chunk"),
     (Family::Names, 400, "names that no label takes"),
     (Family::Versions, 800, "versions and mapping lists"),
     (Family::Parts, 400, "parts that hang on each other"),
+    (Family::Rescues, 800, "several faults at once"),
     (Family::Damage, 1_800, "bits, lengths, bytes damaged"),
     (Family::Gaps, 700, "private chunks in gaps"),
     (Family::Boxes, 300, "boxes of floats of note"),
@@ -68,6 +70,7 @@ pub fn make(family: Family, index: u64, random: &mut Random) -> Subject {
         Family::Names => harm::misnamed(random).bytes(),
         Family::Versions => versions::figure(random).bytes(),
         Family::Parts => parts::figure(random).bytes(),
+        Family::Rescues => rescues::damaged(random).bytes(),
         Family::Damage => damaged(random),
         Family::Boxes => floats(random),
         Family::Soup => soup(0x4D4D, 0, random).bytes(),

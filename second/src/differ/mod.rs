@@ -41,6 +41,7 @@ pub mod node;
 pub mod parts;
 pub mod random;
 pub mod real;
+pub mod rescues;
 pub mod rows;
 pub mod run;
 pub mod seeded;

@@ -81,6 +81,10 @@ impl Boundary for Seeded {
     fn meshes(&self, file: &[u8], numbers: &mut [u8]) -> u64 {
         answer(self.placed(file, numbers))
     }
+
+    fn rescue(&self, file: &[u8], cuts: &mut [u8], out: &mut [u8]) -> u64 {
+        answer(self.mended(file, cuts, out))
+    }
 }
 
 /// Puts bytes at the beginning of a slice, as many as there is room for.
@@ -201,6 +205,37 @@ impl Seeded {
         put(vertices, &mesh.vertices);
         put(corners, &mesh.corners);
         Ok(n + 65_536 * f)
+    }
+
+    fn mended(self, file: &[u8], cuts: &mut [u8], out: &mut [u8]) -> Result<usize, Refusal> {
+        let (all, figure) = self.rescued(file)?;
+        let part = if self.makes(Error::CutRoomOfPart) {
+            11
+        } else {
+            0
+        };
+        let few = (cuts.len() + part) / 12 < all.len();
+        let small = out.len() < figure.len();
+        if small && self.makes(Error::CutRoomOfOutputFirst) {
+            return Err(Number::NoRoom.at(figure.len()));
+        }
+        if few {
+            return Err(Number::NoRoom.at(all.len()));
+        }
+        let numbers = all.as_flattened().iter();
+        let bytes: Vec<u8> = numbers.flat_map(|number| number.to_le_bytes()).collect();
+        if small {
+            if self.makes(Error::CutWritesBeforeRefusing) {
+                put(cuts, &bytes);
+            }
+            return Err(Number::NoRoom.at(figure.len()));
+        }
+        if self.makes(Error::CutRestCleared) {
+            out.fill(0);
+        }
+        put(cuts, &bytes);
+        put(out, &figure);
+        Ok(all.len())
     }
 
     fn placed(self, file: &[u8], numbers: &mut [u8]) -> Result<usize, Refusal> {

@@ -7,6 +7,7 @@ mod own;
 mod parts;
 mod places;
 mod reader;
+mod rescue;
 mod text;
 mod version;
 mod writer;
@@ -86,7 +87,13 @@ errors! {
     all(feature = "labels", feature = "parts"): TextOfPartsUnjudged;
 
     feature = "meshes": PlacesOfChunk PlacesOfCount PlacesOfFewNone PlacesOfNameEnd PlacesTurned
-    PlacesOfAbsent PlacesInNumbers PlacesRoomOfPart PlacesRoomInNumbers PlacesOfFirst PlacesOfPairsLast
+    PlacesOfAbsent PlacesInNumbers PlacesRoomOfPart PlacesRoomInNumbers PlacesOfFirst PlacesOfPairsLast;
+
+    feature = "rescue": CutFirstOnly CutBytesOfBody CutFigureLengthKept CutEditLengthKept CutInsideFirst
+    CutBehindUnjudged CutOutsidePlace CutOfHeaderOnly CutUnlisted CutAtInner CutOfDeepHeader CutNumber
+    CutRoomOfPart CutRoomOfOutputFirst CutWritesBeforeRefusing CutRestCleared;
+
+    all(feature = "rescue", feature = "mapping"): CutWithoutVersion
 }
 
 /// The plain reader, with an error or without.

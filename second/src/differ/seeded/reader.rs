@@ -76,10 +76,9 @@ fn begin(seeded: Seeded, file: &[u8]) -> Result<(), Refusal> {
     }
 }
 
-/// Reads a whole file.
-pub fn read(seeded: Seeded, file: &[u8]) -> Result<Read, Refusal> {
-    begin(seeded, file)?;
-    let mut reader = Reader {
+/// A reader that has read nothing.
+fn reader(seeded: Seeded, file: &[u8]) -> Reader<'_> {
+    Reader {
         seeded,
         file,
         read: Read::default(),
@@ -88,7 +87,18 @@ pub fn read(seeded: Seeded, file: &[u8]) -> Result<Read, Refusal> {
         blocks: 0,
         part_at: 0,
         met_in_file: 0,
-    };
+    }
+}
+
+/// The version of a whole file.
+pub fn version(seeded: Seeded, file: &[u8]) -> Option<u32> {
+    reader(seeded, file).version()
+}
+
+/// Reads a whole file.
+pub fn read(seeded: Seeded, file: &[u8]) -> Result<Read, Refusal> {
+    begin(seeded, file)?;
+    let mut reader = reader(seeded, file);
     let length = reader.length(0);
     if length < 6 && !seeded.makes(Error::TrailingBeforeShort) {
         return Err(Number::Short.at(0));
