@@ -24,7 +24,7 @@ lines err 0
 try 'several folders'
 stick samples/edition samples/damaged
 status_is 1
-unsealed 25 19 0
+unsealed 26 20 0
 
 try 'endings of any case, in folders below, and no others'
 folder case
@@ -173,7 +173,7 @@ matches err "stick: '': not checked: the name is empty: give a folder, for examp
 try 'status 2 wins over 1'
 stick "$T/nowhere" samples/damaged
 status_is 2
-unsealed 19 19 1
+unsealed 20 20 1
 
 try 'a folder with no figure in it'
 folder none
