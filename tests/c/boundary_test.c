@@ -7,6 +7,7 @@
 #include <string.h>
 #include <sys/mman.h>
 
+#include "c4d_cases.h"
 #include "cases.h"
 #include "mesh_cases.h"
 #include "slices.h"
@@ -338,5 +339,6 @@ int main(void) {
     try_meshes();
     try_writer();
     try_slips();
+    try_c4ds();
     return finish("boundary_test");
 }
