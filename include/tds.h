@@ -69,7 +69,7 @@ extern "C" {
  * lent may be filled in another way than it was built for. (Version 1 had six numbers a record, and
  * no tds_version.) CHANGELOG.md says what came with each.
  */
-#define TDS_VERSION (65536 * 2 + 256 * 2 + 0)
+#define TDS_VERSION (65536 * 2 + 256 * 3 + 0)
 uint64_t tds_version(void);
 
 /* No file longer than this is a figure. One byte more is enough to hand to tds_check to be told. */
@@ -101,7 +101,11 @@ enum tds_refusal {
     TDS_SLIP = 18,         /* a slip that breaks its rules (place: see the calls about slips) */
     TDS_DIFFERS = 19,      /* a file is not the one of an entry (place 0: length, 1: sums) */
     TDS_FATHER = 23,       /* a part that hangs on none before it: see tds_parts (the B010) */
-    TDS_TEXT = 24          /* a name that does not fit the label: see TDS_LONGEST_NAME */
+    TDS_TEXT = 24,         /* a name that does not fit the label: see TDS_LONGEST_NAME */
+    TDS_FORM = 25,         /* a Cinema 4D file whose first 12 bytes are not right (place 0) */
+    TDS_ORDER = 26,        /* a chunk or sub-chunk of it out of order, or with no end */
+    TDS_COMBINATION = 27,  /* an object of none of the nine kinds (place: its T_END) */
+    TDS_MATERIAL = 28      /* a texture whose material does not exist */
 };
 
 /*
@@ -416,6 +420,42 @@ uint64_t tds_slip_read(const uint8_t *slip, size_t slip_len, uint8_t *entries, s
  */
 uint64_t tds_slip_write(const uint8_t *names, size_t names_len, const uint8_t *entries,
                         size_t entries_len, uint8_t *out, size_t out_len);
+
+/*
+ * CINEMA 4D FIGURES (.c4d). Of these the structure alone is read, as strictly: the sizes of all
+ * chunks and sub-chunks, PLTF, MAT4 and OBJ5 in this order and once each, materials up to MAT_END,
+ * objects from T_OBJECT to T_END, each with the sub-chunks of one of the nine combinations that the
+ * format has. Chunks and sub-chunks of unknown kinds are stepped over. docs/FORMAT.md has the
+ * rules.
+ *
+ * Refusals: 1; 25; then the first fault met, at its chunk or sub-chunk: 5, 10 for a texture that is
+ * not of 64 bytes, 26, 28, 27 (at the T_END; a missing end is 26 at its MAT4 or OBJ5); then 15.
+ */
+
+/* Answers the count of objects, which may be 0, or refuses. */
+uint64_t tds_c4d_check(const uint8_t *file, size_t file_len);
+
+/* An OBJECT is three numbers, 12 bytes, in the order of enum tds_object. */
+#define TDS_OBJECT_NUMBERS 3
+#define TDS_OBJECT_BYTES (4 * TDS_OBJECT_NUMBERS)
+
+enum tds_object {
+    TDS_OBJECT_OFFSET = 0,      /* where its T_OBJECT begins */
+    TDS_OBJECT_COMBINATION = 1, /* 1 to 9: mesh, polygon, light, camera, ground, sky, sphere,
+                                   environment, none of these */
+    TDS_OBJECT_TEXTURES = 2     /* how many textures it has */
+};
+
+/*
+ * The objects, in order; and the materials of the textures of all objects, one after another, four
+ * bytes each: the first belong to the first object, and so on. No material (-1) is 0xFFFFFFFF.
+ *
+ * Answers the count of objects and fills as many, from the start of each slice; or refuses as
+ * tds_c4d_check does, or with 15 and the objects needed (place), then with 15 and the materials
+ * needed. Rooms are objects_len / TDS_OBJECT_BYTES objects and materials_len / 4 materials.
+ */
+uint64_t tds_c4d_list(const uint8_t *file, size_t file_len, uint8_t *objects, size_t objects_len,
+                      uint8_t *materials, size_t materials_len);
 
 /* The words below are what C89, C99 and C++ call a function that lives in a header. */
 #if defined(__cplusplus) || (defined(__STDC_VERSION__) && __STDC_VERSION__ >= 199901L)

@@ -1,10 +1,11 @@
 /*
  * Makes the sample edition, an older figure and the damaged ones, the same bytes on every machine.
  *
- *     make_samples FOLDER              FOLDER/edition/, FOLDER/old/ and FOLDER/damaged/
+ *     make_samples FOLDER              FOLDER/edition/, old/, damaged/ and c4d/
  *     make_samples --too-long FILE     the one damaged figure that is too long to be kept
  *
- * FOLDER/damaged/expected.txt says of each damaged figure its refusal: file, number and place.
+ * FOLDER/damaged/expected.txt says of each damaged figure its refusal: file, number and place; so
+ * does FOLDER/c4d/expected.txt, and of the good one there 0 and how many objects it has.
  */
 #include <errno.h>
 #include <stdio.h>
@@ -12,6 +13,7 @@
 #include <string.h>
 #include <sys/stat.h>
 
+#include "cinema.h"
 #include "damage.h"
 #include "edition.h"
 
@@ -68,8 +70,8 @@ static void expect(struct figure *expected, const struct damage *damage, size_t 
     put_bytes(expected, line, (size_t)length);
 }
 
-static void make_damaged(const char *parent) {
-    char *folder = make_folder(parent, "damaged");
+static void make_damaged(const char *parent, const char *name, const struct damage *damages) {
+    char *folder = make_folder(parent, name);
     struct figure expected = {0};
     for (const struct damage *damage = damages; damage->file != NULL; damage++) {
         struct figure figure = {0};
@@ -98,6 +100,7 @@ int main(int argc, char **argv) {
     }
     make_tools(argv[1], "edition", edition);
     make_tools(argv[1], "old", older);
-    make_damaged(argv[1]);
+    make_damaged(argv[1], "damaged", damages);
+    make_damaged(argv[1], "c4d", cinema_samples);
     return 0;
 }

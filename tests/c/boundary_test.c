@@ -7,6 +7,7 @@
 #include <string.h>
 #include <sys/mman.h>
 
+#include "c4d_cases.h"
 #include "cases.h"
 #include "mapping_cases.h"
 #include "mesh_cases.h"
@@ -342,5 +343,6 @@ int main(void) {
     try_parts();
     try_writer();
     try_slips();
+    try_c4ds();
     return finish("boundary_test");
 }

@@ -5,6 +5,7 @@
  */
 #include "c4d_cases.h"
 
+#include <stdio.h>
 #include <stdlib.h>
 #include <string.h>
 #include <sys/mman.h>
@@ -37,7 +38,7 @@ static void put(struct bytes *to, uint32_t number, int width) {
     }
 }
 
-/* A size that stands `before` bytes before the end of what it counts is put in when that is known. */
+/* Sets the size that stands at `at` to what has been put behind it. */
 static void put_size(struct bytes *to, size_t at, int width) {
     size_t end = to->length;
     to->length = at;
@@ -244,6 +245,32 @@ static void try_cuts(void) {
     judge_answer(tds_c4d_check(made.at, made.length), REFUSAL(25, 0));
 }
 
+/* The samples: each has the answer that is written down for it. */
+static void try_samples(void) {
+    FILE *list = fopen("samples/c4d/expected.txt", "r");
+    char name[100], path[140];
+    unsigned number, place, count = 0;
+    expect(list != NULL, "samples/c4d/expected.txt cannot be read");
+    while (list != NULL && fscanf(list, "%99s %u %u", name, &number, &place) == 3) {
+        uint8_t bytes[2048];
+        FILE *file;
+        size_t length;
+        snprintf(path, sizeof path, "samples/c4d/%s", name);
+        trying("%s", path);
+        file = fopen(path, "rb");
+        length = file == NULL ? 0 : fread(bytes, 1, sizeof bytes, file);
+        judge_answer(tds_c4d_check(bytes, length), number == 0 ? place : REFUSAL(number, place));
+        if (file != NULL) {
+            fclose(file);
+        }
+        count++;
+    }
+    expect(count == 9, "%u samples", count);
+    if (list != NULL) {
+        fclose(list);
+    }
+}
+
 /* One OBJ5 of empty objects, as long as a file may be, and one byte more. */
 static void try_longest(void) {
     size_t longest = TDS_LONGEST_FILE, count = (longest - 20) / 8;
@@ -284,5 +311,6 @@ void try_c4ds(void) {
         }
     }
     try_cuts();
+    try_samples();
     try_longest();
 }

@@ -8,7 +8,7 @@ try 'the generator makes what is kept'
 mkdir "$T/again"
 run "$BUILD/make_samples" "$T/again"
 status_is 0
-for folder in edition old damaged; do
+for folder in edition old damaged c4d; do
     (cd samples/$folder && ls) >"$T/kept"
     (cd "$T/again/$folder" && ls) >"$T/made"
     same "the names in $folder" "$T/kept" "$T/made"
@@ -35,6 +35,11 @@ for number in 2 3 4 5 6 7 8 9 10 11 12 13 14 23 24; do
     if grep -q " $number " samples/damaged/expected.txt; then pass; else fail "none for $number"; fi
 done
 
+try 'there is a damaged Cinema 4D sample for each of its refusals'
+for number in 0 5 10 25 26 27 28; do
+    if grep -q " $number " samples/c4d/expected.txt; then pass; else fail "none for $number"; fi
+done
+
 try 'every damaged sample has its refusal'
 run "$BUILD/stick" samples/damaged
 status_is 1
@@ -45,9 +50,10 @@ done <samples/damaged/expected.txt
 lines out $(($(wc -l <samples/damaged/expected.txt) + 2))
 
 try 'the one that is too long'
-run "$BUILD/make_samples" --too-long "$T/too-long.3ds"
+mkdir "$T/long"
+run "$BUILD/make_samples" --too-long "$T/long/too-long.3ds"
 status_is 0
-run "$BUILD/stick" "$T"
+run "$BUILD/stick" "$T/long"
 has out 'too-long.3ds: refused: TOO LONG (1): the file is longer than a figure may be'
 status_is 1
 
