@@ -3,9 +3,10 @@
  *
  *     viewer FILE
  *
- * It reads the file, has it checked, and only then sizes its tables, from the list of chunks, and
- * fills them. Instead of drawing it prints a summary of each mesh. A refused figure is not shown at
- * all: half an adze shown calmly is worse than none.
+ * It reads the file, has it checked, and only then sizes its tables, from the list of chunks, where
+ * it steps over every branch that it does not open, and fills them. Instead of drawing it prints a
+ * summary of each mesh. A refused figure is not shown at all: half an adze shown calmly is worse
+ * than none.
  *
  * Exit status: 0 shown, 1 the figure is refused, 2 the file could not be read.
  */
@@ -16,6 +17,7 @@
 #include <string.h>
 
 #include "tds.h"
+#include "tds_words.h"
 
 /* One byte more than the longest figure, so that tds_check sees when a file is longer. */
 static uint8_t file[TDS_LONGEST_FILE + 1];
@@ -38,8 +40,9 @@ static int read_file(const char *path) {
 }
 
 static int refused(uint64_t answer) {
-    fprintf(stderr, "viewer: not shown: refusal %d, place %lu\n", TDS_REFUSAL(answer),
-            (unsigned long)TDS_PLACE(answer));
+    int refusal = TDS_REFUSAL(answer);
+    fprintf(stderr, "viewer: not shown: %s (refusal %d, place %lu)\n", tds_refusal_words(refusal),
+            refusal, (unsigned long)TDS_PLACE(answer));
     return 1;
 }
 
@@ -48,13 +51,9 @@ static int no_memory(void) {
     return 2;
 }
 
-/* Names come from strangers: nothing in them may reach the terminal as a command. */
+/* Names come from strangers, but the check has let none pass that a label cannot take. */
 static void print_name(const uint8_t *span) {
-    const uint8_t *name = file + tds_get4(span);
-    const uint8_t *end = name + tds_get4(span + 4);
-    for (; name < end; name++) {
-        putchar(*name >= 0x20 && *name < 0x7F ? *name : '?');
-    }
+    fwrite(file + tds_get4(span), 1, tds_get4(span + 4), stdout);
 }
 
 static void print_corner(const uint8_t *box) {
@@ -110,33 +109,43 @@ static int show_mesh(uint32_t mesh, size_t vertices, size_t faces) {
 }
 
 /*
- * Goes through the list. A mesh is a record 4100; its vertices and faces are the records 4110 and
- * 4120 in it, which follow it at a greater depth, and the own data of each is a word and the table.
+ * Sizes the tables of the mesh that has this record. Its vertices and faces are the records 4110
+ * and 4120 right inside it, and the own data of each is a word and the table. What stands in those
+ * is stepped over.
  */
+static int show_branch(const uint8_t *records, size_t record, uint32_t mesh) {
+    size_t end = tds_get_record(records, record, TDS_RECORD_NEXT);
+    size_t vertices = 0, faces = 0, i;
+    for (i = record + 1; i < end; i = tds_get_record(records, i, TDS_RECORD_NEXT)) {
+        uint32_t id = tds_get_record(records, i, TDS_RECORD_ID);
+        uint32_t own = tds_get_record(records, i, TDS_RECORD_OWN);
+        if (id == TDS_ID_VERTICES) {
+            vertices = (own - 2) / 12;
+        } else if (id == TDS_ID_FACES) {
+            faces = (own - 2) / 8;
+        }
+    }
+    return show_mesh(mesh, vertices, faces);
+}
+
+/* The chunks that a mesh can be in. Every other branch is closed: it is stepped over. */
+static int is_open(uint32_t id) {
+    return id == TDS_ID_FIGURE || id == TDS_ID_EDITOR || id == TDS_ID_OBJECT;
+}
+
+/* Goes through the list. A mesh is a record 4100. */
 static int show_list(const uint8_t *records, size_t count) {
     uint32_t mesh = 0;
     size_t i = 0;
     while (i < count) {
         uint32_t id = tds_get_record(records, i, TDS_RECORD_ID);
-        uint32_t depth = tds_get_record(records, i, TDS_RECORD_DEPTH);
-        size_t vertices = 0, faces = 0;
-        int status;
-        i++;
-        if (id != TDS_ID_MESH) {
-            continue;
-        }
-        for (; i < count && tds_get_record(records, i, TDS_RECORD_DEPTH) > depth; i++) {
-            id = tds_get_record(records, i, TDS_RECORD_ID);
-            if (id == TDS_ID_VERTICES) {
-                vertices = (tds_get_record(records, i, TDS_RECORD_OWN) - 2) / 12;
-            } else if (id == TDS_ID_FACES) {
-                faces = (tds_get_record(records, i, TDS_RECORD_OWN) - 2) / 8;
+        if (id == TDS_ID_MESH) {
+            int status = show_branch(records, i, mesh++);
+            if (status != 0) {
+                return status;
             }
         }
-        status = show_mesh(mesh++, vertices, faces);
-        if (status != 0) {
-            return status;
-        }
+        i = is_open(id) ? i + 1 : tds_get_record(records, i, TDS_RECORD_NEXT);
     }
     printf("meshes %lu\n", (unsigned long)mesh);
     return 0;
@@ -166,6 +175,10 @@ int main(int argc, char **argv) {
     int status;
     if (argc != 2) {
         fprintf(stderr, "usage: viewer FILE\n");
+        return 2;
+    }
+    if (tds_version() / 65536 != TDS_VERSION / 65536) {
+        fprintf(stderr, "viewer: built for another version of the library\n");
         return 2;
     }
     status = read_file(argv[1]);

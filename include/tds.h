@@ -4,8 +4,9 @@
  *
  * A figure is read whole, from memory, by rules without exceptions: every length fills the chunk
  * around it exactly, every known chunk stands in its place, every corner of a face is a vertex that
- * exists. A file that breaks one rule is refused, with one number that says which rule and one
- * place that says where. Chunks of unknown identifiers are stepped over and never looked into.
+ * exists, every name fits a label. A file that breaks one rule is refused, with one number that
+ * says which rule and one place that says where. Chunks of unknown identifiers are stepped over and
+ * never looked into.
  *
  * HOW TO USE IT. Read the file into memory; call tds_check; if it refuses, say so and stop. Else it
  * has answered how many records the list has: lend that much room to tds_list, find the meshes in
@@ -14,14 +15,16 @@
  * You need check nothing beforehand: any bytes of any length have an answer.
  *
  * SLICES. Each pointer is followed by the length of what it points to. It may have any alignment
- * where it points to bytes, and (NULL, 0) is an empty slice. The slices of a call must not overlap:
+ * where it points to bytes, and (NULL, 0) is an empty slice. NULL with a length above 0 is not: as
+ * with any pointer to less memory than its length says, nothing looks for it, and the program will
+ * mostly end there. The slices of a call must not overlap:
  * neither two slices lent to be filled, nor one of them and the file (or, for the calls that write,
  * what is to be written). The slices that are only read may overlap one another.
  *
  * ANSWERS. Each call answers one 64-bit number. Below 2^32 it is the answer proper, as each call
  * says; from 2^32 on it is a refusal: its number (enum tds_refusal) times 2^32, plus its place. The
- * macros TDS_REFUSED, TDS_REFUSAL and TDS_PLACE take it apart. (tds_sum_add and tds_sum_join alone
- * never refuse: all 64 bits of theirs are the answer.)
+ * macros TDS_REFUSED, TDS_REFUSAL and TDS_PLACE take it apart; tds_words.h has the numbers in
+ * words. (tds_sum_add and tds_sum_join alone never refuse: all 64 bits of theirs are the answer.)
  *
  * WHAT IS FILLED. Numbers go out little-endian, on every machine: four bytes each, corners two
  * bytes. Floats are the 4 bytes of an IEEE 754 single, bit for bit as in the file. tds_get2,
@@ -35,9 +38,16 @@
  * anything but the slices it was given, writes anything but the slices it was lent, touches files,
  * prints, or ends the program. So all calls may be made from any number of threads at once.
  *
- * ORDER OF REFUSALS. First what is wrong with the file (1 to 14; the first fault met, walking the
- * file from its start, a chunk's own faults before those inside it); then 16; then 17; then 15. So
- * a damaged file is refused as damaged whatever mesh was asked for and whatever room was lent.
+ * COST. Every call is linear in the lengths it is given, whatever is in the bytes; only the two
+ * calls about a whole slip compare names two by two, which takes 0.1 s at worst. Each call that
+ * reads a figure checks all of it first, in less than a millisecond for the longest: tds_list,
+ * tds_records and those about one mesh take up to twice that. tds_sum_join and tds_sum_matches read
+ * no bytes. Stack: a few kilobytes.
+ *
+ * ORDER OF REFUSALS. First the faults of the file, which are 1 to 14 and 24: the first that is met,
+ * walking the file from its start, a chunk's own faults before those inside it, 24 right after 9.
+ * Then 16; then 17; then 15. So a damaged file is refused as damaged whatever mesh was asked for
+ * and whatever room was lent.
  *
  * LANGUAGE. C89 and later, and C++. <stdint.h> came only with C99, but is there with every compiler
  * this library is built for, in C89 mode too, and is the one thing beyond C89 that is used here.
@@ -53,12 +63,21 @@
 extern "C" {
 #endif
 
+/*
+ * The version of this header, 65536 * major + 256 * minor + patch; tds_version answers that of the
+ * library, in the same way. Where the major numbers differ a program must not go on: memory that is
+ * lent may be filled in another way than it was built for. (Version 1 had six numbers a record, and
+ * no tds_version.) CHANGELOG.md says what came with each.
+ */
+#define TDS_VERSION (65536 * 2 + 256 * 0 + 0)
+uint64_t tds_version(void);
+
 /* No file longer than this is a figure. One byte more is enough to hand to tds_check to be told. */
 #define TDS_LONGEST_FILE 1048576
 
 /*
  * The refusals. "Place" is the offset in the file of the chunk at fault, unless it says otherwise.
- * In tds_write 9, 13, 11, 12, 1 and 15 have other places: see there.
+ * In tds_write 9, 24, 13, 11, 12, 1 and 15 have other places: see there.
  */
 enum tds_refusal {
     TDS_ACCEPTED = 0,      /* no refusal */
@@ -80,8 +99,16 @@ enum tds_refusal {
     TDS_NO_SUCH_MESH = 16, /* the file is good but has no such mesh (place: how many it has) */
     TDS_EMPTY = 17,        /* the file is good but the mesh has no vertices, so no box (place 0) */
     TDS_SLIP = 18,         /* a slip that breaks its rules (place: see the calls about slips) */
-    TDS_DIFFERS = 19       /* a file is not the one of an entry (place 0: length, 1: sums) */
+    TDS_DIFFERS = 19,      /* a file is not the one of an entry (place 0: length, 1: sums) */
+    TDS_TEXT = 24          /* a name that does not fit the label: see TDS_LONGEST_NAME */
 };
+
+/*
+ * A name fits the label if it has at most this many bytes, without its zero, each from 32 to 126.
+ * It may be empty. Every name in a figure must fit, every name on a slip, and what is to be
+ * written.
+ */
+#define TDS_LONGEST_NAME 63
 
 /* Taking an answer apart. Each macro looks at its argument once. */
 
@@ -101,22 +128,25 @@ enum tds_refusal {
 /*
  * Is this file a figure?
  *
- * Answers the count of its records (its known chunks, 2 at least and at most 174,762), or a refusal
- * from 1 to 14.
+ * Answers the count of its records (its known chunks, 2 at least and at most 174,762), or refuses
+ * with a fault of the file.
  */
 uint64_t tds_check(const uint8_t *file, size_t file_len);
 
 /*
  * The list of the known chunks, in file order, one record each.
  *
- * Answers the count of records and fills as many, from the start of the slice; or refuses with 1 to
- * 14, or 15 with the records needed (place). Room is records_len / TDS_RECORD_BYTES records.
+ * Answers the count of records and fills as many, from the start of the slice; or refuses with a
+ * fault of the file, or 15 with the records needed (place). Room is records_len / TDS_RECORD_BYTES
+ * records.
  *
- * A record is six numbers, in the order of enum tds_record; tds_get_record reads one of them.
+ * A record is seven numbers, in the order of enum tds_record; tds_get_record reads one of them. The
+ * last is for stepping over a branch: the records inside a chunk, at any depth, are those with a
+ * number above its own and below its TDS_RECORD_NEXT.
  */
 uint64_t tds_list(const uint8_t *file, size_t file_len, uint8_t *records, size_t records_len);
 
-#define TDS_RECORD_NUMBERS 6
+#define TDS_RECORD_NUMBERS 7
 #define TDS_RECORD_BYTES (4 * TDS_RECORD_NUMBERS)
 
 enum tds_record {
@@ -125,10 +155,11 @@ enum tds_record {
     TDS_RECORD_LENGTH = 2, /* its length, with its header and all that is inside it */
     TDS_RECORD_DEPTH = 3,  /* 0 for 4D4D, 1 for the chunks in it, and so on */
     TDS_RECORD_PARENT = 4, /* the record number, from 0, of the chunk around it; 0 for 4D4D */
-    TDS_RECORD_OWN = 5     /* bytes of its own data: no header, no chunks inside it */
+    TDS_RECORD_OWN = 5,    /* bytes of its own data: no header, no chunks inside it */
+    TDS_RECORD_NEXT = 6    /* its own number, plus one, plus the count of records inside it */
 };
 
-/* One record of the list as a struct: the same six numbers, in the same order. */
+/* One record of the list as a struct: the same seven numbers, in the same order. */
 struct tds_chunk {
     uint32_t identifier;
     uint32_t offset;
@@ -136,6 +167,7 @@ struct tds_chunk {
     uint32_t depth;
     uint32_t parent;
     uint32_t own;
+    uint32_t next;
 };
 
 /*
@@ -145,9 +177,9 @@ struct tds_chunk {
  * table_len are in elements, and both are the machine's own numbers, aligned as the language wants
  * them; file_len is bytes. Room is what both have room for: the smaller of row_len /
  * TDS_RECORD_NUMBERS and table_len records. Answers the count of records and fills as many from the
- * start of the table, and the same numbers, six a record, from the start of the row; what is behind
- * keeps its contents. Or refuses with 1 to 14, or 15 with the records needed (place), and changes
- * neither.
+ * start of the table, and the same numbers, seven a record, from the start of the row; what is
+ * behind keeps its contents. Or refuses with a fault of the file, or 15 with the records needed
+ * (place), and changes neither.
  */
 uint64_t tds_records(const uint8_t *file, size_t file_len, uint32_t *row, size_t row_len,
                      struct tds_chunk *table, size_t table_len);
@@ -169,9 +201,9 @@ uint64_t tds_records(const uint8_t *file, size_t file_len, uint32_t *row, size_t
  *
  * Fills three floats x, y, z for each vertex (12 bytes a vertex) and three corners for each face (6
  * bytes a face; a corner is the number of a vertex, from 0). Answers vertices + 65536 * faces; or
- * refuses with 1 to 14; 16 with the count of meshes; or 15 with the numbers needed (place): 3 *
- * vertices if the slice for vertices is too small, else 3 * faces. Room is vertices_len / 4 and
- * corners_len / 2 numbers. Either both are filled or none.
+ * refuses with a fault of the file; 16 with the count of meshes; or 15 with the numbers needed
+ * (place): 3 * vertices if the slice for vertices is too small, else 3 * faces. Room is
+ * vertices_len / 4 and corners_len / 2 numbers. Either both are filled or none.
  */
 uint64_t tds_tables(const uint8_t *file, size_t file_len, uint32_t mesh, uint8_t *vertices,
                     size_t vertices_len, uint8_t *corners, size_t corners_len);
@@ -181,7 +213,7 @@ uint64_t tds_tables(const uint8_t *file, size_t file_len, uint32_t mesh, uint8_t
  *
  * Fills three numbers: headers (6 for each record), own data of all records, and bytes of unknown
  * chunks that were stepped over. Their sum is file_len. Answers 3 (numbers filled), or refuses with
- * 1 to 14, or 15 with 3 (place). Room is counts_len / 4 numbers.
+ * a fault of the file, or 15 with 3 (place). Room is counts_len / 4 numbers.
  */
 uint64_t tds_counts(const uint8_t *file, size_t file_len, uint8_t *counts, size_t counts_len);
 
@@ -189,9 +221,9 @@ uint64_t tds_counts(const uint8_t *file, size_t file_len, uint8_t *counts, size_
  * The name of a mesh: that of the object it is in.
  *
  * Fills two numbers: the offset of the name in the file and its length without the zero byte that
- * ends it. The length may be 0. The name is any bytes but zero: mind what you print. Answers 2
- * (numbers filled), or refuses with 1 to 14; 16 with the count of meshes; or 15 with 2 (place).
- * Room is span_len / 4 numbers.
+ * ends it. The length is 0 to 63, and each byte from 32 to 126. Answers 2 (numbers filled), or
+ * refuses with a fault of the file; 16 with the count of meshes; or 15 with 2 (place). Room is
+ * span_len / 4 numbers.
  */
 uint64_t tds_name(const uint8_t *file, size_t file_len, uint32_t mesh, uint8_t *span,
                   size_t span_len);
@@ -202,8 +234,8 @@ uint64_t tds_name(const uint8_t *file, size_t file_len, uint32_t mesh, uint8_t *
  * Fills nine floats: the lowest x, y, z; the highest x, y, z; the centre x, y, z. Lowest and
  * highest are bit for bit those of the file, the first in file order where several are equal (0 and
  * -0 are equal). The centre is low / 2 + high / 2, each operation rounded once to a single. Answers
- * 9 (numbers filled), or refuses with 1 to 14; 16 with the count of meshes; 17 if the mesh has no
- * vertices; or 15 with 9 (place). Room is box_len / 4 numbers.
+ * 9 (numbers filled), or refuses with a fault of the file; 16 with the count of meshes; 17 if the
+ * mesh has no vertices; or 15 with 9 (place). Room is box_len / 4 numbers.
  */
 uint64_t tds_box(const uint8_t *file, size_t file_len, uint32_t mesh, uint8_t *box, size_t box_len);
 
@@ -218,6 +250,8 @@ uint64_t tds_box(const uint8_t *file, size_t file_len, uint32_t mesh, uint8_t *b
  * with the first of these that holds, the place being the first fault of its kind:
  *
  *    9  the name holds a zero byte (place: its position in the name)
+ *   24  the name does not fit the label (place: the position of its first byte that is not from 32
+ *       to 126, or 63 if it is longer, whichever is less)
  *   13  vertices_len is no multiple of 3, or over 196,605 (place: vertices_len);
  *       then the same of corners_len (place: corners_len)
  *   11  a float is infinite or not a number (place: its position in the row)
@@ -285,13 +319,13 @@ uint64_t tds_sum_matches(uint64_t sum, uint32_t length, uint32_t sums);
 /*
  * An ENTRY is four numbers, 16 bytes, in the order of enum tds_entry; tds_get_entry reads one of
  * them. The name stands elsewhere: an entry says where it begins, and how long it is. Names have 1
- * to 255 bytes, of any value, and no two entries of a slip have the same. A slip has at most
- * TDS_MOST_ENTRIES entries, so at most TDS_LONGEST_SLIP bytes.
+ * to TDS_LONGEST_NAME bytes, each from 32 to 126, and no two entries of a slip have the same. A
+ * slip has at most TDS_MOST_ENTRIES entries, so at most TDS_LONGEST_SLIP bytes.
  */
 #define TDS_ENTRY_NUMBERS 4
 #define TDS_ENTRY_BYTES (4 * TDS_ENTRY_NUMBERS)
 #define TDS_MOST_ENTRIES 1000
-#define TDS_LONGEST_SLIP 262007
+#define TDS_LONGEST_SLIP 70007
 
 enum tds_entry {
     TDS_ENTRY_NAME = 0,        /* where the name begins: an offset in the slip, or in `names` */
@@ -304,11 +338,12 @@ enum tds_entry {
  * The entries of a slip, in order; a name's offset is one in the slip.
  *
  * Answers the count of entries, which may be 0, and fills as many, from the start of the slice; or
- * refuses with 18, or 15 with the entries needed (place). Room is entries_len / TDS_ENTRY_BYTES
- * entries. The place of 18 is 0 for the first 7 bytes of the slip (fewer than those, another
- * version than 1, a length that is not that of the rest, a count over 1,000); else the offset of
- * the first bad entry (one that passes the slip's end, has no name, a sum byte 255, or the name of
- * an earlier one; a missing entry is bad where it would begin), or of the first byte left over.
+ * refuses with 18, then 24, then 15 with the entries needed (place). Room is entries_len /
+ * TDS_ENTRY_BYTES entries. The place of 18 is 0 for the first 7 bytes of the slip (fewer than
+ * those, another version than 1, a length that is not that of the rest, a count over 1,000); else
+ * the offset of the first bad entry (one that passes the slip's end, has no name, a sum byte 255,
+ * or the name of an earlier one; a missing entry is bad where it would begin), or of the first byte
+ * left over. The place of 24 is the offset of the first entry whose name does not fit the label.
  */
 uint64_t tds_slip_read(const uint8_t *slip, size_t slip_len, uint8_t *entries, size_t entries_len);
 
@@ -325,6 +360,7 @@ uint64_t tds_slip_read(const uint8_t *slip, size_t slip_len, uint8_t *entries, s
  *       too many; its name does not lie in `names`, or has not 1 to 255 bytes; its sums have a byte
  *       255, or are over 65,535; an earlier entry has the same name; or it is a part of an entry,
  *       at the end of the slice
+ *   24  a name does not fit the label (place: the number of the first such entry)
  *   15  out_len is below the size (place: the size)
  *
  * What it writes is accepted by tds_slip_read, with the same names, lengths and sums.

@@ -100,6 +100,12 @@ static size_t name_zero_lost(struct figure *figure) {
     return name;
 }
 
+static size_t letter_turned(struct figure *figure) {
+    size_t name = find_chunk(figure, 0xA000, 0);
+    turn_bit(figure, name + 6, 7); /* a letter becomes a byte that no label takes */
+    return name;
+}
+
 static size_t vertex_count_turned(struct figure *figure) {
     size_t vertices = find_chunk(figure, TDS_ID_VERTICES, 1);
     turn_bit(figure, vertices + 6, 0);
@@ -163,6 +169,7 @@ const struct damage damages[] = {
     {"misplaced-vertices-mark-bit-turned.3ds", TDS_MISPLACED, make_mallet, vertices_mark_turned},
     {"twice-second-list-of-vertices.3ds", TDS_TWICE, make_mallet, second_vertices},
     {"name-zero-byte-lost.3ds", TDS_NAME, make_vice, name_zero_lost},
+    {"text-letter-bit-turned.3ds", TDS_TEXT, make_vice, letter_turned},
     {"length-vertex-count-bit-turned.3ds", TDS_LENGTH, make_plane, vertex_count_turned},
     {"number-coordinate-infinite-bit-turned.3ds", TDS_NUMBER, make_saw, coordinate_infinite},
     {"index-corner-bit-turned.3ds", TDS_INDEX, make_adze, corner_turned},

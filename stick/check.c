@@ -145,6 +145,7 @@ static void look_at_file(struct check *check, const struct entry *entry) {
     struct subject subject = {.path = entry->path,
                               .below = below,
                               .kind = kind_of(entry->path),
+                              .format = format_of(last_name(entry->path)),
                               .list = check->report->style->list,
                               .master = master,
                               .entry = presence_meet(&check->on_slip, below)};
@@ -154,8 +155,9 @@ static void look_at_file(struct check *check, const struct entry *entry) {
     } else if (check->in_folder && is_slip(below)) {
         look_at_slip(check, &subject);
     } else {
-        if (!check->in_folder && subject.kind != KIND_NO_READER) {
-            subject.kind = KIND_FIGURE; /* it was asked for, whatever its name */
+        if (!check->in_folder && subject.format == NULL) { /* it was asked for, whatever its name */
+            subject.kind = KIND_FIGURE;
+            subject.format = studio_format();
         }
         judge_file(check, &subject);
     }
@@ -238,7 +240,7 @@ static void at_end(struct check *check) {
         return;
     }
     if (check->figures == 0) {
-        could_not_for_words(check, check->root, "there is no figure (.3ds) in this folder",
+        could_not_for_words(check, check->root, "there is no figure in this folder",
                             "see that it is the right folder, and that the edition was copied");
     }
     /* What the master has is on its slip too, and is said once. */

@@ -58,10 +58,15 @@ static size_t character_at(const unsigned char *at) {
     return bytes != 0 && character >= least[bytes] && readable(character) ? bytes : 0;
 }
 
+/* A space at the end of a name cannot be seen either. */
+static bool is_last_space(const unsigned char *at) {
+    return at[0] == ' ' && (at[1] == '\0' || at[1] == '/');
+}
+
 void text_escaped(struct text *text, const char *name) {
     const unsigned char *at = (const unsigned char *)name;
     while (*at != '\0') {
-        size_t bytes = character_at(at);
+        size_t bytes = is_last_space(at) ? 0 : character_at(at);
         if (*at == '\\') {
             text_add(text, "\\\\");
         } else if (bytes == 0) {

@@ -18,22 +18,24 @@ void checker_free(struct checker *checker) {
 
 /* Adds up the meshes from the list; the own data of a 4110 or 4120 is a word and then its table. */
 static struct totals totals_of(const uint8_t *records, size_t count) {
-    struct totals totals = {0};
+    unsigned long meshes = 0, vertices = 0, faces = 0;
     for (size_t i = 0; i < count; i++) {
         uint32_t id = tds_get_record(records, i, TDS_RECORD_ID);
         uint32_t own = tds_get_record(records, i, TDS_RECORD_OWN);
         if (id == TDS_ID_MESH) {
-            totals.meshes++;
+            meshes++;
         } else if (id == TDS_ID_VERTICES) {
-            totals.vertices += (own - 2) / 12;
+            vertices += (own - 2) / 12;
         } else if (id == TDS_ID_FACES) {
-            totals.faces += (own - 2) / 8;
+            faces += (own - 2) / 8;
         }
     }
-    return totals;
+    return (struct totals){
+        {{"mesh", "meshes", meshes}, {"vertex", "vertices", vertices}, {"face", "faces", faces}},
+        3};
 }
 
-/* The list of an accepted file that has this many records, for --list. */
+/* The list of an accepted file that has this many records. */
 static uint64_t list_figure(struct checker *checker, size_t length, size_t count,
                             struct totals *totals) {
     uint64_t answer;
@@ -49,10 +51,15 @@ static uint64_t list_figure(struct checker *checker, size_t length, size_t count
     return answer;
 }
 
-uint64_t judge_figure(struct checker *checker, size_t length, struct totals *totals) {
-    uint64_t answer = tds_check(checker->block, length);
-    if (!TDS_REFUSED(answer) && totals != NULL) {
-        answer = list_figure(checker, length, (size_t)answer, totals);
+uint64_t judge_figure(struct checker *checker, const struct format *format, size_t length,
+                      struct totals *totals) {
+    uint64_t answer = format->check(checker->block, length);
+    if (TDS_REFUSED(answer) || totals == NULL) {
+        return answer;
     }
+    if (format == studio_format()) {
+        return list_figure(checker, length, (size_t)answer, totals);
+    }
+    *totals = (struct totals){{{format->one, format->many, (unsigned long)answer}}, 1};
     return answer;
 }

@@ -4,6 +4,7 @@
 
 #include <stddef.h>
 
+#include "formats.h"
 #include "report.h"
 
 /* The memory for checking, used for one figure after another. */
@@ -16,7 +17,11 @@ struct checker {
 void checker_start(struct checker *checker);
 void checker_free(struct checker *checker);
 
-/* Judges the figure in the block; if it is good and totals are wanted (not NULL), counts them. */
-uint64_t judge_figure(struct checker *checker, size_t length, struct totals *totals);
+/*
+ * Judges the figure in the block, by the reader of its format; if it is good and totals are wanted
+ * (not NULL), counts them.
+ */
+uint64_t judge_figure(struct checker *checker, const struct format *format, size_t length,
+                      struct totals *totals);
 
 #endif

@@ -1,4 +1,4 @@
-/* What a name on a stick stands for: the one place that knows endings and what is left behind. */
+/* What a name on a stick stands for: the one place that knows what other computers leave. */
 #include "kinds.h"
 
 #include <stdbool.h>
@@ -6,19 +6,32 @@
 #include <string.h>
 #include <strings.h>
 
-/* The kinds of figures; a reader for another kind is another row, and a line in figure.c. */
-static const struct {
-    const char *ending;
-    enum kind kind;
-} endings[] = {{".3ds", KIND_FIGURE}, {".cob", KIND_NO_READER}, {".c4d", KIND_NO_READER}};
+#include "formats.h"
 
 /* Files and folders that other computers put on every stick they see. */
 static const char *const left_behind[] = {
-    ".DS_Store",         ".Trashes",     ".Spotlight-V100",
-    ".fseventsd",        ".apdisk",      ".TemporaryItems",
-    ".AppleDouble",      "Thumbs.db",    "desktop.ini",
-    "ehthumbs.db",       "$RECYCLE.BIN", "System Volume Information",
-    "IndexerVolumeGuid", "autorun.inf",  ".DocumentRevisions-V100",
+    ".DS_Store",
+    ".Trashes",
+    ".Spotlight-V100",
+    ".fseventsd",
+    ".apdisk",
+    ".TemporaryItems",
+    ".AppleDouble",
+    ".DocumentRevisions-V100",
+    ".VolumeIcon.icns",
+    ".metadata_never_index",
+    "Icon\r",
+    "Thumbs.db",
+    "ehthumbs.db",
+    "desktop.ini",
+    "autorun.inf",
+    "$RECYCLE.BIN",
+    "RECYCLER",
+    "System Volume Information",
+    "IndexerVolumeGuid",
+    "LOST.DIR",
+    ".android_secure",
+    ".directory",
 };
 #define COUNT(row) (sizeof(row) / sizeof((row)[0]))
 
@@ -44,34 +57,14 @@ static bool is_left_behind(const char *name) {
     return false;
 }
 
-/* Whether an ending stands somewhere in the name, if not at its end. */
-static bool holds(const char *name, const char *ending) {
-    size_t length = strlen(ending);
-    for (; *name != '\0'; name++) {
-        if (strncasecmp(name, ending, length) == 0) {
-            return true;
-        }
-    }
-    return false;
-}
-
 enum kind kind_of(const char *path) {
     const char *name = last_name(path);
-    size_t length = strcspn(name, "/");
+    const struct format *format = format_of(name);
     if (is_left_behind(name)) {
         return KIND_LEFT_BEHIND;
     }
-    for (size_t i = 0; i < COUNT(endings); i++) {
-        size_t ending = strlen(endings[i].ending);
-        if (length >= ending &&
-            strncasecmp(name + length - ending, endings[i].ending, ending) == 0) {
-            return endings[i].kind;
-        }
+    if (format != NULL) {
+        return format->check != NULL ? KIND_FIGURE : KIND_NO_READER;
     }
-    for (size_t i = 0; i < COUNT(endings); i++) {
-        if (holds(name, endings[i].ending)) {
-            return KIND_NEAR_FIGURE;
-        }
-    }
-    return KIND_OTHER;
+    return format_near(name) != NULL ? KIND_NEAR_FIGURE : KIND_OTHER;
 }

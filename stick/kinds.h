@@ -3,8 +3,8 @@
 #define STICK_KINDS_H
 
 enum kind {
-    KIND_FIGURE,      /* .3ds: is read strictly */
-    KIND_NO_READER,   /* .cob, .c4d: figures for which there is no reader yet */
+    KIND_FIGURE,      /* is read strictly, by the reader of its format */
+    KIND_NO_READER,   /* a figure of a format for which there is no reader yet */
     KIND_NEAR_FIGURE, /* adze.3ds.part, adze.3ds~: a figure that was perhaps not copied whole */
     KIND_LEFT_BEHIND, /* what other computers leave on a stick: ._adze.3ds, Thumbs.db */
     KIND_OTHER        /* nothing that is known here */

@@ -1,10 +1,11 @@
 /* The system takes only paths up to some length at once; longer ones are walked piece by piece. */
+#define _GNU_SOURCE /* renameat2 */
 #include "longpath.h"
 
 #include <errno.h>
 #include <fcntl.h>
 #include <stdbool.h>
-#include <stdio.h> /* renameat */
+#include <stdio.h> /* renameat, renameat2 */
 #include <string.h>
 #include <unistd.h>
 
@@ -110,14 +111,21 @@ int long_unlink(const char *path) {
     return find_place(&at, path) ? leave_place(&at, unlinkat(at.folder, at.name, 0)) : -1;
 }
 
+/* What stands at the new place already is not taken away, where the file system can promise that.
+ */
+static int rename_at(const struct place *old, const struct place *new) {
+    int result = renameat2(old->folder, old->name, new->folder, new->name, RENAME_NOREPLACE);
+    return result == 0 || (errno != EINVAL && errno != ENOSYS)
+               ? result
+               : renameat(old->folder, old->name, new->folder, new->name);
+}
+
 int long_rename(const char *from, const char *to) {
     struct place old, new;
     int result;
     if (!find_place(&old, from)) {
         return -1;
     }
-    result = find_place(&new, to)
-                 ? leave_place(&new, renameat(old.folder, old.name, new.folder, new.name))
-                 : -1;
+    result = find_place(&new, to) ? leave_place(&new, rename_at(&old, &new)) : -1;
     return leave_place(&old, result);
 }

@@ -1,7 +1,9 @@
 /* stick - checks every figure on a memory stick before it is sealed. */
 #include <errno.h>
+#include <fcntl.h>
 #include <stdio.h>
 #include <string.h>
+#include <unistd.h>
 
 #include "batch.h"
 #include "options.h"
@@ -31,8 +33,24 @@ static int printed(void) {
     return 0;
 }
 
+/*
+ * The next file that is opened would take the place of a standard stream that is closed, and lines
+ * would be written into a figure. Like this, writing them fails.
+ */
+static void fill_closed_streams(void) {
+    int file;
+    do {
+        file = open("/dev/null", O_RDONLY);
+    } while (file >= 0 && file <= STDERR_FILENO);
+    if (file >= 0) {
+        close(file);
+    }
+}
+
 int main(int argc, char **argv) {
-    struct options options = options_read(argc, argv);
+    struct options options;
+    fill_closed_streams();
+    options = options_read(argc, argv);
     switch (options.task) {
     case TASK_WORK:
         setvbuf(stdout, NULL, _IOLBF, BUFSIZ); /* each line is there as soon as it is known, */

@@ -10,6 +10,7 @@
 #include "escape.h"
 #include "longpath.h"
 #include "refusals.h"
+#include "tds_words.h"
 
 enum {
     OPTION_JSON = 256,
@@ -60,7 +61,7 @@ void print_help(void) {
            "Exit status: 0 all is well; 1 something is refused, differs, is missing or does\n"
            "not belong there; 2 something could not be checked (the rest was), there was no\n"
            "figure, the work was stopped, or the command was wrong.\n",
-           refusal_last());
+           TDS_LAST_REFUSAL);
 }
 
 /* A mistake in the command line that has to do with one word of it. */
@@ -84,13 +85,12 @@ static unsigned long number_of(const char *words) {
 
 static void take_explain(struct options *options, const char *words) {
     unsigned long number = number_of(words);
-    options->explain = number > 0 && number <= (unsigned long)refusal_last()
-                           ? refusal_of((int)number)
-                           : refusal_named(words);
+    options->explain =
+        number > 0 && number <= TDS_LAST_REFUSAL ? refusal_of((int)number) : refusal_named(words);
     options->task = TASK_EXPLAIN;
     if (options->explain == NULL) {
         mistake(options, "there is no refusal ", words, ": the manual page has them all");
-        fprintf(stderr, "They are numbered 1 to %d.\n", refusal_last());
+        fprintf(stderr, "They are numbered 1 to %d.\n", TDS_LAST_REFUSAL);
     }
 }
 

@@ -8,8 +8,7 @@
 
 #include "escape.h"
 #include "json.h"
-#include "refusals.h"
-#include "tds.h"
+#include "tds_words.h"
 
 /* What each outcome is called in a line. */
 static const char *const labels[OUTCOMES] = {
@@ -30,28 +29,19 @@ static const char *label_of(const struct finding *finding) {
     return finding->label == NULL ? labels[finding->outcome] : finding->label;
 }
 
-static void add_count(struct text *line, unsigned long count, const char *one, const char *many) {
-    text_format(line, "%lu %s", count, count == 1 ? one : many);
-}
-
 static void add_totals(struct text *line, const struct totals *totals) {
-    text_add(line, ": accepted: ");
-    add_count(line, totals->meshes, "mesh", "meshes");
-    text_add(line, ", ");
-    add_count(line, totals->vertices, "vertex", "vertices");
-    text_add(line, ", ");
-    add_count(line, totals->faces, "face", "faces");
+    text_add(line, ": accepted");
+    for (size_t i = 0; i < totals->kinds; i++) {
+        const struct thing *thing = &totals->things[i];
+        text_format(line, "%s%lu %s", i == 0 ? ": " : ", ", thing->count,
+                    thing->count == 1 ? thing->one : thing->many);
+    }
 }
 
 static void add_refusal(struct text *line, uint64_t answer) {
-    const struct refusal *refusal = refusal_of(TDS_REFUSAL(answer));
-    text_add(line, ": refused: ");
-    if (refusal != NULL) {
-        text_format(line, "%s (%d): %s", refusal->name, refusal->number, refusal->sentence);
-    } else {
-        text_format(line, "%d", TDS_REFUSAL(answer));
-    }
-    text_format(line, ", at byte %lu", (unsigned long)TDS_PLACE(answer));
+    int refusal = TDS_REFUSAL(answer);
+    text_format(line, ": refused: %s (%d): %s, at byte %lu", tds_refusal_name(refusal), refusal,
+                tds_refusal_words(refusal), (unsigned long)TDS_PLACE(answer));
 }
 
 static void add_words(struct text *line, const struct finding *finding) {
@@ -85,23 +75,21 @@ static void say_plainly(struct report *report, const struct finding *finding) {
 }
 
 static void say_as_json(struct report *report, const struct finding *finding) {
-    const struct refusal *refusal = refusal_of(TDS_REFUSAL(finding->answer));
+    int refusal = TDS_REFUSAL(finding->answer);
     struct text line = {0};
     json_begin(&line);
     json_path(&line, "path", finding->path);
     json_string(&line, "result", label_of(finding));
     if (finding->answer != 0) {
-        json_number(&line, "refusal", (unsigned long)TDS_REFUSAL(finding->answer));
-        json_string(&line, "name", refusal == NULL ? NULL : refusal->name);
+        json_number(&line, "refusal", (unsigned long)refusal);
+        json_string(&line, "name", tds_refusal_name(refusal));
         json_number(&line, "place", TDS_PLACE(finding->answer));
     }
-    json_string(&line, "words", refusal == NULL ? finding->words : refusal->sentence);
+    json_string(&line, "words", refusal == 0 ? finding->words : tds_refusal_words(refusal));
     json_string(&line, "remedy", finding->remedy);
     json_string(&line, "detail", finding->detail);
-    if (finding->totals != NULL) {
-        json_number(&line, "meshes", finding->totals->meshes);
-        json_number(&line, "vertices", finding->totals->vertices);
-        json_number(&line, "faces", finding->totals->faces);
+    for (size_t i = 0; finding->totals != NULL && i < finding->totals->kinds; i++) {
+        json_number(&line, finding->totals->things[i].many, finding->totals->things[i].count);
     }
     json_end(&line);
     screen_line(report->screen, report->job, TO_OUTPUT, line.bytes);
@@ -172,6 +160,7 @@ void report_join(struct report *sum, const struct report *report) {
     sum->folders += report->folders;
     sum->unwell += report_status(report) != 0;
     sum->bare += report->bare;
+    sum->slips += report->slips;
     sum->slip_files += report->slip_files;
     sum->from_memory = sum->from_memory || report->from_memory;
     sum->unfinished = sum->unfinished || report->unfinished;

@@ -32,11 +32,14 @@ enum outcome {
     OUTCOMES
 };
 
-/* What --list says of an accepted figure. */
+/* What --list says of an accepted figure: how many there are of some things, as "3 meshes". */
+enum { MOST_THINGS = 3 };
 struct totals {
-    unsigned long meshes;
-    unsigned long vertices;
-    unsigned long faces;
+    struct thing {
+        const char *one, *many; /* what it is called */
+        unsigned long count;
+    } things[MOST_THINGS];
+    size_t kinds; /* of things */
 };
 
 /* What was found out about one file or folder. */
@@ -62,7 +65,8 @@ struct report {
     unsigned long folders;    /* 1; the sum of several reports has more */
     unsigned long unwell;     /* of a sum: those in which not all is well */
     unsigned long bare;       /* folders with nothing to compare with: structure only */
-    unsigned long slip_files; /* on the slips that were written */
+    unsigned long slips;      /* that were written */
+    unsigned long slip_files; /* on them */
     bool from_memory;         /* some file could not be read from the stick itself */
     bool unfinished;
 };

@@ -105,6 +105,7 @@ static void check_and_write_slip(const struct session *session, const char *fold
         report_trouble(report, folder, "no slip was written", &trouble);
     } else if (slip_write(folder, &files, report)) {
         report->bare = 0;
+        report->slips = 1;
         report->slip_files = files.count;
     }
     manifest_free(&files);

@@ -2,19 +2,87 @@
  * Reading the medium, not the memory: just after copying, this computer has all figures in its own
  * memory, and a bit that was turned on the way to the stick would not be seen.
  */
+#define _DEFAULT_SOURCE /* mincore */
 #include "settle.h"
 
 #include <errno.h>
 #include <fcntl.h>
+#include <stdbool.h>
+#include <stddef.h>
+#include <sys/mman.h>
+#include <sys/stat.h>
+#include <sys/sysmacros.h>
+#include <time.h>
 #include <unistd.h>
 
-int settle(int file) {
+enum { PAGES = 4096 };   /* asked about at a time */
+enum { MORE_TRIES = 9 }; /* one that only reads the file is soon done with it */
+
+/*
+ * The system tells of its memory only to the owner of a file, and to others that all of it is in
+ * use. Behind no device there is no medium that could differ from it.
+ */
+static bool can_be_asked(const struct stat *status) {
+    return major(status->st_dev) != 0 && (geteuid() == 0 || geteuid() == status->st_uid);
+}
+
+/* Whether any of these pages is in memory. (PROT_NONE: nothing is to be read by asking.) */
+static bool piece_is_held(int file, off_t from, size_t length) {
+    unsigned char pages[PAGES] = {0};
+    void *piece = mmap(NULL, length, PROT_NONE, MAP_SHARED, file, from);
+    bool held = false;
+    if (piece == MAP_FAILED) {
+        return false;
+    }
+    if (mincore(piece, length, pages) == 0) {
+        for (size_t i = 0; i < PAGES; i++) {
+            held = held || (pages[i] & 1) != 0;
+        }
+    }
+    munmap(piece, length);
+    return held;
+}
+
+/* What another program uses at the same time stays in memory, and dropping it is no error. */
+static bool is_held(int file) {
+    off_t most = (off_t)PAGES * sysconf(_SC_PAGESIZE);
+    struct stat status;
+    bool held = false;
+    if (fstat(file, &status) != 0 || !can_be_asked(&status)) {
+        return false;
+    }
+    for (off_t from = 0; from < status.st_size && !held; from += most) {
+        off_t left = status.st_size - from;
+        held = piece_is_held(file, from, (size_t)(left < most ? left : most));
+    }
+    return held;
+}
+
+/* What is not written out cannot be dropped. */
+static int write_out(int file) {
     int error;
     do {
-        error = fdatasync(file) == 0 ? 0 : errno; /* what is not written out cannot be dropped */
+        error = fdatasync(file) == 0 ? 0 : errno;
     } while (error == EINTR);
-    if (error == EROFS || error == EINVAL) {
-        error = 0; /* nothing can be waiting to be written there */
+    /* then nothing can be waiting to be written there */
+    return error == EROFS || error == EINVAL ? 0 : error;
+}
+
+/* Answers 0, or the error for which it stays in memory. */
+static int drop(int file) {
+    int error = posix_fadvise(file, 0, 0, POSIX_FADV_DONTNEED);
+    return error == 0 && is_held(file) ? EBUSY : error;
+}
+
+int settle(int file) {
+    int error = write_out(file);
+    if (error == 0) {
+        error = drop(file);
     }
-    return error != 0 ? error : posix_fadvise(file, 0, 0, POSIX_FADV_DONTNEED);
+    for (int i = 0; i < MORE_TRIES && error == EBUSY; i++) {
+        const struct timespec pause = {.tv_nsec = 1000 * 1000};
+        nanosleep(&pause, NULL);
+        error = drop(file);
+    }
+    return error;
 }

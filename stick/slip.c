@@ -9,20 +9,8 @@
 #include "reading.h"
 #include "tds.h"
 
-enum { LONGEST_NAME = 63 };
-#define BAD_NAME ((uint64_t)24 << 32) /* TEXT, of document 02 */
-
 bool is_slip(const char *below) {
     return strcasecmp(below, SLIP_NAME) == 0;
-}
-
-bool fits_slip(const uint8_t *name, size_t length) {
-    for (size_t i = 0; i < length; i++) {
-        if (name[i] < ' ' || name[i] > '~') {
-            return false;
-        }
-    }
-    return length >= 1 && length <= LONGEST_NAME;
 }
 
 /* The path of the slip in a folder, or NULL. */
@@ -51,19 +39,15 @@ static bool read_bytes(struct slip *slip, uint8_t *bytes, size_t *length) {
     return reading_close(&reading, &slip->trouble) && good;
 }
 
-/* Takes the entries over, unless a name is not fit. An entry begins a byte before its name. */
+/* Takes the entries over. */
 static void take_entries(struct slip *slip, const uint8_t *bytes, const uint8_t *entries,
                          size_t count) {
-    for (size_t i = 0; i < count && slip->state == SLIP_GOOD; i++) {
+    for (size_t i = 0; i < count; i++) {
         uint32_t at = tds_get_entry(entries, i, TDS_ENTRY_NAME);
         uint32_t length = tds_get_entry(entries, i, TDS_ENTRY_NAME_LENGTH);
         manifest_add(&slip->manifest, (const char *)bytes + at, length,
                      tds_get_entry(entries, i, TDS_ENTRY_LENGTH),
                      tds_get_entry(entries, i, TDS_ENTRY_SUMS));
-        if (!fits_slip(bytes + at, length)) {
-            slip->state = SLIP_BROKEN;
-            slip->answer = BAD_NAME + at - 1;
-        }
     }
     manifest_sort(&slip->manifest);
 }

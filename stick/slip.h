@@ -30,9 +30,6 @@ void slip_free(struct slip *slip);
 /* Whether this path below a folder is its slip. */
 bool is_slip(const char *below);
 
-/* Whether a name is fit for a slip: as on a label, 1 to 63 plain characters. */
-bool fits_slip(const uint8_t *name, size_t length);
-
 /*
  * Writes a new slip for a folder in which these files are. Answers whether it stands there; else it
  * was reported why not, and nothing has changed.

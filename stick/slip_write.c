@@ -48,11 +48,21 @@ static void making_free(struct making *making) {
     free(making->slip);
 }
 
+/* Whether a path is fit for a slip: tds_slip_write would not say which file is meant. */
+static bool fits_slip(const char *name) {
+    size_t length = strlen(name);
+    for (size_t i = 0; i < length; i++) {
+        if (name[i] < ' ' || name[i] > '~') {
+            return false;
+        }
+    }
+    return length >= 1 && length <= TDS_LONGEST_NAME;
+}
+
 /* The first file whose path is not fit, or NULL. */
 static const struct expected *unfit(const struct manifest *manifest) {
     for (size_t i = 0; i < manifest->count; i++) {
-        const char *name = manifest->entries[i].name;
-        if (!fits_slip((const uint8_t *)name, strlen(name))) {
+        if (!fits_slip(manifest->entries[i].name)) {
             return &manifest->entries[i];
         }
     }

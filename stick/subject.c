@@ -7,7 +7,8 @@
 static bool take_block(struct subject *subject, struct checker *checker, bool first, size_t length,
                        struct trouble *trouble) {
     if (first && subject->kind == KIND_FIGURE) {
-        subject->answer = judge_figure(checker, length, subject->list ? &subject->totals : NULL);
+        subject->answer =
+            judge_figure(checker, subject->format, length, subject->list ? &subject->totals : NULL);
     }
     if (subject->summed) {
         subject->sum = tds_sum_add(subject->sum, checker->block, length);

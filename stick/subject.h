@@ -11,6 +11,7 @@ struct subject {
     const char *path;
     const char *below; /* the path below the folder that is checked */
     enum kind kind;
+    const struct format *format;  /* of a figure */
     bool list;                    /* what is in a good figure is to be counted */
     const char *master;           /* the file it is to be compared with, or NULL */
     bool summed;                  /* all of it is to be summed, for a slip or against one */

@@ -71,9 +71,12 @@ static void add_uncovered(struct text *line, const struct report *report) {
         text_format(line, "; structure only on %lu of %lu: no slip there", report->bare,
                     report->folders);
     }
-    if (report->slip_files > 0) {
+    if (report->slips == 1) {
         text_format(line, "; a slip was written, with %lu file%s", report->slip_files,
                     report->slip_files == 1 ? "" : "s");
+    } else if (report->slips > 1) {
+        text_format(line, "; %lu slips were written, with %lu files", report->slips,
+                    report->slip_files);
     }
     if (report->unknown.count > 0) {
         text_format(line, "; %lu of no known kind not looked at", report->unknown.count);
@@ -153,6 +156,7 @@ static void add_json(struct text *lines, const struct report *sum, double second
     json_number(lines, "not_checked", sum->count[FOUND_UNCHECKED] + sum->near.count);
     json_number(lines, "of_no_known_kind", sum->unknown.count);
     json_number(lines, "structure_only", sum->bare);
+    json_number(lines, "slips_written", sum->slips);
     json_number(lines, "from_memory", sum->from_memory);
     json_number(lines, "not_finished", sum->unfinished);
     json_number(lines, "milliseconds", (unsigned long)(seconds * 1000));

@@ -15,8 +15,8 @@ pub fn all(size: usize) -> Vec<Figure> {
     let known = |size| vec![chunk(0x1470, &[]); size / 6];
     let small = |size| vec![object(b"a\0", 1, 1); size / 80];
     let large = |size| vec![object(b"large\0", size / 2 / 20, size / 2 / 20); 2];
-    let names = |size| vec![object(&name(size / 8), 1, 1); 8];
-    let short = |size| vec![object(&name(140), 1, 1); size / 89];
+    let names = |size| vec![object(&name(63), 1, 1); size / 112];
+    let short = |size| vec![object(&name(40), 1, 1); size / 89];
     let cubes = |size| vec![object(b"cube\0", 28, 16); size / 400];
     vec![
         figure("smallest unlisted chunks", size, &unlisted),
@@ -25,7 +25,7 @@ pub fn all(size: usize) -> Vec<Figure> {
         figure("many small meshes", size, &small),
         figure("cubes of 24 vertices", size, &cubes),
         figure("two large meshes", size, &large),
-        figure("long names", size, &names),
+        figure("longest names", size, &names),
         figure("names of 40 bytes", size, &short),
         figure("materials", size, &materials),
         figure("faces and groups", size, &groups),
@@ -106,9 +106,9 @@ fn chunk(identifier: u16, body: &[u8]) -> Vec<u8> {
     [&identifier.to_le_bytes()[..], &length.to_le_bytes(), body].concat()
 }
 
-/// A name of so many bytes, less what an object needs besides.
+/// A name of so many bytes, and its zero.
 fn name(size: usize) -> Vec<u8> {
-    let mut name = vec![b'n'; size.saturating_sub(100)];
+    let mut name = vec![b'n'; size];
     name.push(0);
     name
 }

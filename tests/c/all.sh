@@ -22,6 +22,7 @@ one ${RUN:-} "$BUILD/c-test/boundary_test"
 one sh tests/c/samples_test.sh
 one sh tests/c/viewer_test.sh
 one sh tests/c/install_test.sh
+one sh tests/c/readme_test.sh
 wait
 for test in $tool; do
     judge "$(cat "$side/$test.status")" "$(cat "$side/$test")" "tests/c/${test}_test.sh"

@@ -60,6 +60,12 @@ static void judge_answer(uint64_t answer, uint64_t right) {
            (unsigned long)TDS_PLACE(answer), TDS_REFUSAL(right), (unsigned long)TDS_PLACE(right));
 }
 
+static void try_version(void) {
+    trying("tds_version");
+    expect(tds_version() == TDS_VERSION, "the header has %lx, the library %lx",
+           (unsigned long)TDS_VERSION, (unsigned long)tds_version());
+}
+
 static void try_check(const struct held *held) {
     uint64_t right = held->file->refusal != 0 ? held->file->refusal : held->file->records;
     trying("tds_check of %s", held->file->what);
@@ -75,7 +81,7 @@ static void try_list(const struct held *held, size_t room, enum where where) {
     static struct lent records;
     lend(&records, &first_arena, room, where);
     for (size_t i = 0; i < file->records * TDS_RECORD_NUMBERS; i++) {
-        should_hold(&records, file->list[i / 6][i % 6]);
+        should_hold(&records, file->list[i / TDS_RECORD_NUMBERS][i % TDS_RECORD_NUMBERS]);
     }
     trying("tds_list of %s into %zu bytes (%d)", file->what, room, where);
     judge_answer(tds_list(held->at, held->length, records.at, room), right);
@@ -98,9 +104,9 @@ static void *lend_numbers(struct lent *lent, const struct arena *arena, size_t b
 static void hold_records(struct lent *row, struct lent *table, const struct file_case *file) {
     for (size_t i = 0; i < file->records; i++) {
         const uint32_t *n = file->list[i];
-        const struct tds_chunk chunk = {n[TDS_RECORD_ID],     n[TDS_RECORD_OFFSET],
-                                        n[TDS_RECORD_LENGTH], n[TDS_RECORD_DEPTH],
-                                        n[TDS_RECORD_PARENT], n[TDS_RECORD_OWN]};
+        const struct tds_chunk chunk = {
+            n[TDS_RECORD_ID],     n[TDS_RECORD_OFFSET], n[TDS_RECORD_LENGTH], n[TDS_RECORD_DEPTH],
+            n[TDS_RECORD_PARENT], n[TDS_RECORD_OWN],    n[TDS_RECORD_NEXT]};
         memcpy(row->right + row->filled, n, sizeof file->list[i]);
         memcpy(table->right + table->filled, &chunk, sizeof chunk);
         row->filled += sizeof file->list[i];
@@ -142,8 +148,8 @@ static void try_records(const struct held *held, size_t row_room, size_t table_r
 static void try_all_records(const struct held *held, enum where where) {
     size_t needed = held->file->records, numbers = needed * TDS_RECORD_NUMBERS;
     const size_t row_rooms[] = {
-        0,       1,           5,           6,           numbers - (numbers > 0),
-        numbers, numbers + 1, numbers + 5, numbers + 6, numbers + 40};
+        0,       1,           6,           7,           numbers - (numbers > 0),
+        numbers, numbers + 1, numbers + 6, numbers + 7, numbers + 40};
     const size_t table_rooms[] = {0, 1, needed - (needed > 0), needed, needed + 1, needed + 9};
     EACH(i, row_rooms) {
         EACH(j, table_rooms) {
@@ -271,8 +277,8 @@ static void try_mesh(const struct held *held, uint32_t number, enum where where)
 static void try_held(const struct held *held, enum where where) {
     size_t needed = held->file->records * TDS_RECORD_BYTES;
     const size_t list_rooms[] = {
-        0,      1,          23,          24,          25,          needed - (needed > 0),
-        needed, needed + 1, needed + 23, needed + 24, needed + 100};
+        0,      1,          27,          28,          29,          needed - (needed > 0),
+        needed, needed + 1, needed + 27, needed + 28, needed + 100};
     static const size_t counts_rooms[] = {0, 1, 4, 11, 12, 13, 15, 16, 100};
     static const uint32_t numbers[] = {0, 1, 2, 65536, 0x7FFFFFFF, 0x80000000, 0xFFFFFFFF};
     try_check(held);
@@ -326,6 +332,7 @@ int main(void) {
     big_file_arena = arena_make(1048576 + 8192);
     first_arena = arena_make(4096);
     second_arena = arena_make(4096);
+    try_version();
     each_case(try_case);
     each_case(try_huge_file);
     try_meshes();

@@ -1,6 +1,6 @@
 /*
- * The files that the boundary is tried with: document 01's bench samples, and one for each refusal.
- * All answers are written down here by hand, from the rules.
+ * The files that the boundary is tried with: the samples of docs/FORMAT.md, and one for each
+ * refusal. All answers are written down here by hand, from the rules.
  */
 #include "cases.h"
 
@@ -9,7 +9,7 @@
 
 #define REFUSAL(number, place) ((uint64_t)(number) << 32 | (place))
 
-/* The triangle of document 01, 86 bytes. */
+/* The triangle of docs/FORMAT.md, 86 bytes. */
 static const uint8_t triangle[] = {
     0x4D, 0x4D, 0x56, 0,    0, 0, 0x3D, 0x3D, 0x50, 0,    0,    0,             /* 0, 6 */
     0x00, 0x40, 0x4A, 0,    0, 0, 0x41, 0x00, 0x00, 0x41, 0x42, 0, 0, 0,       /* 12, 20 */
@@ -22,6 +22,8 @@ static const uint8_t triangle[] = {
 
 #define TRIANGLE_BOX                                                                               \
     { 0, 0, 0, 0x3F800000, 0x3F800000, 0, 0x3F000000, 0x3F000000, 0 }
+
+#define NAME_32 "abcdefgh ABCDEFG~0123456789.,-_!"
 
 /* Files that are given whole. */
 static const struct raw {
@@ -48,6 +50,17 @@ static const struct raw {
     {"3D3D too short", "MM\x0C\0\0\0==\5\0\0\0", 12, REFUSAL(4, 6)},
     {"two 3D3D", "MM\x12\0\0\0==\6\0\0\0==\6\0\0\0", 18, REFUSAL(8, 12)},
     {"an object without a name", "MM\x12\0\0\0==\x0C\0\0\0\0@\6\0\0\0", 18, REFUSAL(9, 12)},
+    {"a name of 64 bytes", "MM\x53\0\0\0==\x4D\0\0\0\0@\x47\0\0\0" NAME_32 NAME_32, 83,
+     REFUSAL(24, 12)},
+    {"64 bytes and no zero", "MM\x52\0\0\0==\x4C\0\0\0\0@\x46\0\0\0" NAME_32 NAME_32, 82,
+     REFUSAL(9, 12)},
+    {"a byte 31", "MM\x14\0\0\0==\x0E\0\0\0\0@\x08\0\0\0\x1F", 20, REFUSAL(24, 12)},
+    {"a byte 127 behind a tilde", "MM\x15\0\0\0==\x0F\0\0\0\0@\x09\0\0\0~\x7F", 21,
+     REFUSAL(24, 12)},
+    {"a byte 128", "MM\x14\0\0\0==\x0E\0\0\0\0@\x08\0\0\0\x80", 20, REFUSAL(24, 12)},
+    {"a byte 255 and no zero", "MM\x13\0\0\0==\x0D\0\0\0\0@\x07\0\0\0\xFF", 19, REFUSAL(9, 12)},
+    {"a material with a byte 31 in its name, and a byte behind it",
+     "MM\x1B\0\0\0==\x15\0\0\0\xFF\xAF\x0F\0\0\0\0\xA0\x09\0\0\0\x1F\0x", 27, REFUSAL(24, 18)},
 };
 
 /* The triangle with bytes replaced (around 0), or put in inside the first `around` of the chunks
@@ -132,7 +145,7 @@ static void use_shortest(void (*use)(const struct file_case *file)) {
         .bytes = bytes,
         .length = sizeof bytes,
         .records = 2,
-        .list = {{0x4D4D, 0, 12, 0, 0, 0}, {0x3D3D, 6, 6, 1, 0, 0}},
+        .list = {{0x4D4D, 0, 12, 0, 0, 0, 2}, {0x3D3D, 6, 6, 1, 0, 0, 2}},
         .counts = {12, 0, 0},
     };
     use(&file);
@@ -150,12 +163,12 @@ static void use_triangle(void (*use)(const struct file_case *file), uint32_t mor
         .bytes = file.bytes,
         .length = file.length,
         .records = 6,
-        .list = {{0x4D4D, 0, 86 + more, 0, 0, 0},
-                 {0x3D3D, 6, 80 + more, 1, 0, 0},
-                 {0x4000, 12, 74 + more, 2, 1, 2},
-                 {0x4100, 20 + more, 66, 3, 2, 0},
-                 {0x4110, 26 + more, 44, 4, 3, 38},
-                 {0x4120, 70 + more, 16, 4, 3, 10}},
+        .list = {{0x4D4D, 0, 86 + more, 0, 0, 0, 6},
+                 {0x3D3D, 6, 80 + more, 1, 0, 0, 6},
+                 {0x4000, 12, 74 + more, 2, 1, 2, 6},
+                 {0x4100, 20 + more, 66, 3, 2, 0, 6},
+                 {0x4110, 26 + more, 44, 4, 3, 38, 5},
+                 {0x4120, 70 + more, 16, 4, 3, 10, 6}},
         .counts = {36, 50, more},
         .meshes = 1,
         .mesh = {{18, 1, 34 + more, 3, 78 + more, 1, TRIANGLE_BOX}},
@@ -174,14 +187,14 @@ static void use_empty_mesh(void (*use)(const struct file_case *file)) {
         .bytes = file.bytes,
         .length = file.length,
         .records = 8,
-        .list = {{0x4D4D, 0, 99, 0, 0, 0},
-                 {0x3D3D, 6, 93, 1, 0, 0},
-                 {0x4000, 12, 74, 2, 1, 2},
-                 {0x4100, 20, 66, 3, 2, 0},
-                 {0x4110, 26, 44, 4, 3, 38},
-                 {0x4120, 70, 16, 4, 3, 10},
-                 {0x4000, 86, 13, 2, 1, 1},
-                 {0x4100, 93, 6, 3, 6, 0}},
+        .list = {{0x4D4D, 0, 99, 0, 0, 0, 8},
+                 {0x3D3D, 6, 93, 1, 0, 0, 8},
+                 {0x4000, 12, 74, 2, 1, 2, 6},
+                 {0x4100, 20, 66, 3, 2, 0, 6},
+                 {0x4110, 26, 44, 4, 3, 38, 5},
+                 {0x4120, 70, 16, 4, 3, 10, 6},
+                 {0x4000, 86, 13, 2, 1, 1, 8},
+                 {0x4100, 93, 6, 3, 6, 0, 8}},
         .counts = {48, 51, 0},
         .meshes = 2,
         .mesh = {{18, 1, 34, 3, 78, 1, TRIANGLE_BOX}, {.name_at = 92}},
@@ -220,12 +233,12 @@ static void use_box(void (*use)(const struct file_case *file), size_t which) {
         .bytes = file.bytes,
         .length = file.length,
         .records = 6,
-        .list = {{0x4D4D, 0, 86, 0, 0, 0},
-                 {0x3D3D, 6, 80, 1, 0, 0},
-                 {0x4000, 12, 74, 2, 1, 2},
-                 {0x4100, 20, 66, 3, 2, 0},
-                 {0x4110, 26, 44, 4, 3, 38},
-                 {0x4120, 70, 16, 4, 3, 10}},
+        .list = {{0x4D4D, 0, 86, 0, 0, 0, 6},
+                 {0x3D3D, 6, 80, 1, 0, 0, 6},
+                 {0x4000, 12, 74, 2, 1, 2, 6},
+                 {0x4100, 20, 66, 3, 2, 0, 6},
+                 {0x4110, 26, 44, 4, 3, 38, 5},
+                 {0x4120, 70, 16, 4, 3, 10, 6}},
         .counts = {36, 50, 0},
         .meshes = 1,
         .mesh = {{.name_at = 18,

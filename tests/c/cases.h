@@ -5,6 +5,8 @@
 #include <stddef.h>
 #include <stdint.h>
 
+#include "tds.h"
+
 enum { MOST_RECORDS = 8, MOST_MESHES = 2 };
 
 struct mesh_case {
@@ -20,7 +22,7 @@ struct file_case {
     size_t length;
     uint64_t refusal; /* 0 if the file is to be accepted; then the rest counts */
     size_t records;
-    uint32_t list[MOST_RECORDS][6];
+    uint32_t list[MOST_RECORDS][TDS_RECORD_NUMBERS];
     uint32_t counts[3];
     size_t meshes;
     struct mesh_case mesh[MOST_MESHES];

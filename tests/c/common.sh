@@ -75,7 +75,7 @@ finish() {
     [ "$failed" -eq 0 ]
 }
 
-# The triangle of document 01.
+# The triangle of docs/FORMAT.md.
 triangle() {
     printf 'MM\126\0\0\0==\120\0\0\0\0@\112\0\0\0A\0\0A\102\0\0\0\020A\054\0\0\0\003\0'
     printf '\0\0\0\0\0\0\0\0\0\0\0\0\0\0\200\077\0\0\0\0\0\0\0\0\0\0\0\0\0\0\200\077\0\0\0\0'

@@ -110,6 +110,10 @@ faulty "read:$EIO:new/mallet" --copy "$E" "$T/new"
 status_is 2
 has err "$T/new/mallet.3ds: not checked: the stick stopped answering"
 
+try 'a file that another program puts there at the last moment is left alone'
+broken 'come:1:new/mallet' "$T/new/mallet.3ds: not copied: something of this name is there already, and is left alone: delete it there"
+if [ -e "$T/new/mallet.3ds" ] && ! [ -s "$T/new/mallet.3ds" ]; then pass; else fail 'it was taken away'; fi
+
 try 'a small stick that is really full'
 mkdir "$T/small"
 if [ "$(id -u)" -eq 0 ] && mount -t tmpfs -o size=1m tmpfs "$T/small" 2>/dev/null; then

@@ -5,7 +5,8 @@
  *
  * CALL (read, write, fdatasync, fadvise) fails with the error of this number on every file whose
  * path holds PATH, after COUNT calls that go well. So a stick can be drawn out, or be full, at a
- * moment that no luck is needed for.
+ * moment that no luck is needed for. For the CALL "come", and any number but 0, a file comes to
+ * stand there just before another is given its name.
  */
 #include <dlfcn.h>
 #include <errno.h>
@@ -28,10 +29,10 @@ static void path_of(int file, char *path, size_t size) {
     path[length < 0 ? 0 : length] = '\0';
 }
 
-/* The error that this call on this file is to fail with, or 0. */
-static int fault(const char *call, int file) {
+/* The error that this call on a file of this path is to fail with, or 0. */
+static int fault_at(const char *call, const char *path) {
     const char *wanted = getenv("FAULT");
-    char name[20] = "", part[200] = "", path[PATH_MAX];
+    char name[20] = "", part[200] = "";
     long count = 0;
     int error = 0;
     if (wanted == NULL ||
@@ -39,8 +40,13 @@ static int fault(const char *call, int file) {
         strcmp(name, call) != 0) {
         return 0;
     }
-    path_of(file, path, sizeof path);
     return strstr(path, part) != NULL && atomic_fetch_add(&calls, 1) >= count ? error : 0;
+}
+
+static int fault(const char *call, int file) {
+    char path[PATH_MAX];
+    path_of(file, path, sizeof path);
+    return fault_at(call, path);
 }
 
 /* A function pointer and an object pointer need not be alike in C: they are copied. */
@@ -89,4 +95,26 @@ int posix_fadvise(int file, off_t from, off_t length, int advice) {
     int error = fault("fadvise", file);
     REAL("posix_fadvise64", function)
     return error != 0 ? error : real(file, from, length, advice);
+}
+
+/* Another program is quicker, and puts a file there. */
+static void come(int folder, const char *path) {
+    int file = fault_at("come", path) == 0 ? -1 : openat(folder, path, O_WRONLY | O_CREAT, 0666);
+    if (file >= 0) {
+        close(file);
+    }
+}
+
+int renameat(int old_folder, const char *old, int new_folder, const char *new) {
+    typedef int (*function)(int, const char *, int, const char *);
+    REAL("renameat", function)
+    come(new_folder, new);
+    return real(old_folder, old, new_folder, new);
+}
+
+int renameat2(int old_folder, const char *old, int new_folder, const char *new, unsigned flags) {
+    typedef int (*function)(int, const char *, int, const char *, unsigned);
+    REAL("renameat2", function)
+    come(new_folder, new);
+    return real(old_folder, old, new_folder, new, flags);
 }

@@ -9,6 +9,7 @@ strict='-pedantic -Wall -Wextra -Wconversion -Werror -Iinclude'
 cat >"$T/use.c" <<'END'
 #include "tds.h"
 #include "tds.h"
+#include "tds_words.h"
 int main(void) {
     static unsigned char slice[TDS_RECORD_BYTES];
     static uint32_t row[TDS_RECORD_NUMBERS];
@@ -20,6 +21,7 @@ int main(void) {
     }
     answer = tds_records(NULL, 0, row, TDS_RECORD_NUMBERS, table, 1);
     return number > 0 || TDS_VERTICES(answer) + TDS_FACES(answer) > 0 || tds_get2(slice) > 0 ||
+           *tds_refusal_words(TDS_REFUSAL(answer)) > 0 || *tds_refusal_name(0) > 0 ||
            tds_get_record(slice, 0, TDS_RECORD_OWN) > 0;
 }
 END
@@ -52,7 +54,7 @@ IS(1, TDS_TOO_LONG) IS(2, TDS_NOT_A_FIGURE) IS(3, TDS_TRAILING) IS(4, TDS_SHORT)
 IS(5, TDS_OVERRUN) IS(6, TDS_STRAY) IS(7, TDS_MISPLACED) IS(8, TDS_TWICE) IS(9, TDS_NAME)
 IS(10, TDS_LENGTH) IS(11, TDS_NUMBER) IS(12, TDS_INDEX) IS(13, TDS_COUNT) IS(14, TDS_MISSING)
 IS(15, TDS_NO_ROOM) IS(16, TDS_NO_SUCH_MESH) IS(17, TDS_EMPTY)
-IS(18, TDS_SLIP) IS(19, TDS_DIFFERS)
+IS(18, TDS_SLIP) IS(19, TDS_DIFFERS) IS(24, TDS_TEXT)
 #define R(number, place) ((uint64_t)(number) * 65536 * 65536 + (place))
 IS(118, TDS_REFUSAL(R(118, 5))) IS(119, TDS_PLACE(R(5, 119))) IS(120, TDS_PLACE(R(5, 0xFFFFFFFFu)) / 35791394)
 IS(121, 121 * TDS_REFUSED(R(1, 0))) IS(0, TDS_REFUSED(0xFFFFFFFFu))
@@ -60,17 +62,74 @@ IS(122, TDS_VERTICES(122 + 65536u * 65535u)) IS(65535, TDS_FACES(122 + 65536u * 
 int main(void) { return 0; }
 END
 if "$CC" -Iinclude -c "$T/names.c" -o "$T/names.o" >"$T/out" 2>"$T/err"
-then pass; else fail 'they are not those of document 01'; fi
+then pass; else fail 'they are not those of docs/FORMAT.md'; fi
 
-try 'the struct of a record has its six numbers where the list has them'
+try 'the words of the refusals: all from 1 to 30, by the names that the header has for the numbers'
+{
+    cat <<'END'
+#include <stdio.h>
+#include "tds_words.h"
+static const char *const names[TDS_LAST_REFUSAL + 1] = {
+    "UNKNOWN", "TOO LONG", "NOT A FIGURE", "TRAILING", "SHORT", "OVERRUN", "STRAY", "MISPLACED", "TWICE", "NAME", "LENGTH",
+    "NUMBER", "INDEX", "COUNT", "MISSING", "NO ROOM", "NO SUCH MESH", "EMPTY", "SLIP", "DIFFERS", "HEADER", "OWNER", "SIZE",
+    "FATHER", "TEXT", "FORM", "ORDER", "COMBINATION", "MATERIAL", "SAME NAME", "NO MATERIAL"};
+static int bad;
+static void is(int number, const char *name) {
+    if (strcmp(tds_refusal_name(number), name) != 0) {
+        printf("%d is %s and not %s\n", number, tds_refusal_name(number), name);
+        bad = 1;
+    }
+}
+static void once(int number) {
+    for (int i = 0; i < number; i++) {
+        if (strcmp(tds_refusal_words(i), tds_refusal_words(number)) == 0) {
+            printf("%d and %d have the same words\n", i, number);
+            bad = 1;
+        }
+    }
+}
+int main(void) {
+    for (int i = 1; i <= TDS_LAST_REFUSAL; i++) {
+        is(i, names[i]);
+        once(i);
+    }
+    is(0, names[0]);
+    is(-1, names[0]);
+    is(TDS_LAST_REFUSAL + 1, names[0]);
+    is(2147483647, names[0]);
+END
+    sed -n '/^enum tds_refusal/,/^};/s/^ *TDS_\([A-Z_]*\) = \([1-9][0-9]*\).*/is(\2, "\1");/p' include/tds.h | tr _ ' '
+    echo 'return bad; }'
+} >"$T/words.c"
+if [ "$(grep -c '^is(' "$T/words.c")" -ge 20 ]; then pass; else fail 'the numbers are not found in the header'; fi
+if "$CC" -std=c99 -Wall -Wextra -Werror -Iinclude "$T/words.c" -o "$T/words" >"$T/out" 2>"$T/err"
+then pass; else fail 'does not compile'; fi
+if "$T/words" >"$T/out" 2>"$T/err"; then pass; else fail 'other names, or words that are there twice'; fi
+
+try 'the struct of a record has its seven numbers where the list has them'
 cat >"$T/chunk.c" <<'END'
 #include "tds.h"
 #define AT(field, number) typedef char field[offsetof(struct tds_chunk, field) == 4 * (number) ? 1 : -1];
 AT(identifier, TDS_RECORD_ID) AT(offset, TDS_RECORD_OFFSET) AT(length, TDS_RECORD_LENGTH)
 AT(depth, TDS_RECORD_DEPTH) AT(parent, TDS_RECORD_PARENT) AT(own, TDS_RECORD_OWN)
-typedef char whole[sizeof(struct tds_chunk) == TDS_RECORD_BYTES ? 1 : -1];
+AT(next, TDS_RECORD_NEXT)
+typedef char whole[sizeof(struct tds_chunk) == TDS_RECORD_BYTES && TDS_RECORD_BYTES == 28 ? 1 : -1];
 int main(void) { return 0; }
 END
 if "$CC" -Iinclude -c "$T/chunk.c" -o "$T/chunk.o" >"$T/out" 2>"$T/err"
 then pass; else fail 'they stand elsewhere'; fi
+try 'the manual page has every call and every refusal of the header'
+sed -n 's/^\(TDS_INLINE \)\{0,1\}[a-z].*[ *]\(tds_[a-z0-9_]*\)(.*/\2/p' include/tds.h include/tds_words.h | grep -v texts >"$T/calls"
+sed -n '/^enum tds_refusal/,/^};/s/^ *\(TDS_[A-Z_]*\) = [1-9].*/\1/p' include/tds.h >>"$T/calls"
+if [ "$(wc -l <"$T/calls")" -ge 42 ]; then pass; else fail 'the calls are not found in the header'; fi
+while read -r call; do
+    if grep -qw -e "$call" include/tds.3; then pass; else fail "not $call"; fi
+done <"$T/calls"
+try 'the manual pages are well written'
+if ! command -v groff >/dev/null; then skip 'there is no groff'; else
+    for page in stick/stick.1 include/tds.3; do
+        groff -t -man -ww -z -Tutf8 "$page" >"$T/out" 2>"$T/err"
+        lines err 0
+    done
+fi
 finish header_test

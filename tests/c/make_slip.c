@@ -1,5 +1,6 @@
 /*
- * Writes a slip as document 02 has it, by a reading of its own: it shares no code with the library.
+ * Writes a slip as docs/SLIP.md has it, by a reading of its own: it shares no code with the
+ * library.
  *
  *     make_slip FOLDER NAME... > SLIP
  *

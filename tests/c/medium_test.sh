@@ -20,6 +20,19 @@ has out "read from this computer's memory, not from the stick"
 stick "$F"
 lacks out memory
 
+# hold FILE: another program has it in memory, until let_go.
+hold() {
+    mkfifo "$T/end"
+    "$HELPERS/hold" "$1" <"$T/end" >"$T/held" &
+    exec 6>"$T/end"
+    await "$T/held" held
+}
+let_go() {
+    exec 6>&-
+    wait $!
+    rm "$T/end"
+}
+
 try 'a stick that drops out while memory is written out to it'
 faulty "fdatasync:$EIO:settled/adze" "$F"
 status_is 2
@@ -45,6 +58,20 @@ else
     stick "$T/mount"
     status_is 1
     has out "$T/mount/adze.3ds: refused: "
+
+    # Another program has the good figure in use, so that it stays in memory whatever is dropped.
+    try 'a bit turned on a mounted stick while another program holds the figure is not passed in silence'
+    turn "$T/image" $((place / 1024 * 1024 + 2))
+    stick "$T/mount"
+    status_is 0
+    hold "$T/mount/adze.3ds"
+    turn "$T/image" $((place / 1024 * 1024 + 2))
+    stick "$T/mount"
+    has out "; read from this computer's memory, not from the stick: take the stick out, put it in again, check again"
+    let_go
+    stick "$T/mount"
+    status_is 1
+    lacks out "memory"
     umount "$T/mount"
 fi
 finish medium_test

@@ -1,8 +1,8 @@
 /*
- * The calls about one mesh, on figures at the edges of document 01: zeros of both signs, subnormal
- * and largest numbers, a mesh with nothing in it, meshes in several objects, faces before vertices,
- * rooms of just what is needed and of one number less, the longest vertex list. All answers are
- * written down here by hand, from the rules.
+ * The calls about one mesh, on figures at the edges of docs/FORMAT.md: zeros of both signs,
+ * subnormal and largest numbers, a mesh with nothing in it, meshes in several objects, faces before
+ * vertices, rooms of just what is needed and of one number less, the longest vertex list. All
+ * answers are written down here by hand, from the rules.
  */
 #include "mesh_cases.h"
 

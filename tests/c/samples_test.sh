@@ -21,8 +21,8 @@ try 'the edition is accepted'
 run "$BUILD/stick" samples/edition
 status_is 0
 
-try 'there is a damaged sample for each refusal from 2 to 14'
-for number in 2 3 4 5 6 7 8 9 10 11 12 13 14; do
+try 'there is a damaged sample for each refusal from 2 to 14, and for 24'
+for number in 2 3 4 5 6 7 8 9 10 11 12 13 14 24; do
     if grep -q " $number " samples/damaged/expected.txt; then pass; else fail "none for $number"; fi
 done
 

@@ -5,6 +5,7 @@
  */
 #include "slip_cases.h"
 
+#include <stdbool.h>
 #include <stdio.h>
 #include <stdlib.h>
 #include <string.h>
@@ -185,7 +186,21 @@ static const struct slip_case slip_cases[] = {
     {"a byte left over", {1, 0, 0, 0, 3, 0, 0, 0}, 8, REFUSAL(18, 7)},
     {"an entry without a name", {1, 0, 0, 0, 9, 0, 1, 0, 0, 0, 0, 0, 0, 0}, 14, REFUSAL(18, 7)},
     {"one entry", {1, 0, 0, 0, 10, 0, 1, 1, 'x', 0, 0, 0, 0, 0, 0}, 15, 1},
-    {"a zero for a name", {1, 0, 0, 0, 10, 0, 1, 1, 0, 0xFF, 0, 0, 0, 254, 254}, 15, 1},
+    {"the highest length and sums", {1, 0, 0, 0, 10, 0, 1, 1, '~', 0xFF, 0, 0, 0, 254, 254}, 15, 1},
+    {"a zero for a name", {1, 0, 0, 0, 10, 0, 1, 1, 0, 0, 0, 0, 0, 0, 0}, 15, REFUSAL(24, 7)},
+    {"a byte 31", {1, 0, 0, 0, 10, 0, 1, 1, 31, 0, 0, 0, 0, 0, 0}, 15, REFUSAL(24, 7)},
+    {"a byte 127 in the second name",
+     {1, 0, 0, 0, 19, 0, 2, 1, 32, 0, 0, 0, 0, 0, 0, 2, 126, 127, 0, 0, 0, 0, 0, 0},
+     24,
+     REFUSAL(24, 15)},
+    {"a byte 127 and a byte left over",
+     {1, 0, 0, 0, 11, 0, 1, 1, 127, 0, 0, 0, 0, 0, 0, 0},
+     16,
+     REFUSAL(18, 15)},
+    {"a byte 127 and a bad sum behind it",
+     {1, 0, 0, 0, 18, 0, 2, 1, 127, 0, 0, 0, 0, 0, 0, 1, 'x', 0, 0, 0, 0, 0, 255},
+     23,
+     REFUSAL(18, 15)},
     {"a name of one byte too many",
      {1, 0, 0, 0, 10, 0, 1, 2, 'x', 0, 0, 0, 0, 0, 0},
      15,
@@ -257,7 +272,7 @@ static void try_slip_cases(void) {
     }
 }
 
-/* Every bit of a slip turned: refused with 18, or a slip that is written back as it is. */
+/* Every bit of a slip turned: refused with 18 or 24, or a slip that is written back as it is. */
 static void try_turned(void) {
     uint8_t slip[sizeof two], row[32];
     memcpy(slip, two, sizeof two);
@@ -267,7 +282,8 @@ static void try_turned(void) {
         slip[i / 8] ^= (uint8_t)(1 << i % 8);
         answer = tds_slip_read(slip, sizeof slip, row, sizeof row);
         if (TDS_REFUSED(answer)) {
-            expect(TDS_REFUSAL(answer) == TDS_SLIP && TDS_PLACE(answer) <= sizeof slip,
+            expect((TDS_REFUSAL(answer) == TDS_SLIP && TDS_PLACE(answer) <= sizeof slip) ||
+                       answer == (i / 8 == 8 ? REFUSAL(24, 7) : REFUSAL(24, 15)),
                    "refused with %d, %lu", TDS_REFUSAL(answer), (unsigned long)TDS_PLACE(answer));
             expect(i / 8 >= 5 || TDS_PLACE(answer) == 0, "the first bytes are refused elsewhere");
         } else {
@@ -303,6 +319,10 @@ static const struct write_case write_cases[] = {
     {"a name twice", "aba", 3, {0, 1, 0, 0, 1, 1, 0, 0, 2, 1, 5, 5}, 48, REFUSAL(18, 2)},
     {"a part of an entry", "abc", 3, {0, 1, 0, 0, 1, 1, 0, 0}, 31, REFUSAL(18, 1)},
     {"one byte of an entry", "", 0, {0}, 1, REFUSAL(18, 0)},
+    {"a byte 31 in the second name", " ~\x1F", 3, {0, 2, 0, 0, 1, 2, 0, 0}, 32, REFUSAL(24, 1)},
+    {"a byte 255 for a name", "\xFF", 1, {0, 1, 0, 0}, 16, REFUSAL(24, 0)},
+    {"a byte 127 and a part of an entry", "\x7F", 1, {0, 1, 0, 0, 0}, 17, REFUSAL(18, 1)},
+    {"a byte 127 before a bad entry", "\x7F", 1, {0, 1, 0, 0, 0, 0, 0, 0}, 32, REFUSAL(18, 1)},
     {"a bad entry before a part", "abc", 3, {0, 1, 0, 0, 0, 1, 0, 0, 9}, 33, REFUSAL(18, 1)},
 };
 
@@ -358,15 +378,15 @@ static void try_write_cases(void) {
     }
 }
 
-/* 1,000 entries with long names that differ in their last bytes alone; 1,001; one name repeated. */
+/* 1,000 entries with longest names that differ in their last bytes alone; 1,001; one repeated. */
 static void try_many(void) {
-    enum { MANY = TDS_MOST_ENTRIES + 1, LONG = 255 };
+    enum { MANY = TDS_MOST_ENTRIES + 1, LONG = TDS_LONGEST_NAME, ENTRY = 7 + LONG };
     static uint8_t names[MANY * LONG], row[MANY * TDS_ENTRY_BYTES], out[TDS_LONGEST_SLIP];
     memset(names, 'n', sizeof names);
     for (uint32_t i = 0; i < MANY; i++) {
         const uint32_t numbers[] = {i * LONG, LONG, i, 0};
-        names[i * LONG + LONG - 2] = (uint8_t)(i / 256);
-        names[i * LONG + LONG - 1] = (uint8_t)i;
+        names[i * LONG + LONG - 2] = (uint8_t)(' ' + i / 64);
+        names[i * LONG + LONG - 1] = (uint8_t)('>' + i % 64);
         row_of(numbers, TDS_ENTRY_BYTES, row + i * TDS_ENTRY_BYTES);
     }
     trying("1,000 entries");
@@ -386,8 +406,34 @@ static void try_many(void) {
     memcpy(names + 999 * LONG, names, LONG);
     judge_answer(tds_slip_write(names, sizeof names, row, sizeof row - 16, out, sizeof out),
                  REFUSAL(18, 999));
-    memcpy(out + 7 + 999 * 262 + 1, out + 7 + 1, LONG);
-    judge_answer(tds_slip_read(out, sizeof out, row, sizeof row), REFUSAL(18, 7 + 999 * 262));
+    memcpy(out + 7 + 999 * ENTRY + 1, out + 7 + 1, LONG);
+    judge_answer(tds_slip_read(out, sizeof out, row, sizeof row), REFUSAL(18, 7 + 999 * ENTRY));
+}
+
+/* Names of 63, 64 and 255 bytes, which the layout allows and the label does not. */
+static void try_long_names(void) {
+    static const uint32_t lengths[] = {63, 64, 255};
+    static uint8_t names[256], row[32], out[512], back[32];
+    memset(names, 'n', sizeof names);
+    EACH(i, lengths) {
+        const uint32_t numbers[] = {0, 1, 0, 0, 1, lengths[i], 0, 0};
+        size_t size = 7 + 8 + 7 + lengths[i];
+        bool fits = lengths[i] <= TDS_LONGEST_NAME;
+        row_of(numbers, sizeof row, row);
+        trying("a slip with a name of %lu bytes", (unsigned long)lengths[i]);
+        judge_answer(tds_slip_write(names, sizeof names, row, sizeof row, out, sizeof out),
+                     fits ? size : REFUSAL(24, 1));
+        judge_answer(tds_slip_write(names, sizeof names, row, sizeof row, NULL, 0),
+                     fits ? REFUSAL(15, size) : REFUSAL(24, 1));
+        memcpy(out, (const uint8_t[]){1, 0, 0, 0, 0, 0, 2, 1, 'm', 0, 0, 0, 0, 0, 0}, 15);
+        out[3] = (uint8_t)((size - 5) / 256);
+        out[4] = (uint8_t)(size - 5);
+        out[15] = (uint8_t)lengths[i];
+        memset(out + 16, 'n', lengths[i]);
+        memset(out + 16 + lengths[i], 0, 6);
+        judge_answer(tds_slip_read(out, size, back, sizeof back), fits ? 2 : REFUSAL(24, 15));
+        judge_answer(tds_slip_read(out, size, NULL, 0), fits ? REFUSAL(15, 2) : REFUSAL(24, 15));
+    }
 }
 
 void try_slips(void) {
@@ -402,4 +448,5 @@ void try_slips(void) {
     try_turned();
     try_write_cases();
     try_many();
+    try_long_names();
 }

@@ -24,6 +24,20 @@ stick "$E"
 status_is 0
 last "PASS: 7 figures checked, 0 refused, $seconds"
 
+try 'slips for several folders'
+for name in one two; do
+    mkdir "$T/$name"
+    triangle >"$T/$name/t.3ds"
+    echo "$name" >"$T/$name/notes.txt"
+done
+stick --write-slip "$T/one" "$T/two"
+status_is 0
+matches out "$T/two: PASS: 1 figure checked, 0 refused; a slip was written, with 2 files"
+last "PASS: 2 folders, 2 figures checked, 0 refused, $seconds; 2 slips were written, with 4 files"
+rm "$T/one/stick.slip"
+stick --json --write-slip "$T/one"
+has out '"slips_written":1,'
+
 try 'no slip is written where not all is well'
 mkdir "$T/unwell"
 cp samples/damaged/short-length-of-five.3ds samples/edition/adze.3ds "$T/unwell"

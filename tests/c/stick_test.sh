@@ -24,7 +24,7 @@ lines err 0
 try 'several folders'
 stick samples/edition samples/damaged
 status_is 1
-unsealed 24 18 0
+unsealed 25 19 0
 
 try 'endings of any case, in folders below, and no others'
 folder case
@@ -54,7 +54,7 @@ triangle >"$F/t.3ds"
 for name in a.3ds.part b.3ds~ 'c.3ds ' d.3DS.bak; do triangle >"$F/$name"; done
 stick "$F"
 status_is 2
-matches out "not checked: 4 files almost named as a figure: $F/a.3ds.part, $F/b.3ds~, $F/c.3ds , $F/d.3DS.bak: copy the figure again, and delete this"
+matches out "not checked: 4 files almost named as a figure: $F/a.3ds.part, $F/b.3ds~, $F/c.3ds\\\\x20, $F/d.3DS.bak: copy the figure again, and delete this"
 unsealed 1 0 4
 lines err 0
 stick --quiet "$F"
@@ -78,7 +78,8 @@ triangle >"$F/adze.3ds"
 echo AppleDouble >"$F/._adze.3ds"
 echo '{' >"$F/Thumbs.db"
 echo '{' >"$F/.DS_Store"
-mkdir "$F/.Trashes" "$F/System Volume Information"
+mkdir "$F/.Trashes" "$F/System Volume Information" "$F/lost.dir" "$F/.Trash-1000"
+: >"$F/$(printf 'Icon\r')"
 echo bad >"$F/.Trashes/gone.3ds"
 stick "$F"
 status_is 1
@@ -87,9 +88,12 @@ matches out "$F/Thumbs.db: left by another computer: delete it"
 matches out "$F/\.DS_Store: left by another computer: delete it"
 matches out "$F/\.Trashes: left by another computer: delete it"
 matches out "$F/System Volume Information: left by another computer: delete it"
-lines out 6
+matches out "$F/lost.dir: left by another computer: delete it"
+matches out "$F/\.Trash-1000: left by another computer: delete it"
+has out "$F/Icon\\x0D: left by another computer: delete it"
+lines out 9
 lines err 0
-last "DO NOT SEAL: 1 figure checked, 0 refused, 5 left by another computer, $seconds: see above; structure only: no slip on this stick"
+last "DO NOT SEAL: 1 figure checked, 0 refused, 8 left by another computer, $seconds: see above; structure only: no slip on this stick"
 
 try 'the order is that of the names'
 folder order
@@ -169,18 +173,18 @@ matches err "stick: '': not checked: the name is empty: give a folder, for examp
 try 'status 2 wins over 1'
 stick "$T/nowhere" samples/damaged
 status_is 2
-unsealed 18 18 1
+unsealed 19 19 1
 
 try 'a folder with no figure in it'
 folder none
 stick "$F"
 status_is 2
-matches err "stick: $F: not checked: there is no figure \(\.3ds\) in this folder: see that it is the right folder, and that the edition was copied"
+matches err "stick: $F: not checked: there is no figure in this folder: see that it is the right folder, and that the edition was copied"
 mkdir "$F/below"
 echo text >"$F/below/notes.txt"
 stick "$F" samples/edition
 status_is 2
-matches err "stick: $F: not checked: there is no figure \(\.3ds\) in this folder: see that it is the right folder, and that the edition was copied"
+matches err "stick: $F: not checked: there is no figure in this folder: see that it is the right folder, and that the edition was copied"
 lines err 1
 unsealed 6 0 1
 
@@ -391,6 +395,22 @@ else
     skip 'there is no /dev/full'
 fi
 
+try 'closed streams are not taken over by the figures'
+edition closed_streams
+for stream in 1 2; do
+    # shellcheck disable=SC2016
+    ASAN_OPTIONS=$TRACED_ASAN timeout 60 "$HELPERS/traced" 'do' "readlink /proc/\$PROCESS/fd/$stream >'$T/seen'" "$F/adze.3ds" \
+        sh -c "exec $RUN '$S' '$F' $stream>&-" >"$T/out" 2>"$T/err"
+    status=$?
+    if [ "$status" -eq 125 ]; then skip 'nothing may be traced'; continue; fi
+    if [ "$(cat "$T/seen")" = /dev/null ]; then pass; else fail "stream $stream is $(cat "$T/seen")"; fi
+done
+# shellcheck disable=SC2086
+$RUN "$S" samples/edition >&- 2>"$T/err"
+status=$?
+status_is 2
+has err 'stick: what was found could not be written: Bad file descriptor'
+
 try 'a reader of the lines that has gone away'
 mkfifo "$T/closed"
 (exec 3<"$T/closed") &
@@ -537,7 +557,8 @@ memory=$RUN
 RUN=
 number=0
 for name in 'TOO LONG' 'NOT A FIGURE' TRAILING SHORT OVERRUN STRAY MISPLACED TWICE NAME LENGTH NUMBER \
-    INDEX COUNT MISSING 'NO ROOM' 'NO SUCH MESH' EMPTY SLIP DIFFERS; do
+    INDEX COUNT MISSING 'NO ROOM' 'NO SUCH MESH' EMPTY SLIP DIFFERS HEADER OWNER SIZE FATHER TEXT FORM ORDER \
+    COMBINATION MATERIAL 'SAME NAME' 'NO MATERIAL'; do
     number=$((number + 1))
     stick --explain "$number"
     status_is 0
@@ -547,11 +568,11 @@ for name in 'TOO LONG' 'NOT A FIGURE' TRAILING SHORT OVERRUN STRAY MISPLACED TWI
     widest=$(awk '{ if (length($0) > most) most = length($0) } END { print most }' "$T/out")
     if [ "$widest" -le 80 ]; then pass; else fail "a line of $widest characters"; fi
     sentence=$(sed -n "1s/^Refusal $number, $name: //p" "$T/out")
-    [ "$number" -gt 14 ] && continue
+    case $number in 15 | 16 | 17 | 29 | 30) continue ;; esac # mistakes of programs
     page=$(sed -n "/^\\.B $number $name\$/{n;p;}" stick/stick.1)
     if [ "$page" = "$sentence" ]; then pass; else fail "the manual page says: $page"; fi
     file=$(sed -n "s/ $number [0-9]*\$//p" samples/damaged/expected.txt | head -n 1)
-    [ "$number" -eq 1 ] && continue
+    [ -z "$file" ] && continue
     stick -q "samples/damaged/$file"
     has out ": refused: $name ($number): ${sentence%.}, at byte "
 done
@@ -560,7 +581,7 @@ for number in 0 31 -1 x 5x '' 99999999999999999999; do
     stick --explain "$number"
     status_is 2
     has err 'stick: there is no refusal '
-    has err 'They are numbered 1 to 19.'
+    has err 'They are numbered 1 to 30.'
 done
 RUN=$memory
 try '--explain by name'

@@ -24,19 +24,28 @@ for file in samples/edition/*.3ds; do
     status_is 0
 done
 
+try 'why a figure is not shown, in words'
+run "$V" samples/damaged/overrun-length-bit-turned.3ds
+matches err 'viewer: not shown: a length runs past the end of the chunk around it \(refusal 5, place [0-9]+\)'
+
 try 'no damaged figure is shown'
 while read -r file number place; do
     run "$V" "samples/damaged/$file"
     status_is 1
-    has err "not shown: refusal $number, place $place"
+    has err "(refusal $number, place $place)"
     lines out 0
 done <samples/damaged/expected.txt
 
-try 'a mesh without vertices, and a name with a control character'
-printf 'MM\037\0\0\0==\031\0\0\0\0@\023\0\0\0a\033[2J\n\0\0A\006\0\0\0' >"$T/empty"
+try 'a mesh without vertices'
+printf 'MM\037\0\0\0==\031\0\0\0\0@\023\0\0\0a [2J~\0\0A\006\0\0\0' >"$T/empty"
 run "$V" "$T/empty"
 status_is 0
-matches out 'mesh 0 "a\?\[2J\?": vertices 0, faces 0'
+matches out 'mesh 0 "a \[2J~": vertices 0, faces 0'
+try 'a name with a control character'
+printf 'MM\037\0\0\0==\031\0\0\0\0@\023\0\0\0a\033[2J\n\0\0A\006\0\0\0' >"$T/empty"
+run "$V" "$T/empty"
+status_is 1
+has err 'refusal 24, place 12'
 
 try 'a file that is too long'
 "$BUILD/make_samples" --too-long "$T/long"

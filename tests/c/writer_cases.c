@@ -33,6 +33,8 @@ struct writer_case {
 #define TRIANGLE                                                                                   \
     { 0, 0, 0, 1, 0, 0, 0, 1, 0 }
 
+#define NAME_62 "abcdefghijklmnopqrstuvwxyzABCDEFGHIJKLMNOPQRSTUVWXYZ0123456789"
+
 static const struct writer_case cases[] = {
     {"the triangle", "A", 1, TRIANGLE, 9, {0, 1, 2}, 3, 0},
     {"no name", "", 0, TRIANGLE, 9, {0, 1, 2}, 3, 0},
@@ -41,6 +43,13 @@ static const struct writer_case cases[] = {
     {"two faces", "two", 3, {-0.0f, 1e-45f, -3e38f, 3e38f, 5, 6}, 6, {0, 1, 1, 0, 0, 1}, 6, 0},
     {"a zero in the name", "ab\0c\0", 5, TRIANGLE, 9, {0, 1, 2}, 3, REFUSAL(9, 2)},
     {"a zero in the name wins over all", "\0", 1, {INFINITY}, 1, {7}, 1, REFUSAL(9, 0)},
+    {"a name of 63 bytes", NAME_62 "~", 63, TRIANGLE, 9, {0, 1, 2}, 3, 0},
+    {"a name of 64 bytes", NAME_62 "ab", 64, TRIANGLE, 9, {0, 1, 2}, 3, REFUSAL(24, 63)},
+    {"a bad byte before 63", "a\x1F" NAME_62 "\x7F", 65, TRIANGLE, 9, {0}, 0, REFUSAL(24, 1)},
+    {"a bad byte at 63", NAME_62 "a\x7F", 64, TRIANGLE, 9, {0}, 0, REFUSAL(24, 63)},
+    {"a bad byte behind 63", NAME_62 "abc\x80", 66, TRIANGLE, 9, {0}, 0, REFUSAL(24, 63)},
+    {"a byte 127 wins over 8 floats", "~ \x7F", 3, TRIANGLE, 8, {0}, 0, REFUSAL(24, 2)},
+    {"a zero behind a bad byte", "\xFF\0", 2, TRIANGLE, 9, {0}, 0, REFUSAL(9, 1)},
     {"8 floats", "A", 1, TRIANGLE, 8, {0, 1, 2}, 3, REFUSAL(13, 8)},
     {"2 corners", "A", 1, TRIANGLE, 9, {0, 1, 2}, 2, REFUSAL(13, 2)},
     {"10 floats and 4 corners", "A", 1, TRIANGLE, 10, {0, 1, 2}, 4, REFUSAL(13, 10)},
@@ -117,7 +126,7 @@ static void try_case(const struct writer_case *this) {
     }
 }
 
-/* The triangle is document 01's, byte for byte. */
+/* The triangle is that of docs/FORMAT.md, byte for byte. */
 static void try_triangle(void) {
     static const uint8_t right[] =
         "MM\x56\0\0\0==\x50\0\0\0\0@\x4A\0\0\0A\0\0A\x42\0\0\0\x10\x41\x2C\0\0\0\3\0"
@@ -129,28 +138,31 @@ static void try_triangle(void) {
                            sizeof out),
                  86);
     expect(sizeof right == 86 && memcmp(out, right, 86) == 0,
-           "the bytes are not those of document 01");
+           "the bytes are not those of docs/FORMAT.md");
 }
 
-/* Names that take the size to the limit, and one byte over it. */
+/* Rows that take the size to the limit with a name of three bytes, and over it with four. */
 static void try_limit(void) {
-    size_t longest = TDS_LONGEST_FILE - 41;
-    uint8_t *name = malloc(longest + 1), *out = malloc(TDS_LONGEST_FILE);
-    if (name == NULL || out == NULL) {
+    const size_t floats = 3 * 65535, corners = 3 * 32764;
+    float *vertices = calloc(floats, sizeof *vertices);
+    uint16_t *row = calloc(corners, sizeof *row);
+    uint8_t *out = malloc(TDS_LONGEST_FILE);
+    const uint8_t *name = (const uint8_t *)"name";
+    if (vertices == NULL || row == NULL || out == NULL) {
         abort();
     }
-    memset(name, 'n', longest + 1);
     trying("tds_write at the longest size");
-    judge_answer(tds_write(name, longest, NULL, 0, NULL, 0, out, TDS_LONGEST_FILE),
+    judge_answer(tds_write(name, 3, vertices, floats, row, corners, out, TDS_LONGEST_FILE),
                  TDS_LONGEST_FILE);
     judge_answer(tds_check(out, TDS_LONGEST_FILE), 6);
-    judge_answer(tds_write(name, longest, NULL, 0, NULL, 0, out, TDS_LONGEST_FILE - 1),
+    judge_answer(tds_write(name, 3, vertices, floats, row, corners, out, TDS_LONGEST_FILE - 1),
                  REFUSAL(15, TDS_LONGEST_FILE));
     trying("tds_write one byte over the longest size");
-    judge_answer(tds_write(name, longest + 1, NULL, 0, NULL, 0, out, TDS_LONGEST_FILE),
+    judge_answer(tds_write(name, 4, vertices, floats, row, corners, out, TDS_LONGEST_FILE),
                  REFUSAL(1, 0));
-    judge_answer(tds_write(name, longest + 1, NULL, 0, NULL, 0, NULL, 0), REFUSAL(1, 0));
-    free(name);
+    judge_answer(tds_write(name, 4, vertices, floats, row, corners, NULL, 0), REFUSAL(1, 0));
+    free(vertices);
+    free(row);
     free(out);
 }
 

@@ -136,7 +136,7 @@ write-told name vertices corners out file = go (broken (writeConditions name ver
     go (some r) e = capped r
     go none e =
         let t = met _ e in
-        let l : figureSize name vertices corners ≤ limit = leb-true _ _ (t .1 .1 .1 .1 .1 .0) in
+        let l : figureSize name vertices corners ≤ limit = leb-true _ _ (t .1 .1 .1 .1 .1 .1 .0) in
         omega arith
 
 -- ---- THE THEOREM

@@ -5,12 +5,13 @@ use Prim.Native.Nat.{ℕ, zero, suc, _+_, _-_}
 use native.Mathlib.Omega.{arith}
 use mathlib.Core.List.{List, [], _∷_, _++_}
 use mathlib.Core.Option.{some, Option·some-ne-none}
-use lib.ListN.{length, length-append, getElem?, set}
+use lib.ListN.{length, getElem?, set}
 use Rattle.studio_rules.specs.declared.Record.{Record}
-use Rattle.studio_rules.specs.Layout.{Run, end, skip, known, size}
+use Rattle.studio_rules.specs.Layout.{Run, known, size}
 use Rattle.studio_rules.specs.Gives.{recordCount, recordOf, recordsOf, meshesOf}
 use Rattle.studio_rules.specs.Readings.{_then_}
 use Rattle.studio_rules.proofs.Gaps.{record-count-same}
+use Rattle.studio_rules.proofs.Jumps.{length-records}
 use Rattle.claim_turned.specs.Turned.{resized}
 use Rattle.claim_turned.proofs.Then.{size-then, records-then, meshes-then}
 use Rattle.claim_turned.proofs.Bare.{bare, same-of-bare, bare-then}
@@ -34,16 +35,6 @@ changed-before : (n : ℕ) (r : Record) (rs qs ys : List Record) (i : ℕ) → C
 changed-before n r [] qs ys i h = absurd (Option·some-ne-none r (sym (h .0)))
 changed-before n r (x ∷ rs) qs ys zero h = (h .0, rw (h .1))
 changed-before n r (x ∷ rs) qs ys (suc i) h = let k = changed-before n r rs (set rs i (resized n r)) ys i (h .0, refl) in (k .0, rw (h .1, ← (k .1)))
-
-pub length-records : (o depth parent next : ℕ) (t : Run) → length (recordsOf o depth parent next t) ≡ recordCount t
-length-records o depth parent next end = refl
-length-records o depth parent next (skip id body t) = length-records (o + (6 + length body)) depth parent next t
-length-records o depth parent next (known id own kids t) =
-    let inner = recordsOf (o + (6 + length own)) (suc depth) next (suc next) kids in
-    let later = recordsOf (o + (6 + length own + size kids)) depth parent (suc (next + recordCount kids)) t in
-    let i : length inner ≡ recordCount kids = length-records (o + (6 + length own)) (suc depth) next (suc next) kids in
-    let l : length later ≡ recordCount t = length-records (o + (6 + length own + size kids)) depth parent (suc (next + recordCount kids)) t in
-    omega (arith, length-append inner later)
 
 -- ---- around a place
 
@@ -77,10 +68,10 @@ pub record Listed (n len i ahead : ℕ) (o depth parent next : ℕ) (t u : Run) 
 pub listed-first : (id : ℕ) (own : List ℕ) (kids rest kids′ rest′ : Run) (n : ℕ) → Same id own kids rest kids′ rest′ → n ≡ 6 + length own + size kids′ → (o depth parent next : ℕ) →
     Listed n (6 + length own + size kids) 0 0 o depth parent next (known id own kids rest) (known id own kids′ rest′)
 listed-first id own kids rest kids′ rest′ n h e o depth parent next = record {
-  r = recordOf o depth parent id own kids;
+  r = recordOf o depth parent next id own kids;
   at = omega arith;
   long = refl;
-  changed = (refl, rw (h .laters o depth parent next, ← e));
+  changed = (refl, rw (h .laters o depth parent next, ← e, h .counts));
 }
 
 listed-behind : (n len i j ahead far : ℕ) (o depth parent next : ℕ) (a t u : Run) → j ≡ recordCount a + i → far ≡ size a + ahead →

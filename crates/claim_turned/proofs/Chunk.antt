@@ -1,9 +1,9 @@
 -- The chunk of record number i of an accepted file: where its length field stands, and the file with another value there.
 use mathlib.Core.Path.{_≡_, refl, sym, ap, _∙_}
-use Prim.Native.Nat.{ℕ, zero, suc, _+_, _≤_, _<_}
+use Prim.Native.Nat.{ℕ, _+_, _≤_}
 use native.Mathlib.Omega.{arith}
-use mathlib.Core.List.{List, [], _∷_, _++_}
-use mathlib.Core.Option.{some, Option·some-ne-none}
+use mathlib.Core.List.{List, _++_}
+use mathlib.Core.Option.{some}
 use lib.ListN.{length, getElem?}
 use Rattle.studio_rules.specs.declared.Record.{Record}
 use Rattle.shared_words.specs.Bytes.{Bytes}
@@ -12,18 +12,15 @@ use Rattle.studio_rules.specs.Rules.{Meets}
 use Rattle.shared_words.specs.Conditions.{accepted}
 use Rattle.studio_rules.specs.Walk.{verdict}
 use Rattle.studio_rules.specs.Gives.{list}
+use Rattle.studio_rules.proofs.At.{in-range}
+use Rattle.studio_rules.proofs.Jumps.{length-records}
 use Rattle.studio_rules.proofs.Verdict.{accepted-exactly}
 use Rattle.claim_turned.specs.Turned.{withLength}
 use Rattle.claim_turned.proofs.Context.{fill, bytes-plug}
 use Rattle.claim_turned.proofs.Field.{offsetIn, offset-within, field-fill}
 use Rattle.claim_turned.proofs.Number.{Found, find}
 use Rattle.claim_turned.proofs.Exchange.{same-chunk}
-use Rattle.claim_turned.proofs.Around.{length-records, Listed, listed-first, listed-plug}
-
-in-range : {A : Type 0} (xs : List A) (i : ℕ) (x : A) → getElem? xs i ≡ some x → i < length xs
-in-range [] i x h = absurd (Option·some-ne-none x (sym h))
-in-range (y ∷ xs) zero x h = omega arith
-in-range (y ∷ xs) (suc i) x h = omega (arith, in-range xs i x h)
+use Rattle.claim_turned.proofs.Around.{Listed, listed-first, listed-plug}
 
 module _ (s : List ℕ) (kids : Run) (i : ℕ) (r : Record) (are-bytes : Bytes s) (reads : verdict s ≡ accepted kids) (in-list : getElem? (list kids) i ≡ some r) where
   pub meets : Meets s kids

@@ -28,6 +28,7 @@ mesh-same at l kids kids′ e = rw (same-of-bare (child 0x4110) (child-same 0x41
 pub record Same (id : ℕ) (own : List ℕ) (kids rest kids′ rest′ : Run) : Type 0 where
   pub sizes : size kids′ + size rest′ ≡ size kids + size rest
   pub bares : bare (known id own kids′ rest′) ≡ bare (known id own kids rest)
+  pub counts : recordCount kids′ ≡ recordCount kids
   pub laters : (o depth parent next : ℕ) → later o depth parent next own kids′ rest′ ≡ later o depth parent next own kids rest
   pub meshes : (o at l : ℕ) → meshesOf o at l (known id own kids′ rest′) ≡ meshesOf o at l (known id own kids rest)
 
@@ -35,22 +36,25 @@ same-back : (id : ℕ) (own : List ℕ) (kids rest kids′ rest′ : Run) → Sa
 same-back id own kids rest kids′ rest′ h = record {
   sizes = sym (h .sizes);
   bares = sym (h .bares);
+  counts = sym (h .counts);
   laters = λ o depth parent next. sym (h .laters o depth parent next);
   meshes = λ o at l. sym (h .meshes o at l);
 }
 
 -- the chunk takes w in
 module _ (id : ℕ) (own : List ℕ) (kids w rest : Run) (n : recordCount w ≡ 0) where
+  count-same : recordCount (kids then w) ≡ recordCount kids
+  count-same = same-of-bare recordCount record-count-same kids (kids then w) (bare-then-none kids w n)
+
   later-same : (o depth parent next : ℕ) → later o depth parent next own (kids then w) rest ≡ later o depth parent next own kids (w then rest)
   later-same o depth parent next =
       let o₁ : ℕ = o + (6 + length own) in
       let o₂ : ℕ = o + (6 + length own + size kids) in
       let o₃ : ℕ = o + (6 + length own + size (kids then w)) in
       let k : ℕ = suc (next + recordCount kids) in
-      let c : recordCount (kids then w) ≡ recordCount kids = same-of-bare recordCount record-count-same kids (kids then w) (bare-then-none kids w n) in
       let a = records-then o₁ (o₁ + size kids) (suc depth) next (suc next) (suc next + recordCount kids) kids w refl refl in
       let b = records-then o₂ o₃ depth parent k k w rest (omega (arith, size-then kids w)) (omega arith) in
-      rw (a, no-records (o₁ + size kids) (suc depth) next (suc next + recordCount kids) w n, append-nil (recordsOf o₁ (suc depth) next (suc next) kids), c, b, no-records o₂ depth parent k w n)
+      rw (a, no-records (o₁ + size kids) (suc depth) next (suc next + recordCount kids) w n, append-nil (recordsOf o₁ (suc depth) next (suc next) kids), count-same, b, no-records o₂ depth parent k w n)
 
   meshes-same : (o at l : ℕ) → meshesOf o at l (known id own (kids then w) rest) ≡ meshesOf o at l (known id own kids (w then rest))
   meshes-same o at l =
@@ -65,6 +69,7 @@ module _ (id : ℕ) (own : List ℕ) (kids w rest : Run) (n : recordCount w ≡ 
   takes-in = record {
     sizes = omega (arith, size-then kids w, size-then w rest);
     bares = rw (bare-then-none kids w n, bare-none-then w rest n);
+    counts = count-same;
     laters = later-same;
     meshes = meshes-same;
   }
@@ -77,4 +82,4 @@ same id own kids rest kids′ rest′ (inl h) = same-takes id own kids rest kids
 same id own kids rest kids′ rest′ (inr h) = same-back id own kids′ rest′ kids rest (same-takes id own kids′ rest′ kids rest h)
 
 pub same-chunk : (id : ℕ) (own : List ℕ) (kids rest : Run) → Same id own kids rest kids rest
-same-chunk id own kids rest = record { sizes = refl; bares = refl; laters = λ o depth parent next. refl; meshes = λ o at l. refl }
+same-chunk id own kids rest = record { sizes = refl; counts = refl; bares = refl; laters = λ o depth parent next. refl; meshes = λ o at l. refl }

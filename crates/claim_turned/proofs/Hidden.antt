@@ -8,6 +8,7 @@ use mathlib.Core.List.{[]}
 use Rattle.shared_words.specs.Lists.{every}
 use Rattle.studio_rules.specs.Table.{rows, atMostOne, atLeastOne, listed, under, shape, plus, limits, needs}
 use Rattle.shared_words.specs.Floats.{finite}
+use Rattle.shared_words.specs.Labels.{fitsLabel}
 use Rattle.studio_rules.specs.Layout.{Run, end, skip, known, figure, identifiers}
 use Rattle.studio_rules.specs.Rules.{noneMissing, version}
 use Rattle.shared_words.specs.Conditions.{broken}
@@ -18,7 +19,7 @@ use Rattle.studio_rules.proofs.Theorems.{counts-add}
 use Rattle.claim_turned.specs.Hidden.{Hidden, NoneSmaller}
 
 pub hidden : Hidden
-unfolding every rows atMostOne atLeastOne listed under shape plus limits needs finite broken step walk versionIn verdict checkCall
+unfolding every rows atMostOne atLeastOne listed under shape plus limits needs finite fitsLabel broken step walk versionIn verdict checkCall
 hidden = record { there = refl; gone = refl; there-bit = refl; gone-bit = refl; known-refused = refl; apart = refl; taken-in = refl }
 
 -- ---- none smaller: 4D4D, 3D3D, one known chunk more and an unlisted one are four headers

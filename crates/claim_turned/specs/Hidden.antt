@@ -27,17 +27,17 @@ beside = bytes (figure (scene end then skip 0x8123 [] end))
 
 pub record Hidden : Type 0 where
   -- the length of the 8123 set from 6 to 12: accepted, and the 1470 is gone
-  pub there : listIn (verdict with1470) ≡ 0x4D4D ∷ 0 ∷ 24 ∷ 0 ∷ 0 ∷ 0 ∷ 0x3D3D ∷ 6 ∷ 18 ∷ 1 ∷ 0 ∷ 0 ∷ 0x1470 ∷ 18 ∷ 6 ∷ 2 ∷ 1 ∷ 0 ∷ []
-  pub gone : listIn (verdict (withLength 12 12 with1470)) ≡ 0x4D4D ∷ 0 ∷ 24 ∷ 0 ∷ 0 ∷ 0 ∷ 0x3D3D ∷ 6 ∷ 18 ∷ 1 ∷ 0 ∷ 0 ∷ []
+  pub there : listIn (verdict with1470) ≡ 0x4D4D ∷ 0 ∷ 24 ∷ 0 ∷ 0 ∷ 0 ∷ 3 ∷ 0x3D3D ∷ 6 ∷ 18 ∷ 1 ∷ 0 ∷ 0 ∷ 3 ∷ 0x1470 ∷ 18 ∷ 6 ∷ 2 ∷ 1 ∷ 0 ∷ 3 ∷ []
+  pub gone : listIn (verdict (withLength 12 12 with1470)) ≡ 0x4D4D ∷ 0 ∷ 24 ∷ 0 ∷ 0 ∷ 0 ∷ 2 ∷ 0x3D3D ∷ 6 ∷ 18 ∷ 1 ∷ 0 ∷ 0 ∷ 2 ∷ []
   -- by one bit, from 6 to 14 in the lowest byte: the 1420 is gone
-  pub there-bit : listIn (verdict with1420) ≡ 0x4D4D ∷ 0 ∷ 26 ∷ 0 ∷ 0 ∷ 0 ∷ 0x3D3D ∷ 6 ∷ 20 ∷ 1 ∷ 0 ∷ 0 ∷ 0x1420 ∷ 18 ∷ 8 ∷ 2 ∷ 1 ∷ 2 ∷ []
-  pub gone-bit : listIn (verdict (set with1420 14 0b1110)) ≡ 0x4D4D ∷ 0 ∷ 26 ∷ 0 ∷ 0 ∷ 0 ∷ 0x3D3D ∷ 6 ∷ 20 ∷ 1 ∷ 0 ∷ 0 ∷ []
+  pub there-bit : listIn (verdict with1420) ≡ 0x4D4D ∷ 0 ∷ 26 ∷ 0 ∷ 0 ∷ 0 ∷ 3 ∷ 0x3D3D ∷ 6 ∷ 20 ∷ 1 ∷ 0 ∷ 0 ∷ 3 ∷ 0x1420 ∷ 18 ∷ 8 ∷ 2 ∷ 1 ∷ 2 ∷ 3 ∷ []
+  pub gone-bit : listIn (verdict (set with1420 14 0b1110)) ≡ 0x4D4D ∷ 0 ∷ 26 ∷ 0 ∷ 0 ∷ 0 ∷ 2 ∷ 0x3D3D ∷ 6 ∷ 20 ∷ 1 ∷ 0 ∷ 0 ∷ 2 ∷ []
   -- beside it the lengths of the known chunks, the 1470, the 3D3D and the 4D4D: refused
   pub known-refused :
       showAll (checkCall (withLength 18 7 with1470) ∷ checkCall (withLength 6 12 with1470) ∷ checkCall (withLength 0 22 with1470) ∷ []) ≡ no 5 18 ∷ no 7 18 ∷ no 3 22 ∷ []
   -- and a 3D3D that takes in the unlisted chunk behind it: accepted, one length is another
-  pub apart : listIn (verdict beside) ≡ 0x4D4D ∷ 0 ∷ 18 ∷ 0 ∷ 0 ∷ 0 ∷ 0x3D3D ∷ 6 ∷ 6 ∷ 1 ∷ 0 ∷ 0 ∷ []
-  pub taken-in : listIn (verdict (withLength 6 12 beside)) ≡ 0x4D4D ∷ 0 ∷ 18 ∷ 0 ∷ 0 ∷ 0 ∷ 0x3D3D ∷ 6 ∷ 12 ∷ 1 ∷ 0 ∷ 0 ∷ []
+  pub apart : listIn (verdict beside) ≡ 0x4D4D ∷ 0 ∷ 18 ∷ 0 ∷ 0 ∷ 0 ∷ 2 ∷ 0x3D3D ∷ 6 ∷ 6 ∷ 1 ∷ 0 ∷ 0 ∷ 2 ∷ []
+  pub taken-in : listIn (verdict (withLength 6 12 beside)) ≡ 0x4D4D ∷ 0 ∷ 18 ∷ 0 ∷ 0 ∷ 0 ∷ 2 ∷ 0x3D3D ∷ 6 ∷ 12 ∷ 1 ∷ 0 ∷ 0 ∷ 2 ∷ []
 
 -- NONE IS SMALLER: a file with an unlisted chunk and more known chunks than some other accepted file has 24 bytes or more.
 abbrev pub NoneSmaller : Type 0

@@ -29,7 +29,7 @@ pub record OtherLength (s : List ℕ) (kids : Run) (i : ℕ) (r : Record) (n : �
 
 -- a record with another length
 abbrev pub resized : ℕ → Record → Record
-resized n r = record { identifier = r .identifier; offset = r .offset; len = n; depth = r .depth; parent = r .parent; own = r .own }
+resized n r = record { identifier = r .identifier; offset = r .offset; len = n; depth = r .depth; parent = r .parent; own = r .own; next = r .next }
 
 -- All that a reader gets of the second layout it gets of the first, but that n is the length in record number i, which
 -- is r: the same known chunks in the same order, the same counts of records and bytes, the same tables and names.

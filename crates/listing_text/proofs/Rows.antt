@@ -10,7 +10,7 @@ use Rattle.studio_rules.specs.declared.Record.{Record}
 use Rattle.studio_rules.specs.Gives.{recordNumbers, flat}
 use Rattle.listing_text.specs.Lines.{chunkLine, lines, lineAt, rowLines}
 
--- the record after the first stands six numbers further on
+-- the record after the first stands seven numbers further on
 at-drop : (row : List ℕ) (j k : ℕ) → getD (drop recordNumbers row) (j + k) 0 ≡ getD row (recordNumbers + j + k) 0
 at-drop row j k =
     let e : recordNumbers + j + k ≡ recordNumbers + (j + k) = omega arith in

@@ -19,7 +19,7 @@ use Rattle.studio_rules.specs.Gives.{recordNumbers, recordCount, list, flat}
 use Rattle.studio_rules.specs.Encodings.{flatRecords}
 use Rattle.shared_words.specs.Effects.{leaving, filled}
 use Rattle.studio_rules.specs.Calls.{countsOf, listOf, listCall}
-use Rattle.studio_list_rows.proofs.Counts.{length-records}
+use Rattle.studio_rules.proofs.Jumps.{length-records}
 use Rattle.listing_text.specs.Lines.{refusalLine, countsLine, lines, rowLines}
 use Rattle.listing_text.specs.Listing.{listingOf, listing}
 use Rattle.listing_text.proofs.Rows.{lines-flat}

@@ -108,16 +108,16 @@ fn wide(n: u32) -> usize {
     n as usize
 }
 
-// P11 and P12: the list. A row of 35 numbers holds five records and a part of a sixth; the offset of the fourth record is
-// number 19.
+// P11 and P12: the list. A row of 41 numbers holds five records and a part of a sixth; the offset of the fourth record is
+// number 22.
 fn list_samples() {
     let p11 = triangle();
-    let mut small = [0u32; 35];
+    let mut small = [0u32; 41];
     show(b"P11", studio_list::list(&p11, &mut small));
     let p12 = triangle_and_private();
-    let mut row = [0u32; 36];
+    let mut row = [0u32; 42];
     print_answer(b"P12", studio_list::list(&p12, &mut row));
-    print_field(b" mesh at ", wide(row[19]));
+    print_field(b" mesh at ", wide(row[22]));
     end_line();
 }
 

@@ -8,7 +8,7 @@ use lib.Seq.{slice, drop-drop, take-take, take-nil}
 use Rattle.shared_words.specs.Bytes.{value}
 use Rattle.shared_numbers.specs.Numbers.{wordAt, longAt}
 
-drop-take : (n k : ℕ) (s : List ℕ) → drop n (take (n + k) s) ≡ take k (drop n s)
+pub drop-take : (n k : ℕ) (s : List ℕ) → drop n (take (n + k) s) ≡ take k (drop n s)
 drop-take zero k s = rw (zero-add k)
 drop-take (suc n) k [] = rw (suc-add n k) (sym (take-nil k))
 drop-take (suc n) k (x ∷ s) = rw (suc-add n k) (drop-take n k s)

@@ -1,4 +1,6 @@
 pub mod Bools
+pub mod FirstFault
+pub mod Labels
 pub mod Refusals
 pub mod Conditions
 pub mod Bytes

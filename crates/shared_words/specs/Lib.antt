@@ -2,6 +2,7 @@ pub mod Refusals
 pub mod Lists
 pub mod Bytes
 pub mod Floats
+pub mod Labels
 pub mod Conditions
 pub mod Effects
 pub mod Encodings

@@ -1,6 +1,6 @@
 -- Tests of a list, and properties of each element of it.
-use Prim.Native.Nat.{ℕ}
-use mathlib.Core.Bool.{Bool, true, false, _&&_, _||_}
+use Prim.Native.Nat.{ℕ, suc}
+use mathlib.Core.Bool.{Bool, true, false, _&&_, _||_, cond}
 use mathlib.Core.List.{List, [], _∷_}
 use lib.Dec.{eqb}
 
@@ -20,6 +20,11 @@ same [] [] = true
 same [] (y ∷ ys) = false
 same (x ∷ xs) [] = false
 same (x ∷ xs) (y ∷ ys) = eqb x y && same xs ys
+
+-- the position of the first element at fault; where none is, the length
+abbrev pub firstFault : {A : Type 0} → (A → Bool) → List A → ℕ
+firstFault good [] = 0
+firstFault good (x ∷ xs) = cond (good x) (suc (firstFault good xs)) 0
 
 -- each element has a property
 abbrev pub All : {A : Type 0} → (A → Type 0) → List A → Type 0

@@ -1,14 +1,16 @@
 -- Worked numbers: a few values of each definition that the formats share.
 use mathlib.Core.Path.{_≡_}
 use mathlib.Core.Bool.{true, false}
-use mathlib.Core.List.{List, [], _∷_}
+use mathlib.Core.List.{List, [], _∷_, _++_}
 use mathlib.Core.Option.{some}
 use Prim.Native.Nat.{ℕ}
+use lib.ListN.{replicate}
 use Rattle.shared_words.specs.declared.Refusal.the-variants.{Overrun, NoRoom, Differs}
 use Rattle.shared_words.specs.Refusals.{code, codeOf}
 use Rattle.shared_words.specs.Lists.{among, same}
 use Rattle.shared_words.specs.Bytes.{value, le, packed, numbers, valueBe, be}
 use Rattle.shared_words.specs.Floats.{finite}
+use Rattle.shared_words.specs.Labels.{fitsLabel, labelFault}
 use Rattle.shared_words.specs.Conditions.{must, broken}
 use Rattle.shared_words.specs.Effects.{filled}
 use Rattle.shared_words.specs.Encodings.{numberBytes}
@@ -32,3 +34,11 @@ pub record Worked : Type 0 where
   pub first-broken : broken (must true (Overrun 1) ∷ must false (Overrun 2) ∷ must false (Overrun 3) ∷ []) ≡ some (Overrun 2)
   pub rest-stays : filled {A = ℕ} (1 ∷ 2 ∷ []) (7 ∷ 8 ∷ 9 ∷ []) ≡ 1 ∷ 2 ∷ 9 ∷ []
   pub part-is-no-room : numberBytes 4 .room 7 ≡ 1
+  -- 63 bytes fit a label and 64 do not; neither does a byte 31 or 127
+  pub empty-fits : fitsLabel [] ≡ true
+  pub sixty-three-fit : fitsLabel (32 ∷ replicate 62 126) ≡ true
+  pub sixty-four : fitsLabel (replicate 64 65) ≡ false
+  pub thirty-one : fitsLabel (31 ∷ []) ≡ false
+  pub one-two-seven : fitsLabel (65 ∷ 127 ∷ []) ≡ false
+  pub first-bad-byte : labelFault (65 ∷ 31 ∷ 127 ∷ []) ≡ 1
+  pub lesser-is-63 : labelFault (replicate 64 65 ++ (31 ∷ [])) ≡ 63

@@ -11,7 +11,7 @@ use Rattle.shared_words.specs.Bytes.{beAt}
 use Rattle.shared_words.specs.Conditions.{refused, accepted}
 use Rattle.shared_words.proofs.Bools.{and-parts}
 use Rattle.slip_rules.specs.Rules.{limit}
-use Rattle.slip_rules.specs.Walk.{walk, verdict}
+use Rattle.slip_rules.specs.Walk.{walk, labelled, verdict}
 use Rattle.slip_rules.proofs.Tests.{one-fails, none-fails, and-true, and-false}
 use Rattle.slip_check.specs.Entries.{entriesIn, headGood}
 
@@ -22,7 +22,7 @@ module _ (s : List ℕ) where
   unfolding headGood verdict
   verdict-off e = rw (one-fails (leb 7 (length s) ∷ eqb (getD s 0 0) 1 ∷ eqb (5 + beAt 1 4 s) (length s) ∷ leb (beAt 5 2 s) limit ∷ []) (Slip 0) [] e)
 
-  verdict-on : headGood s ≡ true → verdict s ≡ walk (beAt 5 2 s) [] 7 (drop 7 s)
+  verdict-on : headGood s ≡ true → verdict s ≡ labelled (walk (beAt 5 2 s) [] 7 (drop 7 s))
   unfolding headGood verdict
   verdict-on e = rw (none-fails (leb 7 (length s) ∷ eqb (getD s 0 0) 1 ∷ eqb (5 + beAt 1 4 s) (length s) ∷ leb (beAt 5 2 s) limit ∷ []) (Slip 0) e)
 
@@ -38,7 +38,7 @@ module _ (s : List ℕ) where
     pub verdict-bad : (place : ℕ) → walk n [] 7 (drop 7 s) ≡ refused (Slip place) → verdict s ≡ refused (Slip place)
     verdict-bad place w = verdict-on e ∙ rw (← q, w)
 
-    pub verdict-good : walk n [] 7 (drop 7 s) ≡ accepted (entriesIn n s 7) → verdict s ≡ accepted (entriesIn n s 7)
+    pub verdict-good : walk n [] 7 (drop 7 s) ≡ accepted (entriesIn n s 7) → verdict s ≡ labelled (accepted (entriesIn n s 7))
     verdict-good w = verdict-on e ∙ rw (← q, w)
 
 -- ---- the first seven bytes, in the order in which the code comes to know them

@@ -12,7 +12,7 @@ use Rattle.slip_rules.specs.declared.Found.{Found}
 use Rattle.slip_rules.specs.Slip.{Entry}
 use Rattle.slip_rules.specs.Rules.{isNamed, sumsProper, notTwice, limit}
 use Rattle.slip_rules.specs.Conditions.{allOf}
-use Rattle.slip_rules.specs.Walk.{Entries, entryAt, walk, verdict}
+use Rattle.slip_rules.specs.Walk.{Entries, entryAt, walk, labelled, verdict}
 use Rattle.slip_check.specs.declared.Walked.{Walked}
 
 -- the entry at an offset, and the offset behind it
@@ -67,6 +67,11 @@ headGood s = allOf (leb 7 (length s) ∷ eqb (getD s 0 0) 1 ∷ eqb (5 + beAt 1 
 abbrev pub answerAs : Found → List ℕ → Entries
 answerAs (Found.Refused r) s = refused r
 answerAs (Found.Entries n) s = accepted (entriesIn n s 7)
+
+-- of n entries that were read, by their names
+pub record Labels (s : List ℕ) (n : ℕ) (r : Found) : Type 0 where
+  pub is : labelled (accepted (entriesIn n s 7)) ≡ answerAs r s
+  pub count : (k : ℕ) → r ≡ Found.Entries k → k ≡ n
 
 pub record Checks (s : List ℕ) (r : Found) : Type 0 where
   pub is : verdict s ≡ answerAs r s

@@ -3,6 +3,7 @@
 use shared_big_endian::byte_at;
 use shared_big_endian::long_at;
 use shared_big_endian::word_at;
+use shared_labels::fits_label;
 use shared_words::Refusal;
 use slip_names::same_bytes;
 use slip_rules::Found;
@@ -12,7 +13,7 @@ ghost use Prim.Native.Nat.{_+_, _≤_};
 ghost use lib.ListN.{length, drop};
 ghost use Rattle.shared_words.specs.Lists.{same};
 ghost use Rattle.slip_rules.specs.Rules.{namedBefore};
-ghost use Rattle.slip_check.specs.Entries.{entryIn, nextAt, namesIn, Reached, Walks, goodAt, headGood, Checks};
+ghost use Rattle.slip_check.specs.Entries.{entryIn, nextAt, namesIn, Reached, Walks, goodAt, headGood, Whole, Labels, Checks};
 
 // What the walk over the entries answers: the place of refusal 18, or that there is none.
 enum Walked {
@@ -96,6 +97,24 @@ fn walk_entries(s: &[u8], count: usize) -> Walked
     Walked::Good
 }
 
+// The names of the entries, which are whole: where the first stands that does not fit the label, or how many there are.
+fn judge_labels(s: &[u8], count: usize) -> Found
+    requires { ⌜ Whole count (now s) 7 ⌝ }
+    ensures { λ r. ⌜ Labels (now (s .entry)) count r ⌝ }
+{
+    let mut left = count;
+    let mut o = 7usize;
+    while 0 < left {
+        let len = byte_at(s, o);
+        if !fits_label(s, o + 1, o + 1 + len) {
+            return Found::Refused(Refusal::Text(o));
+        }
+        o += 7 + len;
+        left -= 1;
+    }
+    Found::Entries(count)
+}
+
 // ---- the slip
 
 // Whether the first seven bytes are as they should be.
@@ -124,6 +143,6 @@ pub fn check(s: &[u8]) -> Found
     let count = word_at(s, 5);
     match walk_entries(s, count) {
         Walked::Bad(place) => Found::Refused(Refusal::Slip(place)),
-        Walked::Good => Found::Entries(count),
+        Walked::Good => judge_labels(s, count),
     }
 }

@@ -25,8 +25,9 @@ use Rattle.slip_rules.specs.Slip.{Entry, behindName, entryBytes, allByte
 use Rattle.slip_rules.specs.Rules.{sumsProper, remember, limit, AllLawful, Meets}
 use Rattle.slip_rules.specs.Conditions.{entryConditions}
 use Rattle.slip_rules.specs.Walk.{behind, verdict}
-use Rattle.slip_rules.specs.Calls.{numbersOf, allNumbers, entryFrom, entriesFrom, Given, whole, givenBytes, within, rowConditions, writeConditions, writeOf, slipWriteCall}
+use Rattle.slip_rules.specs.Calls.{numbersOf, allNumbers, entryFrom, entriesFrom, Given, whole, givenBytes, within, rowConditions, oneOn, writeConditions, writeOf, slipWriteCall}
 use Rattle.slip_rules.specs.Theorems.{ReadsBack, WritesBack}
+use Rattle.slip_rules.proofs.Labels.{labels-met, met-labels}
 use Rattle.slip_rules.proofs.Verdict.{verdict-good, accepted-exactly}
 use Rattle.slip_rules.proofs.Given.{FileFits, given-back, given-fit, all-small}
 
@@ -54,7 +55,7 @@ pub written-meets : (names : List ℕ) (g : Given) (room : ℕ) → All FileFits
     Meets (bytes (entriesFrom names (g .rows))) (entriesFrom names (g .rows))
 written-meets names g room f h =
     let t = rows-met names [] 0 (g .rows) _ (omega arith) f h in
-    record { is = refl; few = omega (arith, t .few); lawful = t .lawful }
+    record { is = refl; few = omega (arith, t .few); lawful = t .lawful; labelled = labels-met oneOn _ 0 (entriesFrom names (g .rows)) (t .then .1) .0 }
 
 pub reads-back : ReadsBack
 unfolding slipWriteCall
@@ -146,7 +147,7 @@ module _ (es : List Entry) (m : Meets (bytes es) es) (out : List ℕ) (l : lengt
   conditions-back =
       let f = m .few in
       rows-back es [] 0 (seven es) _ (m .lawful) (omega arith)
-      (refl, rw entries-are (le-leb (length (bytes es)) (length out) l, tt))
+      (refl, rw entries-are (met-labels oneOn _ 0 es (m .labelled) (le-leb (length (bytes es)) (length out) l, tt)))
 
   good-back : slipWriteCall (bytes es) (whole (allNumbers 7 es)) out ≡ leaving (Written.Size (length (bytes es))) (filled (bytes es) out)
   unfolding slipWriteCall
@@ -160,6 +161,6 @@ writes-back s h es a out l =
     let e = m .is in
     let f = m .few in
     let n = given-back (allNumbers 7 es) (all-small es [] 7 (m .lawful) (omega arith)) in
-    let g = good-back es record { is = refl; few = m .few; lawful = m .lawful } out (omega (arith, ap length e)) in
+    let g = good-back es record { is = refl; few = m .few; lawful = m .lawful; labelled = m .labelled } out (omega (arith, ap length e)) in
     ap (λ (x : Given). slipWriteCall s x out) n ∙
     subst (λ (x : List ℕ). slipWriteCall x (whole (allNumbers 7 es)) out ≡ leaving (Written.Size (length x)) (filled x out)) e g

@@ -1,4 +1,5 @@
 pub mod Tests
+pub mod Labels
 pub mod Sound
 pub mod Complete
 pub mod Verdict

@@ -17,8 +17,10 @@ use Rattle.shared_words.proofs.Bools.{and-parts}
 use Rattle.shared_words.proofs.Conditions.{Met, met, unbroken}
 use Rattle.slip_rules.specs.Slip.{Entry, behindName, entryBytes, allBytes, rest, bytes}
 use Rattle.slip_rules.specs.Rules.{remember, limit, AllLawful, Meets}
-use Rattle.slip_rules.specs.Walk.{headConditions, Entries, walk, verdict}
+use Rattle.slip_rules.specs.Conditions.{labelConditions}
+use Rattle.slip_rules.specs.Walk.{headConditions, Entries, walk, behind, labelled, verdict}
 use Rattle.slip_rules.specs.Theorems.{AcceptedExactly, OneReading}
+use Rattle.slip_rules.proofs.Labels.{labels-met, met-labels}
 use Rattle.slip_rules.proofs.Sound.{Tells, Sound, walk-tells}
 use Rattle.slip_rules.proofs.Complete.{walk-complete}
 
@@ -47,22 +49,31 @@ module _ (s : List ℕ) (h : Bytes s) (t : Met (headConditions s)) where
       ap (λ (x : List ℕ). 1 ∷ x) (be-at-whole 1 4 s h (omega arith)) ∙
       ap (λ (b : ℕ). b ∷ drop 1 s) (sym v) ∙ sym (drop-cons s 0 0 (omega arith))
 
-  told-meets : (a : Entries) → Tells (beAt 5 2 s) [] (drop 7 s) a → MeetsIf s a
+  told-meets : (a : Entries) → Tells (beAt 5 2 s) [] (drop 7 s) a → MeetsIf s (labelled a)
   told-meets (refused r) k = tt
-  told-meets (accepted es) k = record { is = whole-is es k; few = omega (arith, k .count, leb-true (beAt 5 2 s) limit (t .1 .1 .1 .0)); lawful = k .lawful }
+  told-meets (accepted es) k = test (broken (labelConditions behind 7 es [])) refl
+    where
+      test : (r : Option Refusal) → broken (labelConditions behind 7 es []) ≡ r → MeetsIf s (unless r (accepted es))
+      test (some r) q = tt
+      test none q = record {
+        is = whole-is es k;
+        few = omega (arith, k .count, leb-true (beAt 5 2 s) limit (t .1 .1 .1 .0));
+        lawful = k .lawful;
+        labelled = labels-met behind [] 7 es (met _ q) .0;
+      }
 
 verdict-meets : (s : List ℕ) → Bytes s → MeetsIf s (verdict s)
 unfolding verdict
 verdict-meets s h = test (broken (headConditions s)) refl
   where
-    test : (r : Option Refusal) → broken (headConditions s) ≡ r → MeetsIf s (unless r (walk (beAt 5 2 s) [] 7 (drop 7 s)))
+    test : (r : Option Refusal) → broken (headConditions s) ≡ r → MeetsIf s (unless r (labelled (walk (beAt 5 2 s) [] 7 (drop 7 s))))
     test (some r) q = tt
     test none q = told-meets s h (met _ q) (walk (beAt 5 2 s) [] 7 (drop 7 s)) (walk-tells (beAt 5 2 s) [] 7 (drop 7 s) (bytes-drop 7 s h))
 
 -- ---- it meets the rules, so it is accepted
 
 -- an entry has at most 262 bytes, so that the lengths fit their fields
-pub all-short : (es : List Entry) (seen : List (List ℕ)) → AllLawful seen es → length (allBytes es) ≤ 262 * length es
+all-short : (es : List Entry) (seen : List (List ℕ)) → AllLawful seen es → length (allBytes es) ≤ 262 * length es
 all-short [] seen h = omega arith
 all-short (e ∷ es) seen h =
     let n = leb-true (length (e .name)) 255 (and-parts (leb 1 (length (e .name))) (leb (length (e .name)) 255) (h .0 .is-named) .1) in
@@ -80,12 +91,13 @@ good-bytes es m =
       le-leb 7 (length (bytes es)) (omega arith),
       (refl, (eq-eqb (5 + beAt 1 4 (bytes es)) (length (bytes es)) (omega arith), (le-leb (beAt 5 2 (bytes es)) limit (omega arith), tt))),
     ) in
-    rw (q, c, walk-complete es [] 7 (m .lawful))
+    let l : broken (labelConditions behind 7 es []) ≡ none = unbroken _ (met-labels behind [] 7 es (m .labelled) tt) in
+    rw (q, c, walk-complete es [] 7 (m .lawful), l)
 
 pub verdict-good : (s : List ℕ) (es : List Entry) → Meets s es → verdict s ≡ accepted es
 verdict-good s es m =
     subst (λ (x : List ℕ). verdict x ≡ accepted es) (m .is)
-    (good-bytes es record { is = refl; few = m .few; lawful = m .lawful })
+    (good-bytes es record { is = refl; few = m .few; lawful = m .lawful; labelled = m .labelled })
 
 -- ---- the theorems
 

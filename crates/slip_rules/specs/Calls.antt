@@ -16,7 +16,7 @@ use Rattle.slip_rules.specs.declared.Found.{Found}
 use Rattle.shared_words.specs.declared.Written.{Written}
 use Rattle.slip_rules.specs.Slip.{Entry, bytes}
 use Rattle.slip_rules.specs.Rules.{remember, limit}
-use Rattle.slip_rules.specs.Conditions.{entryConditions}
+use Rattle.slip_rules.specs.Conditions.{entryConditions, labelConditions}
 use Rattle.slip_rules.specs.Walk.{Entries, behind, verdict}
 
 -- ---- an entry as four numbers
@@ -92,12 +92,17 @@ rowConditions names seen i (n ∷ ns) later =
     must (within names n) (Slip i) ∷
     entryConditions seen i (entryFrom names n) (rowConditions names (remember seen (entryFrom names n)) (suc i) ns later)
 
+-- the number of the entry behind one
+abbrev pub oneOn : ℕ → Entry → ℕ
+oneOn i e = suc i
+
 -- "room stays last": in a buffer of `room` bytes
 abbrev pub writeConditions : List ℕ → Given → ℕ → List Condition
 writeConditions names g room =
     rowConditions names [] 0 (g .rows) (
     must (not (g .part)) (Slip (length (g .rows))) ∷
-    must (leb (length (bytes (entriesFrom names (g .rows)))) room) (NoRoom (length (bytes (entriesFrom names (g .rows))))) ∷ [])
+    labelConditions oneOn 0 (entriesFrom names (g .rows)) (
+    must (leb (length (bytes (entriesFrom names (g .rows)))) room) (NoRoom (length (bytes (entriesFrom names (g .rows))))) ∷ []))
 
 abbrev pub writeOf : List ℕ → List ℕ → Option Refusal → Effect Written (List ℕ)
 writeOf new out (some r) = leaving (Written.Refused r) out

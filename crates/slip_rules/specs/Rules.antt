@@ -5,7 +5,8 @@ use mathlib.Core.Bool.{Bool, true, false, not, _&&_, _||_}
 use mathlib.Core.List.{List, [], _∷_, _++_}
 use lib.Dec.{leb}
 use lib.ListN.{length}
-use Rattle.shared_words.specs.Lists.{same}
+use Rattle.shared_words.specs.Lists.{same, every}
+use Rattle.shared_words.specs.Labels.{fitsLabel}
 use Rattle.slip_rules.specs.Slip.{Entry, bytes}
 
 -- ---- the rules of one entry
@@ -26,6 +27,10 @@ namedBefore name (n ∷ ns) = same n name || namedBefore name ns
 -- "none twice": after entries with the names `seen`
 abbrev pub notTwice : List (List ℕ) → Entry → Bool
 notTwice seen e = not (namedBefore (e .name) seen)
+
+-- Q-8: its name fits the label
+abbrev pub isLabelled : Entry → Bool
+isLabelled e = fitsLabel (e .name)
 
 -- ---- what meets them
 
@@ -54,3 +59,4 @@ pub record Meets (s : List ℕ) (es : List Entry) : Type 0 where
   pub is : bytes es ≡ s
   pub few : length es ≤ limit
   pub lawful : AllLawful [] es
+  pub labelled : every isLabelled es ≡ true

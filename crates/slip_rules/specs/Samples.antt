@@ -70,6 +70,8 @@ pub record Samples : Type 0 where
   pub entry-cut : read (set two 15 3) ≡ no 18 15
   pub sum-255 : read (set two 14 255) ≡ no 18 7
   pub name-twice : read (1 ∷ 0 ∷ 0 ∷ 0 ∷ 18 ∷ 0 ∷ 2 ∷ 1 ∷ 0x61 ∷ 0 ∷ 0 ∷ 0 ∷ 0 ∷ 0 ∷ 0 ∷ 1 ∷ 0x61 ∷ 0 ∷ 0 ∷ 0 ∷ 0 ∷ 0 ∷ 0 ∷ []) ≡ no 18 15
+  pub text : read (set two 17 31) ≡ no 24 15
+  pub text-after-slip : read (set (set two 8 31) 22 255) ≡ no 18 15
   pub room-last : slipReadCall byteRow two (replicate 31 0) ≡ leaving (Found.Refused (NoRoom 2)) (replicate 31 0)
   -- writing
   pub two-written : slipWriteCall names (givenBytes (packed 4 given)) (replicate 30 7) ≡ leaving (Written.Size 24) (two ++ replicate 6 7)
@@ -79,4 +81,6 @@ pub record Samples : Type 0 where
   pub sums-large : write names (set given 3 65536) ≡ no 18 0
   pub part-of-one : write names (take 7 given) ≡ no 18 1
   pub twice-written : write (0x61 ∷ 0x61 ∷ []) (set given 5 1) ≡ no 18 1
+  pub text-written : write (0x61 ∷ 0x62 ∷ 127 ∷ []) given ≡ no 24 1
+  pub text-after-part : write (31 ∷ 0x62 ∷ 0x63 ∷ []) (take 7 given) ≡ no 18 1
   pub room-written : slipWriteCall names (givenBytes (packed 4 given)) (replicate 23 7) ≡ leaving (Written.Refused (NoRoom 24)) (replicate 23 7)

@@ -35,10 +35,10 @@ abbrev pub WritesBack : Type 0
 WritesBack = (s : List ℕ) → Bytes s → (es : List Entry) → verdict s ≡ accepted es → (out : List ℕ) → length s ≤ length out →
     slipWriteCall s (givenBytes (byteRow .encode (allNumbers 7 es))) out ≡ leaving (Written.Size (length s)) (filled s out)
 
--- THE ANSWERS ARE SMALL: at most 1,000 entries, and a slip of at most 262,007 bytes.
+-- THE ANSWERS ARE SMALL: at most 1,000 entries, and a slip of at most 70,007 bytes.
 abbrev pub FewEntries : Type 0
 FewEntries = (c : Encoding Numbers ℕ) (s row : List ℕ) (n : ℕ) → Bytes s → slipReadCall c s row .answer ≡ Found.Entries n → n ≤ limit
 
 abbrev pub SmallSize : Type 0
 SmallSize = (names entries out : List ℕ) (size : ℕ) → Bytes entries → slipWriteCall names (givenBytes entries) out .answer ≡ Written.Size size →
-    size ≤ 7 + 262 * limit
+    size ≤ 7 + 70 * limit

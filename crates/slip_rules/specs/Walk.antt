@@ -9,7 +9,7 @@ use Rattle.shared_words.specs.Bytes.{beAt}
 use Rattle.shared_words.specs.Conditions.{Condition, must, broken, Answer, refused, accepted, unless}
 use Rattle.slip_rules.specs.Slip.{Entry, entrySize}
 use Rattle.slip_rules.specs.Rules.{remember, limit}
-use Rattle.slip_rules.specs.Conditions.{entryConditions}
+use Rattle.slip_rules.specs.Conditions.{entryConditions, labelConditions}
 
 -- ---- the first seven bytes
 
@@ -62,6 +62,11 @@ walk (suc n) seen o s = step (walk n) seen o s (entryAt s)
 
 -- ---- all of it
 
+-- the entries that were read, by their names
+abbrev pub labelled : Entries → Entries
+labelled (refused r) = refused r
+labelled (accepted es) = unless (broken (labelConditions behind 7 es [])) (accepted es)
+
 -- THE ANSWER TO A SLIP: a refusal, or its entries
 unfoldable pub verdict : List ℕ → Entries
-verdict s = unless (broken (headConditions s)) (walk (beAt 5 2 s) [] 7 (drop 7 s))
+verdict s = unless (broken (headConditions s)) (labelled (walk (beAt 5 2 s) [] 7 (drop 7 s)))

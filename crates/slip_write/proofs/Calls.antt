@@ -20,10 +20,11 @@ use Rattle.slip_rules.specs.declared.Numbers.{Numbers}
 use Rattle.shared_words.specs.declared.Written.{Written}
 use Rattle.slip_rules.specs.Slip.{behindName, entryBytes, allBytes, rest, bytes}
 use Rattle.slip_rules.specs.Rules.{remember, limit}
-use Rattle.slip_rules.specs.Calls.{entryFrom, entriesFrom, givenBytes, rowConditions, writeConditions, slipWriteCall}
+use Rattle.slip_rules.specs.Calls.{entryFrom, entriesFrom, givenBytes, rowConditions, oneOn, writeConditions, slipWriteCall}
+use Rattle.slip_rules.proofs.Labels.{labels-met}
 use Rattle.slip_write_judge.specs.Judged.{sizeUnless, judged}
 use Rattle.slip_write_judge.proofs.Rows.{name-long}
-use Rattle.slip_write_judge.proofs.Answers.{length-rows}
+use Rattle.slip_write_judge.proofs.Answers.{length-rows, length-entries}
 use Rattle.slip_write.specs.Ready.{Fitting, Ready}
 
 -- ---- what the conditions tell of the rows
@@ -87,16 +88,12 @@ module _ (names s out : List ℕ) where
               fitting = t .fitting;
               few = omega (arith, t .few, length-rows (length s / 16) s);
               is = refl;
-              fits = leb-true size (length out) (t .then .1 .0);
+              fits = leb-true size (length out) (labels-met oneOn _ 0 (entriesFrom names (givenBytes s .rows)) (t .then .1) .1 .0);
             },
             rw q,
           )
 
 -- ---- the bytes
-
-length-entries : (names : List ℕ) (ns : List Numbers) → length (entriesFrom names ns) ≡ length ns
-length-entries names [] = refl
-length-entries names (n ∷ ns) = ap suc (length-entries names ns)
 
 -- the four pieces of a slip
 pub slip-puts : {o o₁ o₂ o₃ o₄ : List ℕ} {k₁ k₂ k₃ k₄ : ℕ} {names s : List ℕ} {size room : ℕ} → Ready names s size room → Put o 0 (1 ∷ []) o₁ k₁ →

@@ -1,6 +1,6 @@
 -- The rows' conditions as the loop meets them: after i good rows, what is left of the conditions answers for all, and what is
 -- left of the bytes is what the size still lacks.
-use mathlib.Core.Path.{_≡_, refl, ap, _∙_}
+use mathlib.Core.Path.{_≡_, refl, sym, ap, _∙_}
 use Prim.Native.Nat.{ℕ, zero, suc, _+_, _-_, _*_, _/_, _<_, _≤_}
 use native.Mathlib.Numerals.{add-one}
 use native.Mathlib.Omega.{arith}
@@ -19,6 +19,7 @@ use Rattle.slip_rules.specs.Rules.{isNamed, sumsProper, notTwice, remember, lim
 use Rattle.slip_rules.specs.Calls.{entriesFrom, rowsIn, givenBytes, within, rowConditions}
 use Rattle.slip_rules.proofs.Tests.{all-hold, one-fails}
 use Rattle.slip_write_judge.specs.Rows.{rowNo, entryNo, rowsFrom, namesFrom, Inside, AllInside, goodRow}
+use Rattle.slip_write_judge.specs.Judged.{AllGood}
 use Rattle.slip_write_judge.proofs.Rows.{name-long}
 
 -- ---- rows by their numbers are the rows given
@@ -112,8 +113,12 @@ module _ (names s : List ℕ) (n size i : ℕ) (on : On names s n size i) where
         sized = rw (← q) (omega (arith, on .sized));
       }
 
-  pub on-end : i ≡ n →
-      ((later : List Condition) → broken (rowConditions names [] 0 (rowsFrom n s 0) later) ≡ broken later) × (length (bytes (entriesFrom names (rowsFrom n s 0))) ≡ size)
-  on-end e =
+  pub on-end : i ≡ n → n ≡ length s / 16 → AllGood names s size
+  on-end e m =
       let q : n - i ≡ 0 = omega arith in
-      (λ later. on .goes later ∙ rw q, on .sized ∙ rw q (omega arith))
+      let r : givenBytes s .rows ≡ rowsFrom n s 0 = given-rows s ∙ ap (λ (k : ℕ). rowsFrom k s 0) (sym m) in
+      record {
+        passes = λ later. rw r (on .goes later ∙ rw q);
+        sized = rw r (on .sized ∙ rw q (omega arith));
+        inside = rw (← m, ← e) (on .inside);
+      }

@@ -1,4 +1,5 @@
 pub mod Rows
+pub mod Labels
 pub mod Good
 pub mod Judging
 pub mod Answers

@@ -1,5 +1,6 @@
 // The judgement of the slip that is to be written: the first entry that is bad, or that there is too little room, or how
 // long the slip is. Nothing is written before all is judged.
+use shared_labels::fits_label;
 use shared_numbers::long_at;
 use shared_words::Refusal;
 use shared_words::Written;
@@ -9,10 +10,10 @@ ghost use mathlib.Core.Path.{_≡_};
 ghost use mathlib.Core.Bool.{true};
 ghost use Prim.Native.Nat.{_+_, _*_, _≤_};
 ghost use lib.ListN.{length};
-ghost use Rattle.shared_words.specs.Lists.{same};
-ghost use Rattle.slip_rules.specs.Rules.{namedBefore};
-ghost use Rattle.slip_rules.specs.Calls.{entryFrom, givenBytes};
-ghost use Rattle.slip_write_judge.specs.Rows.{rowNo, namesFrom, AllInside, GoodRow};
+ghost use Rattle.shared_words.specs.Lists.{same, firstFault};
+ghost use Rattle.slip_rules.specs.Rules.{namedBefore, isLabelled};
+ghost use Rattle.slip_rules.specs.Calls.{entryFrom, entriesFrom, givenBytes};
+ghost use Rattle.slip_write_judge.specs.Rows.{rowNo, rowsFrom, namesFrom, AllInside, GoodRow};
 ghost use Rattle.slip_write_judge.specs.Judged.{judged, JudgesRows};
 
 // What the judgement of the rows alone answers: the number of the first bad one, or the size of the slip.
@@ -90,7 +91,7 @@ fn is_good(names: &[u8], entries: &[u8], i: usize) -> bool
 
 // The judgement of the rows.
 fn judge_rows(names: &[u8], entries: &[u8]) -> Judged
-    ensures { λ r. ⌜ JudgesRows (now (names .entry)) (givenBytes (now (entries .entry)) .rows) r ⌝ }
+    ensures { λ r. ⌜ JudgesRows (now (names .entry)) (now (entries .entry)) r ⌝ }
 {
     let n = entries.len() / 16;
     let mut size = 7usize;
@@ -105,6 +106,23 @@ fn judge_rows(names: &[u8], entries: &[u8]) -> Judged
     Judged::Good(size)
 }
 
+// The number of the first of n rows whose name does not fit the label; where all do, n.
+fn first_unfit(names: &[u8], entries: &[u8], n: usize) -> usize
+    requires { ⌜ (16 * n ≤ length (now entries)) × AllInside (now names) (now entries) n ⌝ }
+    ensures { λ r. ⌜ r ≡ firstFault isLabelled (entriesFrom (now (names .entry)) (rowsFrom n (now (entries .entry)) 0)) ⌝ }
+{
+    let mut i = 0usize;
+    while i < n {
+        let it = row(entries, i);
+        let at = it.name as usize;
+        if !fits_label(names, at, at + it.len as usize) {
+            return i;
+        }
+        i += 1;
+    }
+    i
+}
+
 // The judgement of all, for a buffer of `room` bytes.
 pub fn judge(names: &[u8], entries: &[u8], room: usize) -> Written
     ensures { λ r. ⌜ r ≡ judged (now (names .entry)) (givenBytes (now (entries .entry))) room ⌝ }
@@ -114,6 +132,11 @@ pub fn judge(names: &[u8], entries: &[u8], room: usize) -> Written
         Judged::Good(size) => {
             if entries.len() % 16 != 0 {
                 return Written::Refused(Refusal::Slip(entries.len() / 16));
+            }
+            let n = entries.len() / 16;
+            let unfit = first_unfit(names, entries, n);
+            if unfit < n {
+                return Written::Refused(Refusal::Text(unfit));
             }
             if room < size {
                 return Written::Refused(Refusal::NoRoom(size));

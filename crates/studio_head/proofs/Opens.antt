@@ -172,7 +172,7 @@ module _ (p : Parent) (at id : ℕ) (body : List ℕ) where
   judged-within k j =
       let q = judged-size k j in
       let m = met _ (q .1) in
-      omega (arith, q .0, leb-true (ownSize (shape id) (p .own) body) (length body) (m .1 .0))
+      omega (arith, q .0, leb-true (ownSize (shape id) (p .own) body) (length body) (m .1 .1 .0))
 
 -- own data that was judged fine ends within its chunk
 pub judged-ends : (s : List ℕ) (at id past n : ℕ) → at + 6 ≤ past → past ≤ length s → n < 65536 → (r : Judged) →

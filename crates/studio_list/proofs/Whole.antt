@@ -30,7 +30,7 @@ use Rattle.studio_list_rows.specs.Lent.{Lent, Room, written}
 use Rattle.studio_list_walk.specs.Laid.{Laid, Bounds, Listed}
 use Rattle.studio_list.specs.Rows.{rowsOf, listRows}
 use Rattle.studio_list_rows.proofs.Rows.{Even, room-less}
-use Rattle.studio_list_rows.proofs.Counts.{length-records}
+use Rattle.studio_rules.proofs.Jumps.{length-records}
 
 -- ---- a refused file
 

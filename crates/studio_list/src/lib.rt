@@ -1,4 +1,4 @@
-// The list of an accepted file's known chunks: six numbers for each, into a lent row of numbers or of bytes.
+// The list of an accepted file's known chunks: seven numbers for each, into a lent row of numbers or of bytes.
 use shared_words::Refusal;
 use studio_list_rows::RECORD_BYTES;
 use studio_list_rows::RECORD_NUMBERS;
@@ -40,7 +40,7 @@ pub fn list(file: &[u8], row: &mut [u32]) -> Checked
     list_rows(file, row, &mut unused, room)
 }
 
-// The same list as bytes: six numbers a record, four bytes a number.
+// The same list as bytes: seven numbers a record, four bytes a number.
 pub fn list_bytes(file: &[u8], row: &mut [u8]) -> Checked
     ensures answer { λ r. ⌜ r ≡ listCall recordBytes (now (file .entry)) (now (row .entry)) .answer ⌝ }
     ensures filled { λ r. ⌜ now (row .exit) ≡ listCall recordBytes (now (file .entry)) (now (row .entry)) .rows ⌝ }

@@ -12,7 +12,7 @@ ghost use Rattle.studio_rules.specs.Gives.{recordNumbers, flat};
 ghost use Rattle.studio_list_rows.specs.Lent.{lent, Room, written};
 
 // How many numbers a record has.
-pub const RECORD_NUMBERS: usize = 6;
+pub const RECORD_NUMBERS: usize = 7;
 
 // The bytes of them, four to a number.
 pub const RECORD_BYTES: usize = 4 * RECORD_NUMBERS;
@@ -28,6 +28,7 @@ fn put_numbers(records: &mut [u32], i: usize, r: Record)
     records[i + 3] = r.depth;
     records[i + 4] = r.parent;
     records[i + 5] = r.own;
+    records[i + 6] = r.next;
 }
 
 // The same as bytes, four to a number.
@@ -40,7 +41,8 @@ fn put_bytes(bytes: &mut [u8], i: usize, r: Record)
     let depth = put_long(r.len, len, bytes);
     let parent = put_long(r.depth, depth, bytes);
     let own = put_long(r.parent, parent, bytes);
-    put_long(r.own, own, bytes);
+    let next = put_long(r.own, own, bytes);
+    put_long(r.next, next, bytes);
 }
 
 // The record of number next, into the rows that are in use: those that are not empty.

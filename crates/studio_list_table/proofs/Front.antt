@@ -18,7 +18,7 @@ use Rattle.studio_rules.specs.Encodings.{flatRecords}
 use Rattle.shared_words.specs.Effects.{leaving, filled}
 use Rattle.studio_rules.specs.Calls.{listOf, listCall}
 use Rattle.studio_list_rows.proofs.Rows.{flat-even}
-use Rattle.studio_list_rows.proofs.Counts.{length-records}
+use Rattle.studio_rules.proofs.Jumps.{length-records}
 
 -- numbers that fit into the front of a row
 filled-front : (new row : List ℕ) (end : ℕ) → length new ≤ end → end ≤ length row → filled new (take end row) ++ drop end row ≡ filled new row

@@ -21,7 +21,7 @@ use Rattle.shared_words.specs.Encodings.{beside, plainRow}
 use Rattle.studio_rules.specs.Encodings.{flatRecords}
 use Rattle.shared_words.specs.Effects.{Effect, leaving, filled}
 use Rattle.studio_rules.specs.Calls.{countsOf, listOf, listCall}
-use Rattle.studio_list_rows.proofs.Counts.{length-records}
+use Rattle.studio_rules.proofs.Jumps.{length-records}
 use Rattle.shared_words.proofs.Effects.{fill-at}
 use Rattle.studio_list_table.specs.Numbers.{recordNo, taken}
 

@@ -16,6 +16,7 @@ recordNo row k = record {
   depth = getD row (recordNumbers * k + 3) 0;
   parent = getD row (recordNumbers * k + 4) 0;
   own = getD row (recordNumbers * k + 5) 0;
+  next = getD row (recordNumbers * k + 6) 0;
 }
 
 -- how many records an answer says are in the row

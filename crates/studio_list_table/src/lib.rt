@@ -48,6 +48,7 @@ fn record_at(row: &[u32], i: usize) -> Record
         depth: row[at + 3],
         parent: row[at + 4],
         own: row[at + 5],
+        next: row[at + 6],
     }
 }
 

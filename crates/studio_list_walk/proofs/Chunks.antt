@@ -13,7 +13,7 @@ use Rattle.studio_rules.specs.Table.{listed, plus, shape}
 use Rattle.studio_rules.specs.OwnData.{ownSize}
 use Rattle.studio_rules.specs.Layout.{Run, end, skip, known, size, bytes}
 use Rattle.studio_rules.specs.Rules.{noChild}
-use Rattle.studio_rules.specs.Parses.{Place, within, Parses, Fits}
+use Rattle.studio_rules.specs.Parses.{Place, within, Fits}
 use Rattle.studio_rules.specs.Gives.{recordCount, recordsOf}
 use Rattle.shared_words.proofs.Bools.{and-parts, or-second}
 use Rattle.shared_numbers.specs.Numbers.{wordAt}
@@ -23,7 +23,7 @@ use Rattle.studio_row.specs.Packed.{rowOf}
 use Rattle.studio_row.proofs.Facts.{row-of-listed, row-of-unlisted, plus-is, shape-is}
 use Rattle.studio_list_rows.specs.Lent.{Lent, written}
 use Rattle.studio_list_walk.specs.Laid.{first, Laid, Bounds, Listed, Begins}
-use Rattle.studio_list_rows.proofs.Rows.{written-on}
+use Rattle.studio_list_rows.proofs.Rows.{written-before}
 use Rattle.studio_list_walk.proofs.Runs.{laid-size, listed-end}
 
 no-children : (t : Run) → noChild t ≡ true → bytes t ≡ []
@@ -49,7 +49,8 @@ pub record Entered (s : List ℕ) (at stop id own : ℕ) (t : Run) : Type 0 wher
   pub fills : stop ≡ at + 6 + own + size kids
   pub counts : recordCount t ≡ suc (recordCount kids)
   pub lists : (depth parent next : ℕ) → recordsOf at depth parent next t ≡
-      record { identifier = id; offset = at; len = stop - at; depth = depth; parent = parent; own = own } ∷ recordsOf (at + 6 + own) (depth + 1) next (next + 1) kids
+      record { identifier = id; offset = at; len = stop - at; depth = depth; parent = parent; own = own; next = next + 1 + recordCount kids } ∷
+      recordsOf (at + 6 + own) (depth + 1) next (next + 1) kids
 
 module _ {s : List ℕ} {at stop depth parent next : ℕ} (order : at + 6 ≤ stop) (bounds : Bounds s at stop depth parent next) {id row : ℕ} (id-is : id ≡ wordAt s at) (row-is : row ≡ rowOf id) where
   -- a chunk without a row
@@ -93,21 +94,25 @@ module _ {s : List ℕ} {at stop depth parent next : ℕ} (order : at + 6 ≤ st
         }
 
 module _ {s : List ℕ} {at stop id own : ℕ} {t : Run} (e : Entered s at stop id own t) where
-  abbrev its-record : ℕ → ℕ → Record
-  its-record depth parent = record { identifier = id; offset = at; len = stop - at; depth = depth; parent = parent; own = own }
+  -- behind the last record inside it stands number r
+  abbrev its-record : ℕ → ℕ → ℕ → Record
+  its-record depth parent r = record { identifier = id; offset = at; len = stop - at; depth = depth; parent = parent; own = own; next = r }
 
-  module _ (l : Lent) (depth parent next : ℕ) {l₁ : Lent} (w : l₁ ≡ written l next (its-record depth parent ∷ [])) where
-    -- its record, and then theirs
-    pub entered-listed : {l₂ : Lent} {r : ℕ} → Listed l₁ (at + 6 + own) (depth + 1) next (next + 1) (e .kids) l₂ r → Listed l at depth parent next t l₂ r
-    entered-listed h =
+  module _ (l : Lent) (depth parent next : ℕ) {l₁ : Lent} {r : ℕ} where
+    -- without children there is nothing to list before it
+    pub childless : at + 6 + own ≡ stop → l₁ ≡ l → r ≡ next + 1 → Listed l (at + 6 + own) (depth + 1) next (next + 1) (e .kids) l₁ r
+    childless f u v = rw (u, v) (listed-end l (at + 6 + own) (depth + 1) next (next + 1) (e .kids) (omega (arith, e .fills)))
+
+    -- the records of its children, and then its own
+    pub entered-listed : Listed l (at + 6 + own) (depth + 1) next (next + 1) (e .kids) l₁ r →
+        {l₂ : Lent} → l₂ ≡ written l₁ next (its-record depth parent r ∷ []) → Listed l at depth parent next t l₂ r
+    entered-listed h w =
         let a = its-record depth parent in
         let b = recordsOf (at + 6 + own) (depth + 1) next (next + 1) (e .kids) in
+        let n = next + 1 + recordCount (e .kids) in
         record {
           counts = omega (arith, h .counts, e .counts);
           fills =
-              h .fills ∙ ap (λ (x : Lent). written x (next + 1) b) w ∙ written-on l next (a ∷ []) b 1 refl ∙
-              ap (written l next) (sym (e .lists depth parent next));
+              w ∙ ap (λ (x : Lent). written x next (a r ∷ [])) (h .fills) ∙ written-before l next (a r ∷ []) b 1 refl ∙
+              ap (λ (k : ℕ). written l next (a k ∷ b)) (h .counts) ∙ ap (written l next) (sym (e .lists depth parent next));
         }
-
-    pub childless-listed : at + 6 + own ≡ stop → Listed l at depth parent next t l₁ (next + 1)
-    childless-listed f = entered-listed (listed-end l₁ (at + 6 + own) (depth + 1) next (next + 1) (e .kids) (omega (arith, e .fills)))

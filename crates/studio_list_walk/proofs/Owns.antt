@@ -11,7 +11,7 @@ use Rattle.studio_rules.specs.OwnData.{ownSize}
 use Rattle.studio_rules.proofs.OwnSize.{own-size-more, has-name}
 use Rattle.studio_row.specs.Packed.{plusIn, shapeIn}
 use Rattle.studio_own_size.specs.declared.Own.{Own}
-use Rattle.studio_own_size.specs.declared.Own.the-variants.{NoName, TooLong, Size}
+use Rattle.studio_own_size.specs.declared.Own.the-variants.{NoName, Unfit, TooLong, Size}
 use Rattle.studio_own_size.specs.Own.{OwnIs}
 use Rattle.studio_list_walk.specs.Laid.{Begins, sizeOf}
 
@@ -23,11 +23,13 @@ own-answer sh around own more body h e r q =
   where
     go : ownSize sh around body ≡ length own → length own ≤ length body → (r : Own) → OwnIs sh around body r → sizeOf r ≡ length own
     go z l NoName q = absurd (true≢false (sym (has-name sh around body (omega arith)) ∙ q))
+    go z l Unfit q = absurd q
     go z l TooLong q = absurd (omega (arith, q .beyond))
     go z l (Size k) q = q .is ∙ z
 
 within-answer : (sh : Shape) (around body : List ℕ) (r : Own) → OwnIs sh around body r → sizeOf r ≤ length body
 within-answer sh around body NoName q = omega arith
+within-answer sh around body Unfit q = absurd q
 within-answer sh around body TooLong q = omega arith
 within-answer sh around body (Size k) q = q .within
 

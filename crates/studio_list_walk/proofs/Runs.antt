@@ -16,7 +16,7 @@ use Rattle.studio_stands.proofs.Chunks.{stands-size, skip-header, known-header}
 use Rattle.studio_list_rows.specs.Lent.{Lent, written}
 use Rattle.studio_list_walk.specs.Laid.{first, Laid, Listed}
 use Rattle.studio_list_rows.proofs.Rows.{written-on}
-use Rattle.studio_list_rows.proofs.Counts.{length-records}
+use Rattle.studio_rules.proofs.Jumps.{length-records}
 
 abbrev pub rest : Run → Run
 rest end = end

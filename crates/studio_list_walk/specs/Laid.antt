@@ -13,7 +13,7 @@ use Rattle.studio_rules.specs.Gives.{recordCount, recordsOf}
 use Rattle.studio_stands.specs.Stands.{Stands}
 use Rattle.studio_row.specs.Packed.{shapeIn, plusIn}
 use Rattle.studio_own_size.specs.declared.Own.{Own}
-use Rattle.studio_own_size.specs.declared.Own.the-variants.{NoName, TooLong, Size}
+use Rattle.studio_own_size.specs.declared.Own.the-variants.{NoName, Unfit, TooLong, Size}
 use Rattle.studio_list_rows.specs.Lent.{Lent, written, Room}
 
 -- the first chunk of a run, alone
@@ -66,5 +66,6 @@ pub record Begins (row : ℕ) (around own more : List ℕ) : Type 0 where
 -- the bytes of own data, where it has its name and fits
 abbrev pub sizeOf : Own → ℕ
 sizeOf NoName = 0
+sizeOf Unfit = 0
 sizeOf TooLong = 0
 sizeOf (Size k) = k

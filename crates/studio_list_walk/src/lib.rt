@@ -21,6 +21,7 @@ fn size_of(own: Own) -> usize
 {
     match own {
         Own::NoName => 0,
+        Own::Unfit => 0,
         Own::TooLong => 0,
         Own::Size(size) => size,
     }
@@ -46,7 +47,7 @@ fn own_length(file: &[u8], row: u64, at: usize, stop: usize) -> usize
 }
 
 // The chunk from at to stop, whose record, if it is known, has the number next. Answers the number of the record after
-// its last.
+// its last, which its record holds too: so it is stored when its children have been counted.
 fn list_chunk(
     file: &[u8],
     table: &[u64; 128],
@@ -67,6 +68,21 @@ fn list_chunk(
         return next;
     }
     let own = own_length(file, row, at + 6, stop);
+    let from = at + 6 + own;
+    let mut after = next + 1;
+    if from != stop {
+        after = list_run(
+            file,
+            table,
+            records,
+            bytes,
+            from,
+            stop,
+            depth + 1,
+            next,
+            next + 1,
+        );
+    }
     let record = Record {
         identifier: id,
         offset: at as u32,
@@ -74,24 +90,10 @@ fn list_chunk(
         depth: depth as u32,
         parent: parent as u32,
         own: own as u32,
+        next: after as u32,
     };
     studio_list_rows::put_record(records, bytes, next, record);
-    let from = at + 6 + own;
-    let after = next + 1;
-    if from == stop {
-        return after;
-    }
-    list_run(
-        file,
-        table,
-        records,
-        bytes,
-        from,
-        stop,
-        depth + 1,
-        next,
-        after,
-    )
+    after
 }
 
 // The run of chunks from at to end.

@@ -10,10 +10,10 @@ use lib.ListN.{length, take, drop}
 use lib.Seq.{slice, length-slice}
 use borrow.Author.Tests.{le-leb, lt-leb, leb-true, leb-false}
 use Rattle.shared_words.specs.declared.Refusal.{Refusal}
-use Rattle.shared_words.specs.declared.Refusal.the-variants.{Name, Length, Number, Index}
+use Rattle.shared_words.specs.declared.Refusal.the-variants.{Name, Length, Number, Index, Text}
 use Rattle.shared_words.specs.Bytes.{le}
 use Rattle.studio_rules.specs.Table.{Shape, listed, shape, plus}
-use Rattle.studio_rules.specs.OwnData.{ownSize, hasName}
+use Rattle.studio_rules.specs.OwnData.{ownSize, hasName, nameFits}
 use Rattle.studio_rules.specs.Rules.{Parent, numbersFinite, faceNumbersBelow}
 use Rattle.shared_words.specs.Conditions.{broken}
 use Rattle.studio_rules.specs.Walk.{ownConditions}
@@ -41,19 +41,23 @@ module _ (p : Parent) (o id : ℕ) (body : List ℕ) where
   pub judge-no-name : hasName (shape id) body ≡ false → Judges p o id body (Judged.Fault (Name o))
   judge-no-name h = judges (some (Name o)) _ (broken-here _ _ _ h) refl
 
-  pub judge-too-long : Exceeds (shape id) (p .own) body → Judges p o id body (Judged.Fault (Length o))
-  judge-too-long h = judges (some (Length o)) _ (broken-later _ _ _ (h .named) ∙ broken-here _ _ _ (lt-leb (ownSize (shape id) (p .own) body) (length body) (h .beyond))) refl
+  pub judge-unfit : hasName (shape id) body ≡ true → nameFits (shape id) body ≡ false → Judges p o id body (Judged.Fault (Text o))
+  judge-unfit h f = judges (some (Text o)) _ (broken-later _ _ _ h ∙ broken-here _ _ _ f) refl
 
-  module _ (k : ℕ) (fits : Fits (shape id) (p .own) body k) where
+  pub judge-too-long : nameFits (shape id) body ≡ true → Exceeds (shape id) (p .own) body → Judges p o id body (Judged.Fault (Length o))
+  judge-too-long f h =
+      judges (some (Length o)) _ (broken-later _ _ _ (h .named) ∙ broken-later _ _ _ f ∙ broken-here _ _ _ (lt-leb (ownSize (shape id) (p .own) body) (length body) (h .beyond))) refl
+
+  module _ (k : ℕ) (label : nameFits (shape id) body ≡ true) (fits : Fits (shape id) (p .own) body k) where
     within : leb (ownSize (shape id) (p .own) body) (length body) ≡ true
     within = rw (← (fits .is)) (le-leb k (length body) (fits .within))
 
     pub judge-left-over : (plus id || leb (length body) k) ≡ false → Judges p o id body (Judged.Fault (Length o))
-    judge-left-over h = judges (some (Length o)) _ (broken-later _ _ _ (fits .named) ∙ broken-later _ _ _ within ∙ broken-here _ _ _ (rw (← (fits .is)) h)) refl
+    judge-left-over h = judges (some (Length o)) _ (broken-later _ _ _ (fits .named) ∙ broken-later _ _ _ label ∙ broken-later _ _ _ within ∙ broken-here _ _ _ (rw (← (fits .is)) h)) refl
 
     module _ (all : (plus id || leb (length body) k) ≡ true) where
-      past : broken (ownConditions p o id body (ownSize (shape id) (p .own) body)) ≡ broken (drop 3 (ownConditions p o id body (ownSize (shape id) (p .own) body)))
-      past = broken-later _ _ _ (fits .named) ∙ broken-later _ _ _ within ∙ broken-later _ _ _ (rw (← (fits .is)) all)
+      past : broken (ownConditions p o id body (ownSize (shape id) (p .own) body)) ≡ broken (drop 4 (ownConditions p o id body (ownSize (shape id) (p .own) body)))
+      past = broken-later _ _ _ (fits .named) ∙ broken-later _ _ _ label ∙ broken-later _ _ _ within ∙ broken-later _ _ _ (rw (← (fits .is)) all)
 
       pub judge-number : numbersFinite p id (take k body) ≡ false → Judges p o id body (Judged.Fault (Number o))
       judge-number h = judges (some (Number o)) _ (past ∙ broken-here _ _ _ (rw (← (fits .is)) h)) refl
@@ -70,9 +74,12 @@ module _ (p : Parent) (o id : ℕ) (body : List ℕ) (q : Plain id) where
   plain-fits : sizeIn (rowOf id) ≤ length body → Fits (shape id) (p .own) body (sizeIn (rowOf id))
   plain-fits h = subst (λ (sh : Shape). Fits sh (p .own) body (sizeIn (rowOf id))) (sym (q .shape-fixed)) record { named = refl; is = refl; within = h }
 
+  plain-label : nameFits (shape id) body ≡ true
+  plain-label = rw (q .shape-fixed)
+
   plain-fine : length body ≡ sizeIn (rowOf id) → Judges p o id body (Judged.Size (sizeIn (rowOf id)))
   plain-fine e =
-      judge-fine p o id body (sizeIn (rowOf id)) (plain-fits (omega (arith, e))) (rw (q .no-plus) (le-leb (length body) (sizeIn (rowOf id)) (omega (arith, e))))
+      judge-fine p o id body (sizeIn (rowOf id)) plain-label (plain-fits (omega (arith, e))) (rw (q .no-plus) (le-leb (length body) (sizeIn (rowOf id)) (omega (arith, e))))
       (rw (q .not-4110, q .not-4140)) (rw (q .not-4130))
 
   plain-fault : (length body ≡ sizeIn (rowOf id) → ⊥) → Judges p o id body (Judged.Fault (Length o))
@@ -81,10 +88,10 @@ module _ (p : Parent) (o id : ℕ) (body : List ℕ) (q : Plain id) where
       go : (b : Bool) → leb (length body) (sizeIn (rowOf id)) ≡ b → Judges p o id body (Judged.Fault (Length o))
       go true h =
           let m = leb-true (length body) (sizeIn (rowOf id)) h in
-          judge-too-long p o id body (subst (λ (sh : Shape). Exceeds sh (p .own) body) (sym (q .shape-fixed)) record { named = refl; beyond = omega (arith, m, ne) })
+          judge-too-long p o id body plain-label (subst (λ (sh : Shape). Exceeds sh (p .own) body) (sym (q .shape-fixed)) record { named = refl; beyond = omega (arith, m, ne) })
       go false h =
           let m = leb-false (length body) (sizeIn (rowOf id)) h in
-          judge-left-over p o id body (sizeIn (rowOf id)) (plain-fits (omega (arith, m))) (rw (q .no-plus) h)
+          judge-left-over p o id body (sizeIn (rowOf id)) plain-label (plain-fits (omega (arith, m))) (rw (q .no-plus) h)
 
 -- a chunk of a plain row, from `at` to `past`
 module _ (s : List ℕ) (at past id row k : ℕ) (order : at + 6 ≤ past) (stays : past ≤ length s) (l : listed id ≡ true) (e : row ≡ rowOf id) (plain : plainIn row ≡ true) (is : k ≡ sizeIn row) (p : Parent) where

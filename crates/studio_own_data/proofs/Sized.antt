@@ -10,22 +10,22 @@ use lib.Seq.{slice, length-slice}
 use borrow.Author.Tests.{not-true, not-false, le-leb, lt-leb, leb-true, leb-false}
 use Rattle.shared_words.specs.declared.Refusal.the-variants.{Length, Number, Index}
 use Rattle.studio_rules.specs.Table.{Shape, counted, named-words, rows, listed, shape, plus}
-use Rattle.studio_rules.specs.OwnData.{ownSize}
+use Rattle.studio_rules.specs.OwnData.{ownSize, nameFits}
 use Rattle.studio_rules.specs.Rules.{Parent, numbersFinite, faceNumbersBelow}
 use Rattle.studio_rules.proofs.OwnSize.{own-size-less}
 use Rattle.shared_numbers.proofs.Slices.{take-slice}
 use Rattle.studio_row.specs.Packed.{rowOf, plusIn, shapeIn}
 use Rattle.studio_row.proofs.Facts.{plus-is, shape-is}
 use Rattle.studio_own_size.specs.declared.Own.{Own}
-use Rattle.studio_own_size.specs.Own.{Fits, OwnIs}
+use Rattle.studio_own_size.specs.Own.{Fits, FitIs}
 use Rattle.studio_own_data.specs.declared.Judged.{Judged}
 use Rattle.studio_own_data.specs.Judges.{Exact, Judges}
 use Rattle.studio_own_data.proofs.Conditions.{judge-left-over, judge-number, judge-index, judge-fine}
 
 -- what was found of the row's shape is so of the identifier's
-module _ (id row : ℕ) (l : listed id ≡ true) (e : row ≡ rowOf id) (around body : List ℕ) (r : Own) (found : OwnIs (shapeIn row) around body r) where
-  pub own-of-row : (x : Own) → r ≡ x → OwnIs (shape id) around body x
-  own-of-row x f = subst (OwnIs (shape id) around body) f (subst (λ (sh : Shape). OwnIs sh around body r) (ap shapeIn e ∙ shape-is id l) found)
+module _ (id row : ℕ) (l : listed id ≡ true) (e : row ≡ rowOf id) (around body : List ℕ) (r : Own) (found : FitIs (shapeIn row) around body r) where
+  pub own-of-row : (x : Own) → r ≡ x → FitIs (shape id) around body x
+  own-of-row x f = subst (FitIs (shape id) around body) f (subst (λ (sh : Shape). FitIs sh around body r) (ap shapeIn e ∙ shape-is id l) found)
 
 -- a listed chunk from at to stop, whose own data takes k bytes
 pub record Sized (s : List ℕ) (at stop id row : ℕ) (around : List ℕ) (k : ℕ) : Type 0 where
@@ -33,11 +33,14 @@ pub record Sized (s : List ℕ) (at stop id row : ℕ) (around : List ℕ) (k : 
   pub stays : stop ≤ length s
   pub known : listed id ≡ true
   pub row-is : row ≡ rowOf id
+  pub label : nameFits (shape id) (slice (at + 6) stop s) ≡ true
   pub fits : Fits (shape id) around (slice (at + 6) stop s) k
 
 pub sized : {at stop id row : ℕ} → at + 6 ≤ stop → {s : List ℕ} → stop ≤ length s → listed id ≡ true → row ≡ rowOf id →
-    (around : List ℕ) (r : Own) → OwnIs (shapeIn row) around (slice (at + 6) stop s) r → {k : ℕ} → r ≡ Own.Size k → Sized s at stop id row around k
-sized o l m e around r found f = record { order = o; stays = l; known = m; row-is = e; fits = own-of-row _ _ m e around _ r found _ f }
+    (around : List ℕ) (r : Own) → FitIs (shapeIn row) around (slice (at + 6) stop s) r → {k : ℕ} → r ≡ Own.Size k → Sized s at stop id row around k
+sized o l m e around r found f =
+    let own = own-of-row _ _ m e around _ r found _ f in
+    record { order = o; stays = l; known = m; row-is = e; label = own .0; fits = own .1 }
 
 module _ {s : List ℕ} {at stop id row : ℕ} {around : List ℕ} {k : ℕ} (z : Sized s at stop id row around k) where
   pub own-ends : at + 6 + k ≤ stop
@@ -77,7 +80,7 @@ module _ {s : List ℕ} {at stop id row : ℕ} {around : List ℕ} {k : ℕ} (z 
 -- the conditions, by the tests of the code
 module _ (p : Parent) {s : List ℕ} {at stop id row k : ℕ} (z : Sized s at stop id row (p .own) k) where
   pub is-left-over : not (plusIn row || leb stop (at + 6 + k)) ≡ true → Judges p at id (slice (at + 6) stop s) (Judged.Fault (Length at))
-  is-left-over l = judge-left-over p at id (slice (at + 6) stop s) k (z .fits) (left-over-is z ∙ not-true _ l)
+  is-left-over l = judge-left-over p at id (slice (at + 6) stop s) k (z .label) (z .fits) (left-over-is z ∙ not-true _ l)
 
   module _ (l : not (plusIn row || leb stop (at + 6 + k)) ≡ false) where
     whole : (plus id || leb (length (slice (at + 6) stop s)) k) ≡ true
@@ -90,11 +93,11 @@ module _ (p : Parent) {s : List ℕ} {at stop id row k : ℕ} (z : Sized s at st
     below-as e = ap (λ (own : List ℕ). faceNumbersBelow p id own) (own-is z) ∙ e
 
     pub has-bad-number : numbersFinite p id (slice (at + 6) (at + 6 + k) s) ≡ false → Judges p at id (slice (at + 6) stop s) (Judged.Fault (Number at))
-    has-bad-number n = judge-number p at id (slice (at + 6) stop s) k (z .fits) whole (finite-as n)
+    has-bad-number n = judge-number p at id (slice (at + 6) stop s) k (z .label) (z .fits) whole (finite-as n)
 
     module _ (n : numbersFinite p id (slice (at + 6) (at + 6 + k) s) ≡ true) where
       pub has-bad-index : faceNumbersBelow p id (slice (at + 6) (at + 6 + k) s) ≡ false → Judges p at id (slice (at + 6) stop s) (Judged.Fault (Index at))
-      has-bad-index b = judge-index p at id (slice (at + 6) stop s) k (z .fits) whole (finite-as n) (below-as b)
+      has-bad-index b = judge-index p at id (slice (at + 6) stop s) k (z .label) (z .fits) whole (finite-as n) (below-as b)
 
       pub is-fine : faceNumbersBelow p id (slice (at + 6) (at + 6 + k) s) ≡ true → Judges p at id (slice (at + 6) stop s) (Judged.Size k)
-      is-fine b = judge-fine p at id (slice (at + 6) stop s) k (z .fits) whole (finite-as n) (below-as b)
+      is-fine b = judge-fine p at id (slice (at + 6) stop s) k (z .label) (z .fits) whole (finite-as n) (below-as b)

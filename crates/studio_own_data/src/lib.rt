@@ -67,6 +67,7 @@ fn judge_any(file: &[u8], id: usize, row: u64, count: u32, at: usize, stop: usiz
 {
     match studio_own_size::own_size(file, row, count, at + 6, stop) {
         Own::NoName => Judged::Fault(Refusal::Name(at)),
+        Own::Unfit => Judged::Fault(Refusal::Text(at)),
         Own::TooLong => Judged::Fault(Refusal::Length(at)),
         Own::Size(size) => {
             let from = at + 6 + size;

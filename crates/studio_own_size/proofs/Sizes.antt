@@ -5,17 +5,20 @@ use mathlib.Core.List.{List, []}
 use Prim.Native.Nat.{ℕ, zero, suc, _+_, _-_, _*_, _≤_, _<_}
 use native.Mathlib.Nat.{mul-le-mul}
 use native.Mathlib.Omega.{arith}
-use lib.ListN.{length, drop, getD}
-use lib.Seq.{slice, slice-cons, slice-empty, length-slice}
+use lib.ListN.{length, take, drop, getD}
+use lib.Seq.{slice, slice-cons, slice-empty, length-slice, getD-take, getD-drop}
 use borrow.Author.Tests.{le-leb, lt-leb}
+use Rattle.shared_words.specs.Labels.{labelFault}
+use Rattle.shared_words.proofs.Labels.{label-within}
 use Rattle.studio_rules.specs.Table.{Shape, fixed, name, counted, each, named-words}
-use Rattle.studio_rules.specs.OwnData.{nameSize, count, ownSize, hasName}
+use Rattle.studio_rules.specs.OwnData.{nameSize, count, ownSize, hasName, nameFits}
 use Rattle.shared_numbers.specs.Numbers.{wordAt}
 use Rattle.shared_numbers.proofs.Slices.{word-slice, drop-slice}
 use Rattle.studio_row.specs.Packed.{kindIn, sizeIn, shapeFrom, shapeIn}
 use Rattle.studio_own_size.specs.declared.Own.{Own}
-use Rattle.studio_own_size.specs.declared.Own.the-variants.{NoName, TooLong, Size}
-use Rattle.studio_own_size.specs.Own.{Fitted, Fits, Exceeds, OwnIs, CountIs}
+use Rattle.studio_own_size.specs.declared.Own.the-variants.{NoName, Unfit, TooLong, Size}
+use Rattle.studio_own_size.proofs.Labels.{fit-size, fit-text, unfit-text, no-zero}
+use Rattle.studio_own_size.specs.Own.{Fitted, Fits, Exceeds, OwnIs, FitIs, CountIs}
 
 -- a product of a byte and a word, which the code computes
 pub product-small : (a b : ℕ) → a < 256 → b < 65536 → a * b ≤ 16711425
@@ -26,6 +29,7 @@ product-small a b h k = mul-le-mul {n₁ = a} {m₁ = b} {n₂ = 255} {m₂ = 65
 module _ (sh : Shape) (around body : List ℕ) (k room : ℕ) (named : hasName sh body ≡ true) (is : ownSize sh around body ≡ k) (all : length body ≡ room) where
   pub fitted-is : (r : Own) → Fitted k room r → OwnIs sh around body r
   fitted-is NoName h = absurd h
+  fitted-is Unfit h = absurd h
   fitted-is TooLong h = record { named = named; beyond = omega arith }
   fitted-is (Size n) h = record { named = named; is = h .0 ∙ sym is; within = omega arith }
 
@@ -51,6 +55,31 @@ module _ (s : List ℕ) (at stop : ℕ) (order : at ≤ stop) (end : stop ≤ le
 
   pub no-name : (sh : Shape) → hasName sh (slice at stop s) ≡ hasName name (slice at stop s) → (z : ℕ) → z ≡ nameSize (slice at stop s) → stop - at < z → hasName sh (slice at stop s) ≡ false
   no-name sh same z e l = same ∙ lt-leb (nameSize (slice at stop s)) (length (slice at stop s)) (omega (arith, body-length))
+
+  -- a label takes n bytes of the body
+  module _ (n : ℕ) (e : n ≡ labelFault (slice at stop s)) where
+    pub label-within-body : n ≤ stop - at
+    label-within-body = omega (arith, label-within (slice at stop s), body-length)
+
+    byte-behind : n < stop - at → getD (slice at stop s) n 0 ≡ getD s (at + n) 0
+    byte-behind l = getD-drop at (take stop s) n 0 ∙ getD-take stop s (at + n) 0 (omega arith)
+
+    pub label-is-all : n ≡ stop - at → FitIs name [] (slice at stop s) NoName
+    label-is-all l =
+        lt-leb (nameSize (slice at stop s)) (length (slice at stop s)) (no-zero (slice at stop s) n e (omega (arith, body-length)))
+
+    pub label-is : n < stop - at → getD s (at + n) 0 ≡ 0 → FitIs name [] (slice at stop s) (Size (n + 1))
+    label-is l z =
+        let here = byte-behind l ∙ z in
+        let short : n < length (slice at stop s) = omega (arith, body-length) in
+        (fit-text (slice at stop s) n e short here, name-is (n + 1) (sym (fit-size (slice at stop s) n e short here)) (omega arith))
+
+    pub label-unfit : n < stop - at → (getD s (at + n) 0 ≡ 0 → ⊥) → (z : ℕ) → z ≡ nameSize (slice at stop s) → z ≤ stop - at →
+        FitIs name [] (slice at stop s) Unfit
+    label-unfit l other z f h = (
+      name-is z f h .named,
+      unfit-text (slice at stop s) n e (λ q. other (sym (byte-behind l) ∙ q)) (omega (arith, body-length)),
+    )
 
   module _ (z : ℕ) (e : z ≡ nameSize (slice at stop s)) (fits : z ≤ stop - at) where
     has : hasName named-words (slice at stop s) ≡ true
@@ -111,8 +140,44 @@ pub kind-words : (row : ℕ) → (kindIn row ≡ 0 → ⊥) → (kindIn row ≡ 
 unfolding shapeIn
 kind-words row = rest-words (kindIn row) (sizeIn row)
 
+-- ---- the name judged too
+
+-- where there is no name, or it fits
+pub name-fine : (sh : Shape) (around body : List ℕ) → nameFits sh body ≡ true → (r : Own) → OwnIs sh around body r → FitIs sh around body r
+name-fine sh around body f NoName h = h
+name-fine sh around body f Unfit h = absurd h
+name-fine sh around body f TooLong h = (f, h)
+name-fine sh around body f (Size k) h = (f, h)
+
+abbrev pub NoSize : Own → Type 0
+NoSize NoName = Unit
+NoSize Unfit = Unit
+NoSize TooLong = Unit
+NoSize (Size k) = ⊥
+
+-- a fault of the name alone is one of a name with words behind it
+pub name-of-words : (body : List ℕ) (x : Own) → FitIs name [] body x → NoSize x → FitIs named-words [] body x
+name-of-words body NoName h n = h
+name-of-words body Unfit h n = h
+name-of-words body TooLong h n = (h .0, record { named = h .1 .named; beyond = omega (arith, h .1 .beyond) })
+name-of-words body (Size k) h n = absurd n
+
 -- own data that does not look at the chunk around
-pub around-any : (sh : Shape) → ((a b body : List ℕ) → ownSize sh a body ≡ ownSize sh b body) → (around body : List ℕ) (r : Own) → OwnIs sh [] body r → OwnIs sh around body r
-around-any sh f around body NoName h = h
-around-any sh f around body TooLong h = record { named = h .named; beyond = omega (arith, f [] around body, h .beyond) }
-around-any sh f around body (Size k) h = record { named = h .named; is = h .is ∙ f [] around body; within = h .within }
+module _ (sh : Shape) (alike : (a b body : List ℕ) → ownSize sh a body ≡ ownSize sh b body) (around body : List ℕ) where
+  exceeds-any : Exceeds sh [] body → Exceeds sh around body
+  exceeds-any h = record { named = h .named; beyond = omega (arith, alike [] around body, h .beyond) }
+
+  fits-any : (k : ℕ) → Fits sh [] body k → Fits sh around body k
+  fits-any k h = record { named = h .named; is = h .is ∙ alike [] around body; within = h .within }
+
+  pub around-any : (r : Own) → OwnIs sh [] body r → OwnIs sh around body r
+  around-any NoName h = h
+  around-any Unfit h = h
+  around-any TooLong h = exceeds-any h
+  around-any (Size k) h = fits-any k h
+
+  pub fit-any : (r : Own) → FitIs sh [] body r → FitIs sh around body r
+  fit-any NoName h = h
+  fit-any Unfit h = h
+  fit-any TooLong h = (h .0, exceeds-any (h .1))
+  fit-any (Size k) h = (h .0, fits-any k (h .1))

@@ -6,11 +6,12 @@ ghost use lib.ListN.{length};
 ghost use lib.Seq.{slice};
 ghost use Rattle.studio_rules.specs.Table.{name, counted, named-words};
 ghost use Rattle.studio_row.specs.Packed.{shapeIn};
-ghost use Rattle.studio_own_size.specs.Own.{Fitted, OwnIs, CountIs};
+ghost use Rattle.studio_own_size.specs.Own.{Fitted, OwnIs, FitIs, CountIs};
 
-// The size of own data: no zero ends its name; it is longer than the body; or so many bytes.
+// The size of own data: no zero ends its name; its name does not fit the label; it is longer than the body; or so many bytes.
 pub enum Own {
     NoName,
+    Unfit,
     TooLong,
     Size(usize),
 }
@@ -37,6 +38,7 @@ pub fn counted_size(file: &[u8], each: usize, at: usize, stop: usize) -> Own
     fitting(2 + each * (word_at(file, at) as usize), room)
 }
 
+// A name, whatever its text: of a file that is known to be good.
 pub fn name_size(file: &[u8], at: usize, stop: usize) -> Own
     requires { ⌜ (at ≤ stop) × (stop ≤ length (now file)) ⌝ }
     ensures { λ r. ⌜ OwnIs name [] (slice at stop (now (file .entry))) r ⌝ }
@@ -49,31 +51,54 @@ pub fn name_size(file: &[u8], at: usize, stop: usize) -> Own
     }
 }
 
-// A name, a count word and words.
-fn named_words_size(file: &[u8], at: usize, stop: usize) -> Own
+// A name that must fit the label: its zero stands right behind what a label takes. Only where it does not is the zero
+// looked for in the whole body.
+fn label_size(file: &[u8], at: usize, stop: usize) -> Own
     requires { ⌜ (at ≤ stop) × (stop ≤ length (now file)) ⌝ }
-    ensures { λ r. ⌜ OwnIs named-words [] (slice at stop (now (file .entry))) r ⌝ }
+    ensures { λ r. ⌜ FitIs name [] (slice at stop (now (file .entry))) r ⌝ }
 {
-    let size = studio_names::name_size(file, at, stop);
-    let room = stop - at;
-    if room < size {
+    let size = shared_labels::label_size(file, at, stop);
+    if size == stop - at {
         return Own::NoName;
     }
-    if room < size + 2 {
-        return Own::TooLong;
+    if file[at + size] == 0 {
+        return Own::Size(size + 1);
     }
-    fitting(size + 2 + 2 * (word_at(file, at + size) as usize), room)
+    if studio_names::name_size(file, at, stop) <= stop - at {
+        Own::Unfit
+    } else {
+        Own::NoName
+    }
 }
 
-// Own data of a row's shape, in the body from at to stop; count is the count word of the chunk around.
+// A name that must fit the label, a count word and words.
+fn named_words_size(file: &[u8], at: usize, stop: usize) -> Own
+    requires { ⌜ (at ≤ stop) × (stop ≤ length (now file)) ⌝ }
+    ensures { λ r. ⌜ FitIs named-words [] (slice at stop (now (file .entry))) r ⌝ }
+{
+    match label_size(file, at, stop) {
+        Own::NoName => Own::NoName,
+        Own::Unfit => Own::Unfit,
+        Own::TooLong => Own::TooLong,
+        Own::Size(size) => {
+            let room = stop - at;
+            if room < size + 2 {
+                return Own::TooLong;
+            }
+            fitting(size + 2 + 2 * (word_at(file, at + size) as usize), room)
+        }
+    }
+}
+
+// Own data of a row's shape, its name judged too, in the body from at to stop; count is the count word of the chunk around.
 pub fn own_size(file: &[u8], row: u64, count: u32, at: usize, stop: usize) -> Own
     requires { ⌜ (at ≤ stop) × (stop ≤ length (now file)) × (count < 65536) ⌝ }
-    ensures { λ r. ⌜ ((around : List ℕ) → CountIs around count → OwnIs (shapeIn row) around (slice at stop (now (file .entry))) r) ⌝ }
+    ensures { λ r. ⌜ ((around : List ℕ) → CountIs around count → FitIs (shapeIn row) around (slice at stop (now (file .entry))) r) ⌝ }
 {
     let kind = studio_row::kind(row);
     match kind {
         0 => fitting(studio_row::size(row), stop - at),
-        1 => name_size(file, at, stop),
+        1 => label_size(file, at, stop),
         2 => counted_size(file, studio_row::size(row), at, stop),
         3 => fitting(studio_row::size(row) * (count as usize), stop - at),
         _ => named_words_size(file, at, stop),

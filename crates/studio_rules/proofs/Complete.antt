@@ -14,13 +14,13 @@ use Rattle.shared_words.specs.Bytes.{value}
 use Rattle.studio_rules.specs.Table.{plus, listed, shape}
 use Rattle.studio_rules.specs.OwnData.{ownSize, hasName}
 use Rattle.studio_rules.specs.Layout.{Run, end, skip, known, header, size, bytes}
-use Rattle.studio_rules.specs.Rules.{Parent, inside, noChild, unlisted, childrenInPlus, Own, Children, Obeys}
+use Rattle.studio_rules.specs.Rules.{Parent, inside, noChild, unlisted, namesFit, childrenInPlus, Own, Children, Obeys}
 use Rattle.shared_words.specs.Conditions.{broken, accepted}
 use Rattle.studio_rules.specs.Walk.{pass, enter, headerConditions, dataConditions, childConditions, endConditions, sorted, lengthField, step, ended, withSkip, taken, run}
 use Rattle.shared_words.proofs.Bools.{and-parts, or-else, or-second}
 use Rattle.shared_words.proofs.Bytes.{value-le}
 use Rattle.shared_words.proofs.Conditions.{Met, unbroken}
-use Rattle.studio_rules.proofs.OwnSize.{own-size-more, has-name}
+use Rattle.studio_rules.proofs.OwnSize.{own-size-more, has-name, name-fits-more}
 use Rattle.studio_rules.proofs.Rows.{under-listed, listed-small}
 use Rattle.studio_rules.proofs.Sound.{length-bytes}
 
@@ -78,6 +78,7 @@ step-known p seen o id n own kids rest e l a i =
     let s : ownSize (shape id) (p .own) (own ++ bytes kids) ≡ length own = own-size-more (shape id) (p .own) own (bytes kids) z in
     let b : take (length own) (own ++ bytes kids) ≡ own = take-at own (bytes kids) (length own) refl in
     let named : hasName (shape id) (own ++ bytes kids) ≡ true = has-name (shape id) (p .own) (own ++ bytes kids) (omega arith) in
+    let text : namesFit p id (own ++ bytes kids) ≡ true = rw (name-fits-more (shape id) (p .own) own (bytes kids) z) (a .names-fit) in
     let fits : leb (length own) (length (own ++ bytes kids)) ≡ true = le-leb (length own) (length (own ++ bytes kids)) (omega arith) in
     let leaf : (plus id || leb (length (own ++ bytes kids)) (length own)) ≡ true =
     or-else (plus id) _ (λ q. le-leb (length (own ++ bytes kids)) (length own) (omega (arith, ap length (no-bytes kids (or-second (plus id) (noChild kids) i q))))) in

@@ -13,6 +13,8 @@ pub mod Fuel
 pub mod Gaps
 pub mod Pieces
 pub mod Moved
+pub mod At
+pub mod Jumps
 pub mod Parses
 pub mod Theorems
 pub mod Samples

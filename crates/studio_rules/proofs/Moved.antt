@@ -33,7 +33,7 @@ records-moved ps o o′ depth parent next a (known id own kids rest) e h =
     let i = inside-here ps o′ a id own kids rest h in
     let k = records-moved ps (o + (6 + length own)) (o′ + (6 + length own)) (suc depth) next (suc next) a kids (omega arith) (holds-kids ps o′ a id own kids rest h) in
     let r = records-moved ps (o + (6 + length own + size (without kids))) (o′ + (6 + length own + size (with kids))) depth parent (suc (next + recordCount (without kids))) (a + added kids) rest (omega arith) (holds-rest ps o′ a id own kids rest h) in (
-      record { identifier-same = refl; offset-grows = omega arith; length-grows = omega arith; depth-same = refl; parent-same = refl; own-same = refl },
+      record { identifier-same = refl; offset-grows = omega arith; length-grows = omega arith; depth-same = refl; parent-same = refl; own-same = refl; next-same = rw (record-count-same kids) },
       rw (record-count-same kids) (pairwise-append (Moved ps) (recordsOf (o + (6 + length own)) (suc depth) next (suc next) (without kids)) (recordsOf (o + (6 + length own + size (without kids))) depth parent (suc (next + recordCount (without kids))) (without rest))
           (recordsOf (o′ + (6 + length own)) (suc depth) next (suc next) (with kids)) (recordsOf (o′ + (6 + length own + size (with kids))) depth parent (suc (next + recordCount (without kids))) (with rest)) k r),
     )

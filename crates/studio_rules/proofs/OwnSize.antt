@@ -1,5 +1,5 @@
 -- Own data takes as many bytes as its shape says, whatever follows it.
-use mathlib.Core.Path.{_≡_, refl, _∙_}
+use mathlib.Core.Path.{_≡_, refl, ap, _∙_}
 use Prim.Native.Nat.{ℕ, suc, _+_, _≤_}
 use native.Mathlib.Omega.{arith}
 use mathlib.Core.Bool.{Bool, true, false, cond}
@@ -8,8 +8,9 @@ use lib.ListN.{length, drop, length-drop}
 use lib.Seq.{take-append-le, drop-append-le}
 use lib.Dec.{eqb}
 use borrow.Author.Tests.{le-leb}
+use Rattle.shared_words.specs.Labels.{fitsLabel}
 use Rattle.studio_rules.specs.Table.{Shape, fixed, name, counted, each, named-words}
-use Rattle.studio_rules.specs.OwnData.{nameSize, count, ownSize, hasName}
+use Rattle.studio_rules.specs.OwnData.{nameSize, count, ownSize, hasName, text, nameFits}
 
 name-size-pos : (s : List ℕ) → 1 ≤ nameSize s
 name-size-pos [] = omega arith
@@ -57,6 +58,23 @@ own-size-less (each k) around own more h = h
 own-size-less named-words around own more h =
     let n : nameSize own ≡ nameSize (own ++ more) = name-size-less own more (omega arith) in
     rw (n, ← (count-more (nameSize (own ++ more)) own more (omega arith))) h
+
+-- the name is the same, with more behind it or not
+pub text-more : (own more : List ℕ) → nameSize own ≤ length own → text (own ++ more) ≡ text own
+text-more [] more h = absurd (omega arith)
+text-more (b ∷ own) more h = go (eqb b 0) (text-more own more) h
+  where
+    go : (e : Bool) → (nameSize own ≤ length own → text (own ++ more) ≡ text own) →
+        cond e 1 (suc (nameSize own)) ≤ suc (length own) → cond e [] (b ∷ text (own ++ more)) ≡ cond e [] (b ∷ text own)
+    go true ih h = refl
+    go false ih h = rw (ih (omega arith))
+
+pub name-fits-more : (sh : Shape) (around own more : List ℕ) → ownSize sh around own ≡ length own → nameFits sh (own ++ more) ≡ nameFits sh own
+name-fits-more (fixed k) around own more h = refl
+name-fits-more name around own more h = ap fitsLabel (text-more own more (omega arith))
+name-fits-more (counted k) around own more h = refl
+name-fits-more (each k) around own more h = refl
+name-fits-more named-words around own more h = ap fitsLabel (text-more own more (omega arith))
 
 -- own data that fits has its name's zero
 pub has-name : (sh : Shape) (around s : List ℕ) → ownSize sh around s ≤ length s → hasName sh s ≡ true

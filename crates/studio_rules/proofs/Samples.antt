@@ -5,6 +5,7 @@ use lib.Ieee.{span, climb, size, odd, units, round, sum, add, mul, lt, ofFields,
 use Rattle.shared_words.specs.Lists.{every}
 use Rattle.studio_rules.specs.Table.{rows, atMostOne, atLeastOne, listed, under, shape, plus, limits, needs}
 use Rattle.shared_words.specs.Floats.{finite}
+use Rattle.shared_words.specs.Labels.{fitsLabel}
 use Rattle.shared_words.specs.Conditions.{broken}
 use Rattle.studio_rules.specs.Walk.{step, walk, versionIn, verdict}
 use Rattle.studio_rules.specs.Box.{coordinate, lesser, greater, lowest, highest, middle}
@@ -13,7 +14,7 @@ use Rattle.studio_rules.specs.Samples.{Samples}
 use Rattle.studio_rules.specs.Readings.{Readings}
 
 pub samples : Samples
-unfolding every rows atMostOne atLeastOne listed under shape plus limits needs finite broken step walk versionIn verdict checkCall listCall nameCall boxCall coordinate lesser greater lowest highest middle span climb size odd units round sum add mul lt ofFields ofBits trailingZeros
+unfolding every rows atMostOne atLeastOne listed under shape plus limits needs finite fitsLabel broken step walk versionIn verdict checkCall listCall nameCall boxCall coordinate lesser greater lowest highest middle span climb size odd units round sum add mul lt ofFields ofBits trailingZeros
 samples = record {
   p1-to-p12 = refl;
   p8-list = refl;
@@ -27,5 +28,5 @@ samples = record {
 }
 
 pub readings : Readings
-unfolding every rows atMostOne atLeastOne listed under shape plus limits needs finite broken step walk versionIn verdict checkCall
+unfolding every rows atMostOne atLeastOne listed under shape plus limits needs finite fitsLabel broken step walk versionIn verdict checkCall
 readings = refl

@@ -14,14 +14,14 @@ use Rattle.shared_words.specs.Bytes.{value, Bytes}
 use Rattle.studio_rules.specs.Table.{plus, listed, shape}
 use Rattle.studio_rules.specs.OwnData.{ownSize}
 use Rattle.studio_rules.specs.Layout.{header}
-use Rattle.studio_rules.specs.Rules.{Parent, unlisted, Own}
+use Rattle.studio_rules.specs.Rules.{Parent, unlisted, namesFit, Own}
 use Rattle.shared_words.specs.Conditions.{broken}
 use Rattle.studio_rules.specs.Walk.{Step, stop, pass, enter, headerConditions, childConditions, opened, sorted, parted, lengthField, step}
 use Rattle.shared_words.proofs.Bools.{both, or-second}
 use Rattle.shared_words.proofs.Bytes.{bytes-drop, bytes-take, word-small}
 use Rattle.studio_rules.proofs.Headers.{header-is}
 use Rattle.shared_words.proofs.Conditions.{Met, met}
-use Rattle.studio_rules.proofs.OwnSize.{own-size-less}
+use Rattle.studio_rules.proofs.OwnSize.{own-size-less, name-fits-more}
 
 pub record Passed (s : List ℕ) (id : ℕ) (body rest : List ℕ) : Type 0 where
   pub is : header id (6 + length body) ++ (body ++ rest) ≡ s
@@ -53,6 +53,7 @@ module _ (p : Parent) (seen : List ℕ) (o : ℕ) (s : List ℕ) (id : ℕ) (bod
   enter-says k z t =
       let fits : leb k (length body) ≡ true = search in
       let leaf : (plus id || leb (length body) k) ≡ true = search in
+      let named : namesFit p id body ≡ true = search in
       let within : k ≤ length body = leb-true _ _ fits in
       let lk : length (take k body) ≡ k = length-take-le k body within in
       let m : 6 + length (take k body) + length (drop k body) ≡ 6 + length body = omega (arith, split-length k body) in
@@ -63,6 +64,7 @@ module _ (p : Parent) (seen : List ℕ) (o : ℕ) (s : List ℕ) (id : ℕ) (bod
         lawful = record {
           in-place = search;
           not-twice = search;
+          names-fit = rw (← (name-fits-more (shape id) (p .own) (take k body) (drop k body) z₁), take-append-drop k body) named;
           own-data-exact = eq-eqb _ _ z₁;
           numbers-finite = search;
           face-numbers-below = search;

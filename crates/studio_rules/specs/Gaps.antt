@@ -78,6 +78,7 @@ pub record Moved (ps : List Piece) (old new : Record) : Type 0 where
   pub depth-same : new .depth ≡ old .depth
   pub parent-same : new .parent ≡ old .parent
   pub own-same : new .own ≡ old .own
+  pub next-same : new .next ≡ old .next
 
 -- the tables are the same bit for bit; the name keeps its length, and its offset grows like the others
 pub record SameMesh (ps : List Piece) (old new : Mesh) : Type 0 where

@@ -12,7 +12,7 @@ use Rattle.studio_rules.specs.Layout.{Run, end, skip, known, figure, siz
 
 -- how many numbers it has
 abbrev pub recordNumbers : ℕ
-recordNumbers = 6
+recordNumbers = 7
 
 -- how many known chunks a run holds, at any depth
 abbrev pub recordCount : Run → ℕ
@@ -20,17 +20,18 @@ recordCount end = 0
 recordCount (skip id body rest) = recordCount rest
 recordCount (known id own kids rest) = suc (recordCount kids + recordCount rest)
 
--- the record of a known chunk at offset o, at a depth, in the chunk of record `parent`
-abbrev pub recordOf : ℕ → ℕ → ℕ → ℕ → List ℕ → Run → Record
-recordOf o depth parent id own kids =
-    record { identifier = id; offset = o; len = 6 + length own + size kids; depth = depth; parent = parent; own = length own }
+-- The record of a known chunk at offset o, at a depth, in the chunk of record `parent`; its own number is `number`.
+-- The seventh number: its own, plus one, plus the count of records inside it at any depth.
+abbrev pub recordOf : ℕ → ℕ → ℕ → ℕ → ℕ → List ℕ → Run → Record
+recordOf o depth parent number id own kids =
+    record { identifier = id; offset = o; len = 6 + length own + size kids; depth = depth; parent = parent; own = length own; next = number + 1 + recordCount kids }
 
 -- the records of a run that begins at offset o, at a depth, in the chunk of record `parent`; the first has number `next`
 abbrev pub recordsOf : ℕ → ℕ → ℕ → ℕ → Run → List Record
 recordsOf o depth parent next end = []
 recordsOf o depth parent next (skip id body rest) = recordsOf (o + (6 + length body)) depth parent next rest
 recordsOf o depth parent next (known id own kids rest) =
-    recordOf o depth parent id own kids ∷
+    recordOf o depth parent next id own kids ∷
     (recordsOf (o + (6 + length own)) (suc depth) next (suc next) kids ++
     recordsOf (o + (6 + length own + size kids)) depth parent (suc (next + recordCount kids)) rest)
 
@@ -41,7 +42,7 @@ list kids = recordsOf 0 0 0 0 (figure kids)
 -- the list as a flat row of numbers
 abbrev pub flat : List Record → List ℕ
 flat [] = []
-flat (r ∷ rs) = r .identifier ∷ r .offset ∷ r .len ∷ r .depth ∷ r .parent ∷ r .own ∷ flat rs
+flat (r ∷ rs) = r .identifier ∷ r .offset ∷ r .len ∷ r .depth ∷ r .parent ∷ r .own ∷ r .next ∷ flat rs
 
 -- ---- the byte counts
 

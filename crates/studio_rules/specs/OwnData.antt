@@ -5,6 +5,7 @@ use mathlib.Core.List.{List, [], _∷_}
 use lib.Dec.{eqb, leb}
 use lib.ListN.{length, take, drop}
 use Rattle.shared_words.specs.Bytes.{value, numbers}
+use Rattle.shared_words.specs.Labels.{fitsLabel}
 use Rattle.studio_rules.specs.Table.{Shape, fixed, name, counted, each, named-words}
 
 -- A name is bytes up to and including the first zero byte. Where there is none, one byte more than there are.
@@ -32,6 +33,19 @@ hasName name s = leb (nameSize s) (length s)
 hasName (counted k) s = true
 hasName (each k) s = true
 hasName named-words s = leb (nameSize s) (length s)
+
+-- the bytes of a name, without its zero
+abbrev pub text : List ℕ → List ℕ
+text [] = []
+text (b ∷ bs) = cond (eqb b 0) [] (b ∷ text bs)
+
+-- where the shape begins with a name, it fits the label
+abbrev pub nameFits : Shape → List ℕ → Bool
+nameFits (fixed k) s = true
+nameFits name s = fitsLabel (text s)
+nameFits (counted k) s = true
+nameFits (each k) s = true
+nameFits named-words s = fitsLabel (text s)
 
 -- 4110: three floats a vertex; 4140: two floats a pair; each float as its 32 bits
 abbrev pub vertexNumbers : List ℕ → List ℕ

@@ -68,6 +68,12 @@ cases =
     gives (scene (mesh (known 0x4120 (0 ∷ 0 ∷ []) (plain 0x4150 [] then plain 0x4150 []) end))) (no 8 40) ∷
     -- 9: a 4130 with an empty body
     gives (scene (mesh (vertex 0 then face 0 (plain 0x4130 [])))) (no 9 62) ∷
+    -- Q-8: 63 bytes of a name fit the label, 64 do not; neither do 31 and 127; 24 comes after 9 and before 10
+    gives (scene (plain 0x4000 (replicate 63 126 ++ (0 ∷ [])))) (yes 18 64 0) ∷
+    gives (scene (plain 0x4000 (replicate 64 126 ++ (0 ∷ [])))) (no 24 12) ∷
+    gives (scene (object (known 0x4600 (replicate 12 0) (known 0x4610 (replicate 20 0) (plain 0x4653 (127 ∷ 0 ∷ [])) end) end))) (no 24 64) ∷
+    gives (scene (known 0xAFFF [] (plain 0xA000 (replicate 64 31)) end)) (no 9 18) ∷
+    gives (scene (mesh (vertex 0 then face 0 (plain 0x4130 (31 ∷ 0 ∷ 0 ∷ []))))) (no 24 62) ∷
     -- 10: a byte left over where no children may follow
     gives (scene (plain 0x1470 (0 ∷ []))) (no 10 12) ∷
     -- 11: infinite

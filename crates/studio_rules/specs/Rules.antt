@@ -1,4 +1,4 @@
--- The chunk rules of document 01, each under its own name; and what it is for a file to meet them.
+-- The chunk rules of documents 01 and 02, each under its own name; and what it is for a file to meet them.
 use mathlib.Core.Path.{_≡_}
 use Prim.Native.Nat.{ℕ, _+_, _≤_}
 use mathlib.Core.Bool.{Bool, true, false, not, _&&_, _||_, cond}
@@ -10,7 +10,7 @@ use Rattle.shared_words.specs.Lists.{every}
 use Rattle.shared_words.specs.Lists.{among}
 use Rattle.studio_rules.specs.Table.{theFile, listed, under, shape, plus, limits, needs}
 use Rattle.shared_words.specs.Floats.{finite}
-use Rattle.studio_rules.specs.OwnData.{count, ownSize, vertexNumbers, mappingNumbers, faceCorners, faceNumbers}
+use Rattle.studio_rules.specs.OwnData.{count, ownSize, nameFits, vertexNumbers, mappingNumbers, faceCorners, faceNumbers}
 use Rattle.studio_rules.specs.Layout.{Run, end, skip, known, figure, bytes, identifiers, child}
 
 -- how many of some identifiers are in a group
@@ -56,6 +56,10 @@ few container ids = every (λ g. leb (tally g ids) 1) (limits container)
 -- with those before it, it is not the second of a group
 abbrev pub notTwice : Parent → List ℕ → ℕ → Bool
 notTwice p seen id = few (p .id) (id ∷ seen)
+
+-- its name fits the label
+abbrev pub namesFit : OwnRule
+namesFit p id own = nameFits (shape id) own
 
 -- own data is neither too long nor too short for its row
 abbrev pub ownDataExact : OwnRule
@@ -110,6 +114,7 @@ unlisted id = ltb id 0x1_0000 && not (listed id)
 pub record Own (p : Parent) (seen : List ℕ) (id : ℕ) (own : List ℕ) : Type 0 where
   pub in-place : inPlace p id own ≡ true
   pub not-twice : notTwice p seen id ≡ true
+  pub names-fit : namesFit p id own ≡ true
   pub own-data-exact : ownDataExact p id own ≡ true
   pub numbers-finite : numbersFinite p id own ≡ true
   pub face-numbers-below : faceNumbersBelow p id own ≡ true

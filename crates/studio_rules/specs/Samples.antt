@@ -59,7 +59,7 @@ answers =
     checkCall triangle ∷
     checkCall (set triangle 82 3) ∷
     checkCall (set triangle 32 4) ∷
-    listCall flatRecords triangle (replicate 35 0) .answer ∷
+    listCall flatRecords triangle (replicate 41 0) .answer ∷
     checkCall p12 ∷ []
 
 abbrev pub papers : List Shown
@@ -94,24 +94,24 @@ abbrev pub tablesIn : Answer Run → List (List ℕ × List ℕ)
 tablesIn (refused r) = []
 tablesIn (accepted kids) = tables (meshes kids)
 
--- identifier, offset, length, depth, parent, own data
+-- identifier, offset, length, depth, parent, own data, the number of the next record behind the branch
 abbrev pub triangleList : List ℕ
 triangleList =
-    0x4D4D ∷ 0 ∷ 86 ∷ 0 ∷ 0 ∷ 0 ∷
-    0x3D3D ∷ 6 ∷ 80 ∷ 1 ∷ 0 ∷ 0 ∷
-    0x4000 ∷ 12 ∷ 74 ∷ 2 ∷ 1 ∷ 2 ∷
-    0x4100 ∷ 20 ∷ 66 ∷ 3 ∷ 2 ∷ 0 ∷
-    0x4110 ∷ 26 ∷ 44 ∷ 4 ∷ 3 ∷ 38 ∷
-    0x4120 ∷ 70 ∷ 16 ∷ 4 ∷ 3 ∷ 10 ∷ []
+    0x4D4D ∷ 0 ∷ 86 ∷ 0 ∷ 0 ∷ 0 ∷ 6 ∷
+    0x3D3D ∷ 6 ∷ 80 ∷ 1 ∷ 0 ∷ 0 ∷ 6 ∷
+    0x4000 ∷ 12 ∷ 74 ∷ 2 ∷ 1 ∷ 2 ∷ 6 ∷
+    0x4100 ∷ 20 ∷ 66 ∷ 3 ∷ 2 ∷ 0 ∷ 6 ∷
+    0x4110 ∷ 26 ∷ 44 ∷ 4 ∷ 3 ∷ 38 ∷ 5 ∷
+    0x4120 ∷ 70 ∷ 16 ∷ 4 ∷ 3 ∷ 10 ∷ 6 ∷ []
 
 abbrev pub p12List : List ℕ
 p12List =
-    0x4D4D ∷ 0 ∷ 96 ∷ 0 ∷ 0 ∷ 0 ∷
-    0x3D3D ∷ 6 ∷ 90 ∷ 1 ∷ 0 ∷ 0 ∷
-    0x4000 ∷ 12 ∷ 84 ∷ 2 ∷ 1 ∷ 2 ∷
-    0x4100 ∷ 30 ∷ 66 ∷ 3 ∷ 2 ∷ 0 ∷
-    0x4110 ∷ 36 ∷ 44 ∷ 4 ∷ 3 ∷ 38 ∷
-    0x4120 ∷ 80 ∷ 16 ∷ 4 ∷ 3 ∷ 10 ∷ []
+    0x4D4D ∷ 0 ∷ 96 ∷ 0 ∷ 0 ∷ 0 ∷ 6 ∷
+    0x3D3D ∷ 6 ∷ 90 ∷ 1 ∷ 0 ∷ 0 ∷ 6 ∷
+    0x4000 ∷ 12 ∷ 84 ∷ 2 ∷ 1 ∷ 2 ∷ 6 ∷
+    0x4100 ∷ 30 ∷ 66 ∷ 3 ∷ 2 ∷ 0 ∷ 6 ∷
+    0x4110 ∷ 36 ∷ 44 ∷ 4 ∷ 3 ∷ 38 ∷ 5 ∷
+    0x4120 ∷ 80 ∷ 16 ∷ 4 ∷ 3 ∷ 10 ∷ 6 ∷ []
 
 -- 1.0 as its bits, and a point of the plane z = 0
 abbrev pub one : ℕ

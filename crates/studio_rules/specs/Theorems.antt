@@ -2,11 +2,13 @@
 -- and stand in crate claim_demands.)
 use mathlib.Core.Path.{_≡_}
 use mathlib.Core.Logic.{_↔_}
-use Prim.Native.Nat.{ℕ, _+_, _≤_}
+use Prim.Native.Nat.{ℕ, _+_, _≤_, _<_}
 use mathlib.Core.Bool.{true}
 use mathlib.Core.List.{List, []}
-use lib.ListN.{length, drop}
+use mathlib.Core.Option.{some}
+use lib.ListN.{length, drop, getElem?}
 use Rattle.shared_words.specs.Bytes.{Bytes}
+use Rattle.studio_rules.specs.declared.Record.{Record}
 use Rattle.studio_rules.specs.Layout.{Run, figure, bytes, identifiers}
 use Rattle.studio_rules.specs.Rules.{Parent, few, Obeys, limit, version, Meets}
 use Rattle.shared_words.specs.Conditions.{accepted}
@@ -33,6 +35,31 @@ AtMostOne = (q : Parent) (kids : Run) → Obeys q [] kids → few (q .id) (ident
 -- The byte counts add to the file's length.
 abbrev pub CountsAdd : Type 0
 CountsAdd = (s : List ℕ) (kids : Run) → Meets s kids → headers (figure kids) + owned (figure kids) + skipped (figure kids) ≡ length s
+
+-- Stepping over a branch: of each record, of number i, the seventh number lies above i and not above that of its parent,
+-- which is in the list. (4D4D is its own parent.)
+abbrev pub StepsOver : Type 0
+StepsOver = (kids : Run) (i : ℕ) (r : Record) → getElem? (list kids) i ≡ some r →
+    (i < r .next) × ((q : Record) × (getElem? (list kids) (r .parent) ≡ some q) × (r .next ≤ q .next))
+
+-- And the branches nest: what is numbered between a record and its seventh number is inside it, with its own branch and by
+-- its parent.
+abbrev pub BranchesNest : Type 0
+BranchesNest = (kids : Run) (i j : ℕ) (r q : Record) → getElem? (list kids) i ≡ some r → getElem? (list kids) j ≡ some q → i < j → j < r .next →
+    (q .next ≤ r .next) × (i ≤ q .parent)
+
+-- So the branches of two siblings are apart. (Number 0 is 4D4D, which has none.)
+abbrev pub SiblingsApart : Type 0
+SiblingsApart = (kids : Run) (i j : ℕ) (r q : Record) → getElem? (list kids) i ≡ some r → getElem? (list kids) j ≡ some q → 0 < i → i < j → q .parent ≡ r .parent → r .next ≤ j
+
+-- record j is inside record i, at any depth: i is its parent, or its parent is inside i
+pub data Inside (rs : List Record) (i : ℕ) : ℕ → Type 0 where
+  child : {j : ℕ} {q : Record} → getElem? rs j ≡ some q → 0 < j → q .parent ≡ i → Inside rs i j
+  deeper : {j : ℕ} {q : Record} → getElem? rs j ≡ some q → 0 < j → Inside rs i (q .parent) → Inside rs i j
+
+-- A step goes over just the branch: what is inside record i is what is numbered above i and below its seventh number.
+abbrev pub BranchExactly : Type 0
+BranchExactly = (kids : Run) (i : ℕ) (r : Record) → getElem? (list kids) i ≡ some r → (j : ℕ) → ((i < j) × (j < r .next)) ↔ Inside (list kids) i j
 
 -- the chunks that m marks, as they stand in the file that has them
 abbrev pub putIn : Marked → List Piece

@@ -7,13 +7,13 @@ use mathlib.Core.Option.{Option, none, some}
 use lib.Dec.{eqb, leb}
 use lib.ListN.{length, take, drop}
 use Rattle.shared_words.specs.declared.Refusal.{Refusal}
-use Rattle.shared_words.specs.declared.Refusal.the-variants.{TooLong, NotAFigure, Trailing, Short, Overrun, Stray, Misplaced, Twice, Name, Length, Number, Index, Count, Missing}
+use Rattle.shared_words.specs.declared.Refusal.the-variants.{TooLong, NotAFigure, Trailing, Short, Overrun, Stray, Misplaced, Twice, Name, Length, Number, Index, Count, Missing, Text}
 use Rattle.shared_words.specs.Bytes.{value}
 use Rattle.shared_words.specs.Conditions.{Condition, must, broken, Answer, refused, accepted, unless}
 use Rattle.studio_rules.specs.Table.{listed, shape, plus}
 use Rattle.studio_rules.specs.OwnData.{ownSize, hasName}
 use Rattle.studio_rules.specs.Layout.{Run, end, skip, known, offsetOf}
-use Rattle.studio_rules.specs.Rules.{Parent, file, inside, limit, inPlace, notTwice, numbersFinite, faceNumbersBelow, noneMissing, cornersBelow, mappingMatches}
+use Rattle.studio_rules.specs.Rules.{Parent, file, inside, limit, inPlace, notTwice, namesFit, numbersFinite, faceNumbersBelow, noneMissing, cornersBelow, mappingMatches}
 
 -- ---- conditions, in the order in which they are asked
 
@@ -46,10 +46,11 @@ dataConditions p o id own =
     must (numbersFinite p id own) (Number o) ∷
     must (faceNumbersBelow p id own) (Index o) ∷ []
 
--- "9, 10" and then these: own data is the first k bytes of the body of a chunk in p
+-- "9, 10" and, right after 9, 24; then these: own data is the first k bytes of the body of a chunk in p
 abbrev pub ownConditions : Parent → ℕ → ℕ → List ℕ → ℕ → List Condition
 ownConditions p o id body k =
     must (hasName (shape id) body) (Name o) ∷
+    must (namesFit p id body) (Text o) ∷
     must (leb k (length body)) (Length o) ∷
     must (plus id || leb (length body) k) (Length o) ∷ dataConditions p o id (take k body)
 

@@ -2,7 +2,7 @@
 // figure answers with them.
 use shared_words::Refusal;
 
-// One known chunk in the list.
+// One known chunk in the list. `next` is the number of the first record behind it and all that it holds.
 #[repr(C)]
 pub struct Record {
     pub identifier: u32,
@@ -11,6 +11,7 @@ pub struct Record {
     pub depth: u32,
     pub parent: u32,
     pub own: u32,
+    pub next: u32,
 }
 
 // How many records the list has, and the three byte counts.

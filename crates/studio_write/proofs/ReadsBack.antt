@@ -30,7 +30,7 @@ use Rattle.studio_write.proofs.Floats.{floats-small, floats-finite, flo
 use Rattle.studio_write_judge.proofs.Judged.{Ready, ready}
 use Rattle.studio_write.proofs.Called.{called, answered}
 use Rattle.studio_write.proofs.Six.{Exact, obeys, mesh, name-call, no-other, tables-call, list-call}
-use Rattle.studio_write.proofs.Unpacked.{numbers-packed, corners-packed, name-size}
+use Rattle.studio_write.proofs.Unpacked.{numbers-packed, corners-packed, name-size, name-text}
 
 module _ (name : List ℕ) (vertices : List Float) (corners : List ℕ) (room size : ℕ) (r : Ready name vertices corners room size) where
   vertex-count : count (vertexData vertices) ≡ triples vertices
@@ -54,6 +54,7 @@ module _ (name : List ℕ) (vertices : List Float) (corners : List ℕ) (room si
     exact-data : Exact (nameData name) (vertexData vertices) (faceData corners)
     exact-data = record {
       name-ends = name-size name (r .no-zero);
+      name-fits = rw (name-text name (r .no-zero)) (r .fits-label);
       vertices-exact = omega (arith, vertex-count, length-vertex-data vertices (r .whole-vertices));
       faces-exact = omega (arith, face-count, length-face-data corners);
       numbers-finite = rw vertex-numbers (floats-finite vertices f (r .finite));

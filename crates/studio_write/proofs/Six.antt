@@ -14,10 +14,11 @@ use Rattle.studio_rules.specs.declared.Named.{Named}
 use Rattle.shared_words.specs.Lists.{every}
 use Rattle.studio_rules.specs.Table.{rows, atMostOne, atLeastOne, under, shape, plus, limits, needs}
 use Rattle.shared_words.specs.Floats.{finite}
-use Rattle.studio_rules.specs.OwnData.{nameSize, count, vertexNumbers, faceCorners}
+use Rattle.shared_words.specs.Labels.{fitsLabel}
+use Rattle.studio_rules.specs.OwnData.{nameSize, count, text, vertexNumbers, faceCorners}
 use Rattle.studio_rules.specs.Layout.{Run, figure}
-use Rattle.studio_rules.specs.Rules.{Parent, file, inPlace, notTwice, ownDataExact, numbersFinite, faceNumbersBelow, allBelow, childrenInPlus, noneMissing, cornersBelow, mappingMatches, Own, Children, Obeys}
-use Rattle.studio_rules.specs.Gives.{owned, Mesh}
+use Rattle.studio_rules.specs.Rules.{Parent, file, inPlace, notTwice, namesFit, ownDataExact, numbersFinite, faceNumbersBelow, allBelow, childrenInPlus, noneMissing, cornersBelow, mappingMatches, Own, Children, Obeys}
+use Rattle.studio_rules.specs.Gives.{recordNumbers, owned, Mesh}
 use Rattle.shared_words.specs.Conditions.{accepted}
 use Rattle.studio_rules.specs.Walk.{verdict}
 use Rattle.shared_words.specs.Encodings.{floatRow, plainRow}
@@ -30,8 +31,9 @@ use Rattle.studio_write.specs.ReadsBack.{sixRecords}
 
 -- the rules of one chunk and of its children, in the order of the records
 own-obeys : {p : Parent} {seen : List ℕ} {id : ℕ} {own : List ℕ} →
-    inPlace p id own ≡ true → notTwice p seen id ≡ true → ownDataExact p id own ≡ true → numbersFinite p id own ≡ true → faceNumbersBelow p id own ≡ true → Own p seen id own
-own-obeys a b c d e = record { in-place = a; not-twice = b; own-data-exact = c; numbers-finite = d; face-numbers-below = e }
+    inPlace p id own ≡ true → notTwice p seen id ≡ true → namesFit p id own ≡ true → ownDataExact p id own ≡ true → numbersFinite p id own ≡ true →
+    faceNumbersBelow p id own ≡ true → Own p seen id own
+own-obeys a b c d e f = record { in-place = a; not-twice = b; names-fit = c; own-data-exact = d; numbers-finite = e; face-numbers-below = f }
 
 children-obey : {q : Parent} {kids : Run} → childrenInPlus q kids ≡ true → noneMissing q kids ≡ true → cornersBelow q kids ≡ true → mappingMatches q kids ≡ true → Children q kids
 children-obey a b c d = record { in-plus = a; none-missing = b; corners-below = c; mapping-matches = d }
@@ -40,6 +42,7 @@ module _ (name vertices faces : List ℕ) where
   -- what the rules ask of the own data
   pub record Exact : Type 0 where
     pub name-ends : nameSize name ≡ length name
+    pub name-fits : fitsLabel (text name) ≡ true
     pub vertices-exact : 2 + 12 * count vertices ≡ length vertices
     pub faces-exact : 2 + 8 * count faces ≡ length faces
     pub numbers-finite : every finite (vertexNumbers vertices) ≡ true
@@ -48,16 +51,16 @@ module _ (name vertices faces : List ℕ) where
   pub obeys : Exact → Obeys (file 0) [] (figure (sixChunks name vertices faces))
   unfolding every rows atMostOne atLeastOne under shape plus limits needs
   obeys x =
-      let top = own-obeys refl refl refl refl refl in
+      let top = own-obeys refl refl refl refl refl refl in
       let in-figure = children-obey refl refl refl refl in
-      let scene = own-obeys refl refl refl refl refl in
+      let scene = own-obeys refl refl refl refl refl refl in
       let in-scene = children-obey refl refl refl refl in
-      let object = own-obeys refl refl (eq-eqb _ _ (x .name-ends)) refl refl in
+      let object = own-obeys refl refl (x .name-fits) (eq-eqb _ _ (x .name-ends)) refl refl in
       let in-object = children-obey refl refl refl refl in
-      let mesh = own-obeys refl refl refl refl refl in
+      let mesh = own-obeys refl refl refl refl refl refl in
       let in-mesh = children-obey refl refl (x .corners-below) refl in
-      let vertex-list = own-obeys refl refl (eq-eqb _ _ (x .vertices-exact)) (both _ _ (x .numbers-finite) refl) refl in
-      let face-list = own-obeys refl refl (eq-eqb _ _ (x .faces-exact)) refl refl in
+      let vertex-list = own-obeys refl refl refl (eq-eqb _ _ (x .vertices-exact)) (both _ _ (x .numbers-finite) refl) refl in
+      let face-list = own-obeys refl refl refl (eq-eqb _ _ (x .faces-exact)) refl refl in
       let no-children = children-obey refl refl refl refl in
       let no-children′ = children-obey refl refl refl refl in
       (top, in-figure, (scene, in-scene, (object, in-object, (mesh, in-mesh, (vertex-list, no-children, tt, (face-list, no-children′, tt, tt)), tt), tt), tt), tt)
@@ -70,6 +73,7 @@ module _ (name vertices faces : List ℕ) where
       let lists = mesh .2 in
       record {
         name-ends = eqb-true _ _ (object .0 .own-data-exact);
+        name-fits = object .0 .names-fit;
         vertices-exact = eqb-true _ _ (lists .0 .own-data-exact);
         faces-exact = eqb-true _ _ (lists .3 .0 .own-data-exact);
         numbers-finite = and-parts _ _ (lists .0 .numbers-finite) .0;
@@ -102,7 +106,7 @@ module _ (s name vertices faces : List ℕ) (e : verdict s ≡ accepted (sixChun
   unfolding tablesCall
   tables-call rows = ap (ofMesh (λ r. leaving (Tabled.Refused r) rows) (tablesOf floatRow plainRow rows) 0) e
 
-  pub list-call : (k n f : ℕ) → length name ≡ 1 + k → length vertices ≡ 2 + 12 * n → length faces ≡ 2 + 8 * f → (row : List ℕ) → 36 ≤ length row →
+  pub list-call : (k n f : ℕ) → length name ≡ 1 + k → length vertices ≡ 2 + 12 * n → length faces ≡ 2 + 8 * f → (row : List ℕ) → 6 * recordNumbers ≤ length row →
       listCall flatRecords s row ≡
       leaving (Checked.Accepted record { records = 6; headers = 36; own = 5 + k + 12 * n + 8 * f; skipped = 0 }) (filled (sixRecords k n f) row)
   unfolding listCall
@@ -117,4 +121,4 @@ module _ (s name vertices faces : List ℕ) (e : verdict s ≡ accepted (sixChun
       let o₄ : 12 + (6 + length name) ≡ 19 + k = omega arith in
       let n₅ : 6 + length vertices + 0 ≡ 8 + 12 * n = omega arith in
       let n₆ : 6 + length faces + 0 ≡ 8 + 8 * f = omega arith in
-      ap (listOf flatRecords row) e ∙ rw (le-leb 6 (length row / 6) (omega arith), own, n₁, n₂, n₃, n₄, o₆, o₅, o₄, n₅, n₆, a, b, c)
+      ap (listOf flatRecords row) e ∙ rw (le-leb 6 (length row / recordNumbers) (omega arith), own, n₁, n₂, n₃, n₄, o₆, o₅, o₄, n₅, n₆, a, b, c)

@@ -10,7 +10,7 @@ use lib.Seq.{take-at, drop-at}
 use borrow.Author.Tests.{ltb-true}
 use Rattle.shared_words.specs.Bytes.{le, numbers, packed}
 use Rattle.shared_words.specs.Lists.{every}
-use Rattle.studio_rules.specs.OwnData.{nameSize, corners}
+use Rattle.studio_rules.specs.OwnData.{nameSize, text, corners}
 use Rattle.studio_rules.specs.Rules.{allBelow}
 use Rattle.shared_words.proofs.Bools.{and-parts}
 use Rattle.shared_words.proofs.Bytes.{length-le, value-le}
@@ -50,3 +50,14 @@ name-size (b ∷ name) h = go (eqb b 0) h (name-size name)
         cond z 1 (suc (nameSize (nameData name))) ≡ suc (length (nameData name))
     go true h ih = absurd (false≢true h)
     go false h ih = ap suc (ih h)
+
+-- the bytes of a name are those before its zero
+pub name-text : (name : List ℕ) → every notZero name ≡ true → text (nameData name) ≡ name
+unfolding every
+name-text [] h = refl
+name-text (b ∷ name) h = go (eqb b 0) h (name-text name)
+  where
+    go : (z : Bool) → (not z && every notZero name) ≡ true → (every notZero name ≡ true → text (nameData name) ≡ name) →
+        cond z [] (b ∷ text (nameData name)) ≡ b ∷ name
+    go true h ih = absurd (false≢true h)
+    go false h ih = ap (λ (l : List ℕ). b ∷ l) (ih h)

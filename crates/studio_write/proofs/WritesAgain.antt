@@ -20,7 +20,8 @@ use Rattle.studio_rules.specs.declared.Named.{Named}
 use Rattle.shared_words.specs.Bytes.{le, Bytes}
 use Rattle.shared_words.specs.Lists.{every}
 use Rattle.shared_words.specs.Floats.{finite}
-use Rattle.studio_rules.specs.OwnData.{count, vertexNumbers, faceCorners}
+use Rattle.shared_words.specs.Labels.{fitsLabel}
+use Rattle.studio_rules.specs.OwnData.{count, text, vertexNumbers, faceCorners}
 use Rattle.studio_rules.specs.Layout.{Run, end, known, figure, header, bytes}
 use Rattle.studio_rules.specs.Rules.{limit}
 use Rattle.shared_words.specs.Conditions.{accepted}
@@ -44,6 +45,7 @@ use Rattle.studio_write.proofs.Floats.{patterns-finite, patterns-back}
 use Rattle.studio_write_judge.proofs.Judged.{sized}
 use Rattle.studio_write.proofs.Called.{called}
 use Rattle.studio_write.proofs.Repacked.{numbers-small, packed-corners, name-parts}
+use Rattle.studio_write.proofs.Unpacked.{name-text}
 use Rattle.studio_write.proofs.Six.{Exact, exact, mesh, name-call, tables-call}
 
 -- ---- own data again
@@ -152,15 +154,23 @@ module _ (name vertices faces : List ℕ) (x : Exact name vertices faces) (bv : 
       let f = faces-again faces bf (x .faces-exact) z in
       cc
 
+  fits-again : fitsLabel short ≡ true
+  fits-again =
+      let n = name-parts name (x .name-ends) in
+      subst (λ (t : List ℕ). fitsLabel t ≡ true) (ap text (n .1) ∙ name-text short (n .2)) (x .name-fits)
+
   met-again : (room : ℕ) → figureSize short (floats vertices) (faceCorners faces) ≤ limit → figureSize short (floats vertices) (faceCorners faces) ≤ room →
       Met (writeConditions short (floats vertices) (faceCorners faces) room)
   met-again room l h = (
     name-parts name (x .name-ends) .2,
     (
-      whole (length (floats vertices)) (count vertices) (length-floats vertices) (word-small vertices bv),
+      fits-again,
       (
-        whole (length (faceCorners faces)) (count faces) (length-corners (count faces) (drop 2 faces)) (word-small faces bf),
-        (patterns-finite (vertexNumbers vertices) (x .numbers-finite), (rw (floats-count vertices) (x .corners-below), (le-leb _ _ l, (le-leb _ _ h, tt)))),
+        whole (length (floats vertices)) (count vertices) (length-floats vertices) (word-small vertices bv),
+        (
+          whole (length (faceCorners faces)) (count faces) (length-corners (count faces) (drop 2 faces)) (word-small faces bf),
+          (patterns-finite (vertexNumbers vertices) (x .numbers-finite), (rw (floats-count vertices) (x .corners-below), (le-leb _ _ l, (le-leb _ _ h, tt)))),
+        ),
       ),
     ),
   )

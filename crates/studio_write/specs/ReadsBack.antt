@@ -15,6 +15,7 @@ use Rattle.studio_rules.specs.Rules.{Meets}
 use Rattle.shared_words.specs.Conditions.{accepted}
 use Rattle.studio_rules.specs.Walk.{verdict}
 use Rattle.shared_words.specs.Encodings.{floatRow, plainRow}
+use Rattle.studio_rules.specs.Gives.{recordNumbers}
 use Rattle.studio_rules.specs.Encodings.{flatRecords}
 use Rattle.shared_words.specs.Effects.{leaving, filled}
 use Rattle.studio_rules.specs.Calls.{listCall, Rows, tablesCall, nameCall}
@@ -27,15 +28,15 @@ use Rattle.studio_write.specs.Write.{writeCall}
 abbrev pub Floats32 : List Float → Type 0
 Floats32 vertices = every (fits binary32) vertices ≡ true
 
--- the list, where the name has k bytes: identifier, offset, length, depth, parent, own data
+-- the list, where the name has k bytes: identifier, offset, length, depth, parent, own data, the number behind the branch
 abbrev pub sixRecords : ℕ → ℕ → ℕ → List ℕ
 sixRecords k n f =
-    0x4D4D ∷ 0 ∷ (41 + k + 12 * n + 8 * f) ∷ 0 ∷ 0 ∷ 0 ∷
-    0x3D3D ∷ 6 ∷ (35 + k + 12 * n + 8 * f) ∷ 1 ∷ 0 ∷ 0 ∷
-    0x4000 ∷ 12 ∷ (29 + k + 12 * n + 8 * f) ∷ 2 ∷ 1 ∷ (1 + k) ∷
-    0x4100 ∷ (19 + k) ∷ (22 + 12 * n + 8 * f) ∷ 3 ∷ 2 ∷ 0 ∷
-    0x4110 ∷ (25 + k) ∷ (8 + 12 * n) ∷ 4 ∷ 3 ∷ (2 + 12 * n) ∷
-    0x4120 ∷ (33 + k + 12 * n) ∷ (8 + 8 * f) ∷ 4 ∷ 3 ∷ (2 + 8 * f) ∷ []
+    0x4D4D ∷ 0 ∷ (41 + k + 12 * n + 8 * f) ∷ 0 ∷ 0 ∷ 0 ∷ 6 ∷
+    0x3D3D ∷ 6 ∷ (35 + k + 12 * n + 8 * f) ∷ 1 ∷ 0 ∷ 0 ∷ 6 ∷
+    0x4000 ∷ 12 ∷ (29 + k + 12 * n + 8 * f) ∷ 2 ∷ 1 ∷ (1 + k) ∷ 6 ∷
+    0x4100 ∷ (19 + k) ∷ (22 + 12 * n + 8 * f) ∷ 3 ∷ 2 ∷ 0 ∷ 6 ∷
+    0x4110 ∷ (25 + k) ∷ (8 + 12 * n) ∷ 4 ∷ 3 ∷ (2 + 12 * n) ∷ 5 ∷
+    0x4120 ∷ (33 + k + 12 * n) ∷ (8 + 8 * f) ∷ 4 ∷ 3 ∷ (2 + 8 * f) ∷ 6 ∷ []
 
 -- THE FILE s READS BACK to a name, a row of floats and a row of corners
 pub record ReadsBack (name : List ℕ) (vertices : List Float) (corners s : List ℕ) : Type 0 where
@@ -44,7 +45,7 @@ pub record ReadsBack (name : List ℕ) (vertices : List Float) (corners s : List
   pub meets-rules : Meets s (bare name vertices corners)
   pub is-accepted : verdict s ≡ accepted (bare name vertices corners)
   -- its list is the six records, and nothing is skipped
-  pub list : (row : List ℕ) → 36 ≤ length row →
+  pub list : (row : List ℕ) → 6 * recordNumbers ≤ length row →
       listCall flatRecords s row ≡
       leaving (Checked.Accepted record { records = 6; headers = 36; own = 5 + length name + 12 * triples vertices + 8 * triples corners; skipped = 0 })
       (filled (sixRecords (length name) (triples vertices) (triples corners)) row)

@@ -50,8 +50,10 @@ abbrev pub cases : List Case
 cases =
     -- nothing but the zero of the name
     gives [] [] [] 41 (size 41) ∷
-    -- 9 before 13
-    gives (0x41 ∷ 0 ∷ 0 ∷ []) (0 ∷ []) [] 0 (no 9 1) ∷
+    -- 9 before 24, which comes before 13: the first bad byte, or 63
+    gives (0x41 ∷ 9 ∷ 0 ∷ []) (0 ∷ []) [] 0 (no 9 2) ∷
+    gives (0x41 ∷ 0x7E ∷ 0x7F ∷ []) (0 ∷ []) [] 0 (no 24 2) ∷
+    gives (replicate 64 0x41 ++ (9 ∷ [])) (0 ∷ []) [] 0 (no 24 63) ∷
     -- 13: the floats first; the corners before 11
     gives [] (0 ∷ []) (0 ∷ 0 ∷ []) 0 (no 13 1) ∷
     gives [] (notANumber ∷ 0 ∷ 0 ∷ []) (0 ∷ 0 ∷ []) 0 (no 13 2) ∷

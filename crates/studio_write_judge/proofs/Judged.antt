@@ -12,6 +12,7 @@ use lib.ListN.{length, take, drop}
 use borrow.Author.Tests.{eqb-true, leb-true}
 use Rattle.shared_words.specs.declared.Refusal.{Refusal}
 use Rattle.shared_words.specs.Lists.{every}
+use Rattle.shared_words.specs.Labels.{fitsLabel}
 use Rattle.studio_rules.specs.Rules.{limit}
 use Rattle.shared_words.specs.Conditions.{Condition, must, broken}
 use Rattle.shared_words.proofs.Bools.{and-parts}
@@ -54,6 +55,7 @@ module _ (name : List ℕ) (vertices : List Float) (corners : List ℕ) (room : 
   -- what a size tells
   pub record Ready (size : ℕ) : Type 0 where
     pub no-zero : every notZero name ≡ true
+    pub fits-label : fitsLabel name ≡ true
     pub whole-vertices : length vertices % 3 ≡ 0
     pub few-vertices : length vertices ≤ 196_605
     pub whole-corners : length corners % 3 ≡ 0
@@ -71,19 +73,20 @@ module _ (name : List ℕ) (vertices : List Float) (corners : List ℕ) (room : 
       go : (o : Option Refusal) → broken conditions ≡ o → answerOf (figureSize name vertices corners) o ≡ Size size → Ready size
       go none b e =
           let m = met conditions b in
-          let v = whole-row (length vertices) (m .1 .0) in
-          let c = whole-row (length corners) (m .1 .1 .0) in
+          let v = whole-row (length vertices) (m .1 .1 .0) in
+          let c = whole-row (length corners) (m .1 .1 .1 .0) in
           let z : size ≡ figureSize name vertices corners = cc in
           record {
             no-zero = m .0;
+            fits-label = m .1 .0;
             whole-vertices = v .0;
             few-vertices = v .1;
             whole-corners = c .0;
             few-corners = c .1;
-            finite = m .1 .1 .1 .0;
-            below = m .1 .1 .1 .1 .0;
+            finite = m .1 .1 .1 .1 .0;
+            below = m .1 .1 .1 .1 .1 .0;
             size-is = z;
-            within-limit = rw z (leb-true _ _ (m .1 .1 .1 .1 .1 .0));
-            within-room = rw z (leb-true _ _ (m .1 .1 .1 .1 .1 .1 .0));
+            within-limit = rw z (leb-true _ _ (m .1 .1 .1 .1 .1 .1 .0));
+            within-room = rw z (leb-true _ _ (m .1 .1 .1 .1 .1 .1 .1 .0));
           }
       go (some r) b e = let z : _≡_ {A = ℕ} 0 1 = cc in absurd (omega arith)

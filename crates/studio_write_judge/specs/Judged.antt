@@ -1,15 +1,16 @@
--- What the writer judges before it writes, for every name, rows and room: document 01's section "The writer". The contract
+-- What the writer judges before it writes, for every name, rows and room: document 01's section "The writer", with Q-8. The contract
 -- of `judge` is an equation with `judged`.
-use Prim.Native.Nat.{ℕ, suc, _+_, _*_, _/_, _%_}
-use mathlib.Core.Bool.{Bool, true, false, not, _&&_, cond}
+use Prim.Native.Nat.{ℕ, _+_, _*_, _/_, _%_}
+use mathlib.Core.Bool.{Bool, true, false, not, _&&_}
 use mathlib.Core.List.{List, [], _∷_}
 use mathlib.Core.Option.{Option, none, some}
 use lib.Dec.{eqb, ltb, leb}
 use lib.Ieee.{Float, nan, inf, fin}
 use lib.ListN.{length}
 use Rattle.shared_words.specs.declared.Refusal.{Refusal}
-use Rattle.shared_words.specs.declared.Refusal.the-variants.{TooLong, Name, Number, Index, Count, NoRoom}
-use Rattle.shared_words.specs.Lists.{every}
+use Rattle.shared_words.specs.declared.Refusal.the-variants.{TooLong, Name, Number, Index, Count, NoRoom, Text}
+use Rattle.shared_words.specs.Lists.{every, firstFault}
+use Rattle.shared_words.specs.Labels.{fitsLabel, labelFault}
 use Rattle.studio_rules.specs.Rules.{limit}
 use Rattle.shared_words.specs.Conditions.{Condition, must, broken}
 use Rattle.shared_words.specs.declared.Written.{Written}
@@ -20,11 +21,6 @@ abbrev pub triples : {A : Type 0} → List A → ℕ
 triples row = length row / 3
 
 -- ---- the conditions
-
--- the position of the first element at fault; where none is, the length
-abbrev pub firstFault : {A : Type 0} → (A → Bool) → List A → ℕ
-firstFault good [] = 0
-firstFault good (x ∷ xs) = cond (good x) (suc (firstFault good xs)) 0
 
 -- each element of a row passes a test; the place is the first fault
 abbrev pub eachMust : {A : Type 0} → (A → Bool) → List A → (ℕ → Refusal) → Condition
@@ -52,6 +48,8 @@ abbrev pub writeConditions : List ℕ → List Float → List ℕ → ℕ → Li
 writeConditions name vertices corners room =
     -- 9, the name holds a zero byte (place: its position)
     eachMust notZero name Name ∷
+    -- 24, it does not fit the label (place: the first bad byte or 63, the lesser)
+    must (fitsLabel name) (Text (labelFault name)) ∷
     -- 13, a row's length is no multiple of 3 or over 196,605, floats first (place: that length)
     must (wholeRow (length vertices)) (Count (length vertices)) ∷
     must (wholeRow (length corners)) (Count (length corners)) ∷

@@ -3,8 +3,9 @@ use shared_words::Refusal;
 use shared_words::Written;
 ghost use mathlib.Core.Path.{_≡_};
 ghost use lib.Dec.{ltb};
-ghost use Rattle.shared_words.specs.Lists.{every};
-ghost use Rattle.studio_write_judge.specs.Judged.{firstFault, notZero, wholeRow, finiteFloat, judged};
+ghost use Rattle.shared_words.specs.Lists.{every, firstFault};
+ghost use Rattle.shared_words.specs.Labels.{labelFault};
+ghost use Rattle.studio_write_judge.specs.Judged.{notZero, wholeRow, finiteFloat, judged};
 
 // The longest file, and the longest row: three numbers for each of 65,535 vertices or faces.
 const LIMIT: usize = 1048576;
@@ -23,6 +24,13 @@ fn first_zero(name: &[u8]) -> usize
         i += 1;
     }
     i
+}
+
+// How many bytes of a name a label takes: where it does not fit, the position of its fault.
+fn label_size(name: &[u8]) -> usize
+    ensures { λ r. ⌜ r ≡ labelFault (now (name .entry)) ⌝ }
+{
+    shared_labels::label_size(name, 0, name.len())
 }
 
 // Whether a row of this length is made of whole vertices or faces, and not of too many.
@@ -98,13 +106,17 @@ fn first_not_below(n: usize, corners: &[u16]) -> usize
     i
 }
 
-// The answer for a buffer of `room` bytes: the first fault in document 01's order, or the size.
+// The answer for a buffer of `room` bytes: the first fault in the papers' order, or the size.
 pub fn judge(name: &[u8], vertices: &[f32], corners: &[u16], room: usize) -> Written
     ensures { λ r. ⌜ r ≡ judged (now (name .entry)) (now (vertices .entry)) (now (corners .entry)) room ⌝ }
 {
     let zero = first_zero(name);
     if zero < name.len() {
         return Written::Refused(Refusal::Name(zero));
+    }
+    let taken = label_size(name);
+    if taken < name.len() {
+        return Written::Refused(Refusal::Text(taken));
     }
     if !whole_row(vertices.len()) {
         return Written::Refused(Refusal::Count(vertices.len()));

@@ -9,6 +9,7 @@ ghost use Rattle.studio_rules.specs.Calls.{checkCall, listCall, tablesCall, nam
 ghost use Rattle.studio_list_table.specs.Listed.{inTable, inRow};
 ghost use Rattle.studio_mesh_tables.specs.Rows.{rows};
 ghost use Rattle.studio_write.specs.Write.{writeCall};
+ghost use Rattle.c_version.specs.Version.{versionCode};
 ghost use Rattle.c_codes.specs.Codes.{recordsOr, sizesOr, sizeOr};
 ghost use Rattle.c_answers.specs.Given.{countsGiven, nameGiven, boxGiven};
 ghost use Rattle.slip_sums.specs.Fletcher.{sumOf};
@@ -16,6 +17,14 @@ ghost use Rattle.slip_sums.specs.Passes.{sumsCall, matchOf};
 ghost use Rattle.slip_rules.specs.Calls.{byteRow, slipReadCall, givenBytes, slipWriteCall};
 ghost use Rattle.c_slip.specs.Codes.{entriesOr};
 ghost use Rattle.c_sums.specs.Numbers.{sumsOr, zeroOr, sumIn, withPartNumber, joinNumbers};
+
+// The version of the library.
+#[no_mangle]
+pub extern "C" fn tds_version() -> u64
+    ensures { λ n. ⌜ n ≡ versionCode 2 0 0 ⌝ }
+{
+    c_version::version()
+}
 
 // The count of records, or a refusal.
 #[no_mangle]
@@ -25,7 +34,7 @@ pub extern "C" fn tds_check(file: &[u8]) -> u64
     checked_code(studio_check::check(file))
 }
 
-// The count of records that now stand in the front of the slice, 24 bytes each, or a refusal.
+// The count of records that now stand in the front of the slice, 28 bytes each, or a refusal.
 #[no_mangle]
 pub extern "C" fn tds_list(file: &[u8], records: &mut [u8]) -> u64
     ensures answer { λ n. ⌜ n ≡ recordsOr (listCall recordBytes (now (file .entry)) (now (records .entry)) .answer) ⌝ }

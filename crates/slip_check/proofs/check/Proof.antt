@@ -16,9 +16,6 @@ use Rattle.slip_check.proofs.check.Tie as tie
 never : (r : Refusal) (n : ℕ) → Found.Refused r ≡ Found.Entries n → ⊥
 never r n e = let z : _≡_ {A = ℕ} 0 1 = cc in omega arith
 
-same : (n k : ℕ) → Found.Entries n ≡ Found.Entries k → n ≡ k
-same n k e = cc
-
 is-headed-requires : tie.Need-is-headed-requires
 is-headed-requires c κs = search needs
 
@@ -60,9 +57,12 @@ returns-2 c =
       few = λ k e. absurd (never (Slip (g .0 .0)) k e);
     }
 
+judge-labels-requires : tie.Need-judge-labels-requires
+judge-labels-requires c κs = c .before .before .walk-entries .ensures .whole (c .enum-told .given .1)
+
 returns-3 : tie.Need-returns-3
 returns-3 c =
-    let walked = c .before .before in
+    let walked = c .before .before .before in
     let counted = walked .before in
     let headed = counted .before in
     let s = headed .before .before .before .args .s .now in
@@ -70,12 +70,13 @@ returns-3 c =
     let h = sym (headed .before .is-headed .ensures .0) ∙ not-false _ (headed .if1 .left) in
     let q = counted .word-at .ensures .is in
     let w = walked .walk-entries .ensures in
-    let g = c .enum-told .given .1 in
+    let g = c .before .enum-told .given .1 in
     let f = head-few s h in
+    let labels = c .judge-labels .ensures in
     record {
-      is = verdict-good s n h q (w .is ∙ ap (λ (r : Walked). walkedAs r s n) g);
-      whole = λ k e. subst (λ (x : ℕ). Whole x s 7) (same n k e) (w .whole g);
-      few = λ k e. omega (arith, same n k e);
+      is = verdict-good s n h q (w .is ∙ ap (λ (r : Walked). walkedAs r s n) g) ∙ labels .is;
+      whole = λ k e. subst (λ (x : ℕ). Whole x s 7) (sym (labels .count k e)) (w .whole g);
+      few = λ k e. omega (arith, labels .count k e);
     }
 
 pub check-spec : {M : Type 1} → statement M
@@ -88,5 +89,6 @@ check-spec =
     walk-entries-requires
     enum-known-place
     enum-told
+    judge-labels-requires
     returns-2
     returns-3)

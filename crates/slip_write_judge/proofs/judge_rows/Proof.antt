@@ -64,10 +64,8 @@ returns-2 : tie.Need-returns-2 Inv-loop μ-loop
 returns-2 c =
     let l = c .before .loop in
     let a = c .before .before .before .before .args in
-    let s = a .entries .now in
     let f = l .inv .1 .few in
-    let n = given-rows s ∙ ap (λ (k : ℕ). rowsFrom k s 0) (sym (l .inv .0)) in
-    rw n (on-end (a .names .now) s _ (l .size) (l .i) (l .inv .1) (omega arith))
+    on-end (a .names .now) (a .entries .now) _ (l .size) (l .i) (l .inv .1) (omega arith) (l .inv .0)
 
 pub judge-rows-spec : {M : Type 1} → statement M
 judge-rows-spec =

@@ -1,7 +1,7 @@
--- Six stores, each within the row.
+-- Seven stores, each within the row.
 use native.Mathlib.Omega.{arith}
 use lib.ListN.{length-set}
-use Rattle.studio_list_rows.proofs.Rows.{six-stores}
+use Rattle.studio_list_rows.proofs.Rows.{seven-stores}
 use borrow.Author.Needs.{needs}
 use Rattle.studio_list_rows.proofs.put_numbers.Statement.{statement}
 use Rattle.studio_list_rows.proofs.put_numbers.Tie as tie
@@ -57,13 +57,22 @@ mul-records-6 c = search needs
 slice-write-records-6 : tie.Need-slice-write-records-6
 slice-write-records-6 c = simp length-set (omega arith)
 
+add-records-6 : tie.Need-add-records-6
+add-records-6 c = search needs
+
+mul-records-7 : tie.Need-mul-records-7
+mul-records-7 c = search needs
+
+slice-write-records-7 : tie.Need-slice-write-records-7
+slice-write-records-7 c = simp length-set (omega arith)
+
 same-length : tie.Need-same-length
 same-length c = search needs
 
 returns : tie.Need-returns
 returns c =
     let a = c .args in
-    six-stores (a .records .now) (a .i) (a .r .identifier) (a .r .offset) (a .r .len) (a .r .depth) (a .r .parent) (a .r .own)
+    seven-stores (a .records .now) (a .i) (a .r .identifier) (a .r .offset) (a .r .len) (a .r .depth) (a .r .parent) (a .r .own) (a .r .next)
 
 pub put-numbers-spec : {M : Type 1} → statement M
 put-numbers-spec =
@@ -86,5 +95,8 @@ put-numbers-spec =
     add-records-5
     mul-records-6
     slice-write-records-6
+    add-records-6
+    mul-records-7
+    slice-write-records-7
     same-length
     returns)

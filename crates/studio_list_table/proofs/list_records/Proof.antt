@@ -109,6 +109,10 @@ lent-ty = tyRef erased mut (tyInt w32)
 abbrev shared-ty : Ty
 shared-ty = tyRef erased imm (tyInt w32)
 
+-- the bytes of a record
+abbrev width : ℕ
+width = 4 * recordNumbers
+
 -- the three clauses of the contract, beside what is owned
 module _ {M : Type 1} (𝓤 : URA M) (P : SProp 𝓤) (a b c : Type 0) (x : a) (y : b) (z : c) where
   abbrev Three : SProp 𝓤
@@ -307,7 +311,7 @@ module _ {M : Type 1} (𝓤 : URA M) (H : Heap 𝓤) (A : Atoms 𝓤) (W : Given
           -- [what c owns; the token; the numbers; obs; the borrow; its token; _7; _12; _13; _14; _15; _6; _5; _3; the rest]
           assigns ! (bin ! (load ! (from ! (stop !)) (look ! 6 refl)) (lit ! tt) offset) (from ! (stop !)) (init ! 9 refl (tt, offset)) $
           assigns ! (bin ! (load ! (from ! (fld ! refl (stop !))) (look-in ! 13 (sub ! 0 refl (whole !)))) (load ! (from ! (stop !)) (look ! 9 refl)) tt) (from ! (stop !)) (init ! 10 refl (tt, tt)) $
-          rewrite ! 10 (λ (p : ℕ). ‵ (fat fullShare tyPtr l₁₅ 0 (vptr b p))) (sym (place-is 24 o i)) refl $
+          rewrite ! 10 (λ (p : ℕ). ‵ (fat fullShare tyPtr l₁₅ 0 (vptr b p))) (sym (place-is width o i)) refl $
           -- the borrow is opened, element i is taken out and stored to, c is put in its place, and the borrow is closed
           move ! (3 ∷ 4 ∷ 5 ∷ []) $ opens-slice ! tt T.the-row zs b o $
           elem-out ! T.the-row (Is T.the-row) (shows 𝓤 H A T.the-row) (SL.vals T.the-type T′.the-laws) (SL.tells T.the-type T′.the-laws) fullShare zs i c b o within (λ _.
@@ -323,8 +327,8 @@ module _ {M : Type 1} (𝓤 : URA M) (H : Heap 𝓤) (A : Atoms 𝓤) (W : Given
           within : i < length zs
           within = omega (arith, table-fits)
 
-          offset : Fits w64 (i * 24)
-          offset = scaled-fits i (length ys) 24 (omega (arith, table-fits)) (room .1)
+          offset : Fits w64 (i * width)
+          offset = scaled-fits i (length ys) width (omega (arith, table-fits)) (room .1)
 
           next : Fits w64 (i + 1)
           next = record { fits = omega arith }

@@ -1,6 +1,7 @@
 -- List of a chunk and list of a run meet their contracts together. The bytes left, twice, and one more for a run, fall at
--- each call. A chunk is skipped, or it is a record and its children (Chunks); a run goes on from chunk to chunk (Loop).
-use mathlib.Core.Path.{_≡_, refl, _∙_}
+-- each call. A chunk is skipped, or it is its children and then a record (Chunks); a run goes on from chunk to chunk (Loop).
+use mathlib.Core.Path.{_≡_, refl, ap, _∙_}
+use mathlib.Core.Logic.{⊎-elim}
 use Prim.Native.Nat.{ℕ, _+_, _-_, _*_, _≤_, _<_}
 use native.Mathlib.Omega.{arith}
 use lib.ListN.{length}
@@ -11,11 +12,11 @@ use Rattle.studio_rules.specs.Layout.{Run}
 use Rattle.studio_rules.specs.Parses.{Place}
 use Rattle.studio_row.proofs.Facts.{holder-kind}
 use Rattle.studio_list_rows.specs.Lent.{lent}
-use Rattle.studio_list_walk.specs.Laid.{first, Laid}
+use Rattle.studio_list_walk.specs.Laid.{first, Laid, Listed}
 use Rattle.studio_list_rows.proofs.Rows.{room-less}
 use Rattle.studio_list_rows.proofs.Counts.{count-small}
 use Rattle.studio_list_walk.proofs.Runs.{FirstAt, split-count, header-ends, first-at}
-use Rattle.studio_list_walk.proofs.Chunks.{Entered, skipped-listed, entered, entered-listed, childless-listed}
+use Rattle.studio_list_walk.proofs.Chunks.{Entered, skipped-listed, entered, childless, entered-listed}
 use Rattle.studio_list_walk.proofs.Loop.{Sofar, sofar-start, sofar-next, sofar-ends}
 use Rattle.studio_list_walk.proofs.list_chunk.Reads as list-chunk
 use Rattle.studio_list_walk.proofs.list_chunk.Kinds as list-chunk-kinds
@@ -58,10 +59,10 @@ chunk-calls t = (
   row-reads.Learnt,
   own-length-reads.Asked,
   own-length-reads.Learnt,
-  put-record-reads.Asked,
-  put-record-reads.Learnt,
   list-run-below t,
   list-run.Post,
+  put-record-reads.Asked,
+  put-record-reads.Learnt,
 )
 
 abbrev run-calls : ℕ → list-run-lts.Claims
@@ -99,30 +100,6 @@ list-chunk-own-length-requires : (t : ℕ) → list-chunk-lts.Need-own-length-re
 list-chunk-own-length-requires t c κs =
     (omega arith, omega arith, λ h. rw (c .before .row .ensures) (holder-kind _ (rw (c .before .row .ensures) at h)))
 
-list-chunk-cast-t18 : (t : ℕ) → list-chunk-lts.Need-cast-t18 (chunk-calls t) (list-chunk-at t) list-chunk.Post
-list-chunk-cast-t18 t c = omega arith
-
-list-chunk-sub-t16 : (t : ℕ) → list-chunk-lts.Need-sub-t16 (chunk-calls t) (list-chunk-at t) list-chunk.Post
-list-chunk-sub-t16 t c = omega arith
-
-list-chunk-cast-t19 : (t : ℕ) → list-chunk-lts.Need-cast-t19 (chunk-calls t) (list-chunk-at t) list-chunk.Post
-list-chunk-cast-t19 t c = omega arith
-
-list-chunk-cast-t20 : (t : ℕ) → list-chunk-lts.Need-cast-t20 (chunk-calls t) (list-chunk-at t) list-chunk.Post
-list-chunk-cast-t20 t c = omega arith
-
-list-chunk-cast-t21 : (t : ℕ) → list-chunk-lts.Need-cast-t21 (chunk-calls t) (list-chunk-at t) list-chunk.Post
-list-chunk-cast-t21 t c = omega arith
-
-list-chunk-cast-t22 : (t : ℕ) → list-chunk-lts.Need-cast-t22 (chunk-calls t) (list-chunk-at t) list-chunk.Post
-list-chunk-cast-t22 t c = omega (arith, c .own-length .ensures .1)
-
-list-chunk-put-record-requires : (t : ℕ) → list-chunk-lts.Need-put-record-requires (chunk-calls t) (list-chunk-at t) list-chunk.Post
-list-chunk-put-record-requires t c κs =
-    let x = c .before .before .before .before .before .before .before .before .before in
-    let z = chunk-entered t (c .before .before) (x .pre .1 .2 .0) (x .pre .1 .2 .1) (x .pre .1 .2 .2) .counts in
-    (omega arith, room-less refl refl (omega arith) (x .pre .1 .2 .3))
-
 list-chunk-add-from : (t : ℕ) → list-chunk-lts.Need-add-from (chunk-calls t) (list-chunk-at t) list-chunk.Post
 list-chunk-add-from t c = omega arith
 
@@ -132,52 +109,88 @@ list-chunk-add-from-2 t c = omega arith
 list-chunk-add-after : (t : ℕ) → list-chunk-lts.Need-add-after (chunk-calls t) (list-chunk-at t) list-chunk.Post
 list-chunk-add-after t c = omega arith
 
-list-chunk-same-length : (t : ℕ) → list-chunk-lts.Need-same-length (chunk-calls t) (list-chunk-at t) list-chunk.Post
-list-chunk-same-length t c = c .before .before .before .before .before .put-record .kept .0
-
-list-chunk-same-length-2 : (t : ℕ) → list-chunk-lts.Need-same-length-2 (chunk-calls t) (list-chunk-at t) list-chunk.Post
-list-chunk-same-length-2 t c = c .before .before .before .before .before .put-record .kept .1 .0
-
-list-chunk-returns-2 : (t : ℕ) → list-chunk-lts.Need-returns-2 (chunk-calls t) (list-chunk-at t) list-chunk.Post
-list-chunk-returns-2 t c =
-    let x = c .before .before .before .before .before .before .before .before .before .before .before .before .before .before .before in
-    let put = c .before .before .before .before .before .put-record in
-    λ p u l.
-    let e = chunk-entered t (c .before .before .before .before .before .before .before .before) p u l in
-    childless-listed e (lent (x .args .records .now) (x .args .bytes .now)) (x .args .depth) (x .args .parent) (x .args .next) (put .ensures) (c .if2 .taken)
-
 list-chunk-add-list-run : (t : ℕ) → list-chunk-lts.Need-add-list-run (chunk-calls t) (list-chunk-at t) list-chunk.Post
 list-chunk-add-list-run t c = omega arith
 
+list-chunk-add-list-run-2 : (t : ℕ) → list-chunk-lts.Need-add-list-run-2 (chunk-calls t) (list-chunk-at t) list-chunk.Post
+list-chunk-add-list-run-2 t c = omega arith
+
 list-chunk-list-run-requires : (t : ℕ) → list-chunk-lts.Need-list-run-requires (chunk-calls t) (list-chunk-at t) list-chunk.Post
 list-chunk-list-run-requires t c κs =
-    let x = c .before .before .before .before .before .before .before .before .before .before .before .before .before .before .before .before .before in
-    let e = chunk-entered t (c .before .before .before .before .before .before .before .before .before .before) (x .pre .1 .2 .0) (x .pre .1 .2 .1) (x .pre .1 .2 .2) in
+    let x = c .before .before .before .before .before .before .before .before .before .before in
+    let e = chunk-entered t (c .before .before .before) (x .pre .1 .2 .0) (x .pre .1 .2 .1) (x .pre .1 .2 .2) in
     let z = e .counts in
-    let v = c .before .before .before .before .before .before .before .before .before .before .own-length .ensures .1 in
-    let k = c .before .before .before .before .before .before .before .put-record .kept in (
+    let v = c .before .before .before .own-length .ensures .1 in (
       omega arith,
       (
         omega arith,
         record { ends = omega arith; short = omega arith; deep = omega arith; over = omega arith; before = omega arith },
-        (e .around, e .kids, e .laid, room-less (k .0) (k .1 .0) (omega arith) (x .pre .1 .2 .3)),
+        (e .around, e .kids, e .laid, room-less refl refl (omega arith) (x .pre .1 .2 .3)),
         x .pre .1 .3,
       ),
     )
 
-list-chunk-same-length-3 : (t : ℕ) → list-chunk-lts.Need-same-length-3 (chunk-calls t) (list-chunk-at t) list-chunk.Post
-list-chunk-same-length-3 t c = c .before .before .before .before .list-run .kept .1 .1 .0 ∙ c .before .before .before .before .before .before .before .before .before .before .before .before .put-record .kept .0
+-- behind its children, if it has any: their records have been written, and the rows are as long as they were
+chunk-came : {u : Run} (t : ℕ) (c : list-chunk-lts.Joined2 (chunk-calls t) (list-chunk-at t) list-chunk.Post) →
+    let x = c .before .before .before .before .before .before .before .before .args in
+    (e : Entered (x .file .now) (x .at) (x .stop) (c .before .before .before .before .word-at .result) (c .before .own-length .result) u) →
+    Listed (lent (x .records .now) (x .bytes .now)) (x .at + 6 + c .before .own-length .result) (x .depth + 1) (x .next) (x .next + 1) (e .kids) (lent (c .if2 .records) (c .if2 .bytes)) (c .if2 .after)
+chunk-came t c e =
+    let x = c .before .before .before .before .before .before .before .before .args in
+    ⊎-elim
+    (λ w. rw (w .8, w .9, w .10) (w .3 .ensures (e .around) (e .kids) (e .laid)))
+    (λ w. childless e (lent (x .records .now) (x .bytes .now)) (x .depth) (x .parent) (x .next) (omega (arith, w .0 .left)) (rw (w .1, w .2)) (w .3))
+    (c .if2 .came)
 
-list-chunk-same-length-4 : (t : ℕ) → list-chunk-lts.Need-same-length-4 (chunk-calls t) (list-chunk-at t) list-chunk.Post
-list-chunk-same-length-4 t c = c .before .before .before .before .list-run .kept .1 .1 .1 .0 ∙ c .before .before .before .before .before .before .before .before .before .before .before .before .put-record .kept .1 .0
+chunk-kept : (t : ℕ) (c : list-chunk-lts.Joined2 (chunk-calls t) (list-chunk-at t) list-chunk.Post) →
+    let x = c .before .before .before .before .before .before .before .before .args in
+    (length (c .if2 .records) ≡ length (x .records .now)) × (length (c .if2 .bytes) ≡ length (x .bytes .now))
+chunk-kept t c = ⊎-elim (λ w. (ap length (w .8) ∙ w .3 .kept .1 .1 .0, ap length (w .9) ∙ w .3 .kept .1 .1 .1 .0)) (λ w. (ap length (w .1), ap length (w .2))) (c .if2 .came)
 
-list-chunk-returns-3 : (t : ℕ) → list-chunk-lts.Need-returns-3 (chunk-calls t) (list-chunk-at t) list-chunk.Post
-list-chunk-returns-3 t c =
-    let x = c .before .before .before .before .before .before .before .before .before .before .before .before .before .before .before .before .before .before .before .before .before .before in
+list-chunk-cast-t24 : (t : ℕ) → list-chunk-lts.Need-cast-t24 (chunk-calls t) (list-chunk-at t) list-chunk.Post
+list-chunk-cast-t24 t c = omega arith
+
+list-chunk-sub-t16 : (t : ℕ) → list-chunk-lts.Need-sub-t16 (chunk-calls t) (list-chunk-at t) list-chunk.Post
+list-chunk-sub-t16 t c = omega arith
+
+list-chunk-cast-t25 : (t : ℕ) → list-chunk-lts.Need-cast-t25 (chunk-calls t) (list-chunk-at t) list-chunk.Post
+list-chunk-cast-t25 t c = omega arith
+
+list-chunk-cast-t26 : (t : ℕ) → list-chunk-lts.Need-cast-t26 (chunk-calls t) (list-chunk-at t) list-chunk.Post
+list-chunk-cast-t26 t c = omega arith
+
+list-chunk-cast-t27 : (t : ℕ) → list-chunk-lts.Need-cast-t27 (chunk-calls t) (list-chunk-at t) list-chunk.Post
+list-chunk-cast-t27 t c = omega arith
+
+list-chunk-cast-t28 : (t : ℕ) → list-chunk-lts.Need-cast-t28 (chunk-calls t) (list-chunk-at t) list-chunk.Post
+list-chunk-cast-t28 t c = omega (arith, c .before .own-length .ensures .1)
+
+list-chunk-cast-t29 : (t : ℕ) → list-chunk-lts.Need-cast-t29 (chunk-calls t) (list-chunk-at t) list-chunk.Post
+list-chunk-cast-t29 t c =
+    let x = c .before .before .before .before .before .before .before .before .before in
+    let e = chunk-entered t (c .before .before) (x .pre .1 .2 .0) (x .pre .1 .2 .1) (x .pre .1 .2 .2) in
+    omega (arith, chunk-came t (c .before) e .counts, e .fills, count-small (e .kids))
+
+list-chunk-put-record-requires : (t : ℕ) → list-chunk-lts.Need-put-record-requires (chunk-calls t) (list-chunk-at t) list-chunk.Post
+list-chunk-put-record-requires t c κs =
+    let x = c .before .before .before .before .before .before .before .before .before .before .before in
+    let z = chunk-entered t (c .before .before .before .before) (x .pre .1 .2 .0) (x .pre .1 .2 .1) (x .pre .1 .2 .2) .counts in
+    let k = chunk-kept t (c .before .before .before) in
+    (omega arith, room-less (k .0) (k .1) (omega arith) (x .pre .1 .2 .3))
+
+list-chunk-same-length : (t : ℕ) → list-chunk-lts.Need-same-length (chunk-calls t) (list-chunk-at t) list-chunk.Post
+list-chunk-same-length t c = c .before .before .before .before .put-record .kept .0 ∙ chunk-kept t (c .before .before .before .before .before .before .before .before) .0
+
+list-chunk-same-length-2 : (t : ℕ) → list-chunk-lts.Need-same-length-2 (chunk-calls t) (list-chunk-at t) list-chunk.Post
+list-chunk-same-length-2 t c = c .before .before .before .before .put-record .kept .1 .0 ∙ chunk-kept t (c .before .before .before .before .before .before .before .before) .1
+
+list-chunk-returns-2 : (t : ℕ) → list-chunk-lts.Need-returns-2 (chunk-calls t) (list-chunk-at t) list-chunk.Post
+list-chunk-returns-2 t c =
+    let came = c .before .before .before .before .before .before .before .before in
+    let x = came .before .before .before .before .before .before .before .before .args in
     λ p u l.
-    let e = chunk-entered t (c .before .before .before .before .before .before .before .before .before .before .before .before .before .before .before) p u l in
-    entered-listed e (lent (x .args .records .now) (x .args .bytes .now)) (x .args .depth) (x .args .parent) (x .args .next) (c .before .before .before .before .before .before .before .before .before .before .before .before .put-record .ensures)
-    (c .before .before .before .before .list-run .ensures (e .around) (e .kids) (e .laid))
+    let e = chunk-entered t (came .before) p u l in
+    entered-listed e (lent (x .records .now) (x .bytes .now)) (x .depth) (x .parent) (x .next) (chunk-came t came e) (c .before .before .before .before .put-record .ensures)
 
 -- ---- a run
 
@@ -299,24 +312,23 @@ pub +list-chunk+list-run-spec : {M : Type 1} → statement M
     (list-chunk-returns t)
     (list-chunk-add-own-length t)
     (list-chunk-own-length-requires t)
-    (list-chunk-cast-t18 t)
-    (list-chunk-sub-t16 t)
-    (list-chunk-cast-t19 t)
-    (list-chunk-cast-t20 t)
-    (list-chunk-cast-t21 t)
-    (list-chunk-cast-t22 t)
-    (list-chunk-put-record-requires t)
     (list-chunk-add-from t)
     (list-chunk-add-from-2 t)
     (list-chunk-add-after t)
+    (list-chunk-add-list-run t)
+    (list-chunk-add-list-run-2 t)
+    (list-chunk-list-run-requires t)
+    (list-chunk-cast-t24 t)
+    (list-chunk-sub-t16 t)
+    (list-chunk-cast-t25 t)
+    (list-chunk-cast-t26 t)
+    (list-chunk-cast-t27 t)
+    (list-chunk-cast-t28 t)
+    (list-chunk-cast-t29 t)
+    (list-chunk-put-record-requires t)
     (list-chunk-same-length t)
     (list-chunk-same-length-2 t)
-    (list-chunk-returns-2 t)
-    (list-chunk-add-list-run t)
-    (list-chunk-list-run-requires t)
-    (list-chunk-same-length-3 t)
-    (list-chunk-same-length-4 t)
-    (list-chunk-returns-3 t))
+    (list-chunk-returns-2 t))
     λ t. list-run-lts.spec
     (run-calls t)
     (list-run-at t)

@@ -7,7 +7,7 @@ use lib.Seq.{slice}
 use borrow.Author.Tests.{not-true, not-false}
 use Rattle.shared_words.specs.Bytes.{le}
 use Rattle.studio_own_size.specs.declared.Own.{Own}
-use Rattle.studio_own_data.proofs.Conditions.{some-around, judge-no-name, judge-too-long}
+use Rattle.studio_own_data.proofs.Conditions.{some-around, judge-no-name, judge-unfit, judge-too-long}
 use Rattle.studio_own_data.proofs.Sized.{own-of-row, sized, own-ends, exact, is-left-over, has-bad-number, has-bad-index, is-fine}
 use Rattle.studio_own_data.proofs.judge_any.Statement.{statement}
 use Rattle.studio_own_data.proofs.judge_any.Tie as tie
@@ -23,6 +23,9 @@ enum-told c = search needs
 
 enum-told-2 : tie.Need-enum-told-2
 enum-told-2 c = search needs
+
+enum-told-3 : tie.Need-enum-told-3
+enum-told-3 c = search needs
 
 enum-known-size : tie.Need-enum-known-size
 enum-known-size c = search needs
@@ -101,11 +104,18 @@ returns-5 : tie.Need-returns-5
 returns-5 c = λ p h.
     let x = c .before .before .before .before in
     let w = c .before .before .own-size in
-    judge-too-long p (x .args .at) (x .args .id) (slice (x .args .at + 6) (x .args .stop) (x .args .file .now))
-    (own-of-row (x .args .id) (x .args .row) (x .pre .3) (x .pre .4) (p .own) _ (w .result) (w .ensures (p .own) h) Own.TooLong (c .enum-told2 .given .1))
+    let own = own-of-row (x .args .id) (x .args .row) (x .pre .3) (x .pre .4) (p .own) _ (w .result) (w .ensures (p .own) h) Own.Unfit (c .enum-told2 .given .1) in
+    judge-unfit p (x .args .at) (x .args .id) (slice (x .args .at + 6) (x .args .stop) (x .args .file .now)) (own .0) (own .1)
 
 returns-6 : tie.Need-returns-6
 returns-6 c = λ p h.
+    let x = c .before .before .before .before in
+    let w = c .before .before .own-size in
+    let own = own-of-row (x .args .id) (x .args .row) (x .pre .3) (x .pre .4) (p .own) _ (w .result) (w .ensures (p .own) h) Own.TooLong (c .enum-told3 .given .1) in
+    judge-too-long p (x .args .at) (x .args .id) (slice (x .args .at + 6) (x .args .stop) (x .args .file .now)) (own .0) (own .1)
+
+returns-7 : tie.Need-returns-7
+returns-7 c = λ p h.
     let x = c .before .before .before .before .before .before .before .before .before .before .before in
     let g = c .before .before .before .before .before .before .before .size .given in
     let w = c .before .before .before .before .before .before .before .before .before .own-size in
@@ -122,6 +132,7 @@ judge-any-spec =
     own-size-requires
     enum-told
     enum-told-2
+    enum-told-3
     enum-known-size
     add-from
     add-from-2
@@ -135,4 +146,5 @@ judge-any-spec =
     returns-3
     returns-4
     returns-5
-    returns-6)
+    returns-6
+    returns-7)

@@ -1,31 +1,49 @@
 -- The name, then the count word behind it, then the size that both give.
-use mathlib.Core.Path.{refl}
+use mathlib.Core.Path.{subst}
 use native.Mathlib.Omega.{arith}
 use borrow.Author.Needs.{needs}
-use Rattle.studio_rules.specs.Table.{named-words}
-use Rattle.studio_own_size.proofs.Sizes.{no-name, words-short, words-is}
+use mathlib.Core.List.{[]}
+use lib.Seq.{slice, length-slice}
+use Rattle.studio_rules.specs.Table.{name, named-words}
+use Rattle.studio_own_size.specs.declared.Own.{Own}
+use Rattle.studio_own_size.specs.Own.{FitIs}
+use Rattle.studio_own_size.proofs.Sizes.{name-fine, name-of-words, words-short, words-is}
 use Rattle.studio_own_size.proofs.named_words_size.Statement.{statement}
 use Rattle.studio_own_size.proofs.named_words_size.Tie as tie
 
-name-size-requires : tie.Need-name-size-requires
-name-size-requires c κs = search needs
+label-size-requires : tie.Need-label-size-requires
+label-size-requires c κs = search needs
+
+enum-told : tie.Need-enum-told
+enum-told c = search needs
+
+enum-told-2 : tie.Need-enum-told-2
+enum-told-2 c = search needs
+
+enum-told-3 : tie.Need-enum-told-3
+enum-told-3 c = search needs
+
+enum-known-size : tie.Need-enum-known-size
+enum-known-size c = search needs
 
 sub-room : tie.Need-sub-room
 sub-room c = search needs
 
+add-if1 : tie.Need-add-if1
+add-if1 c =
+    let a = c .before .before .before .before .before .args in
+    let w = c .before .before .before .label-size in
+    let body = slice (a .at) (a .stop) (a .file .now) in
+    let f = subst (FitIs name [] body) (c .before .size .given .1) (w .ensures) in
+    omega (arith, f .1 .within, length-slice (a .at) (a .stop) (a .file .now) (omega arith))
+
 returns : tie.Need-returns
 returns c =
-    let a = c .before .before .before .args in
-    no-name (a .file .now) (a .at) (a .stop) (omega arith) (omega arith) named-words refl (c .before .name-size .result) (c .before .name-size .ensures) (omega arith)
-
-add-if2 : tie.Need-add-if2
-add-if2 c = search needs
-
-returns-2 : tie.Need-returns-2
-returns-2 c =
-    let a = c .before .before .before .before .args in
-    let n = c .before .before .name-size in
-    words-short (a .file .now) (a .at) (a .stop) (omega arith) (omega arith) (n .result) (n .ensures) (omega arith) (omega arith)
+    let a = c .before .before .before .before .before .before .args in
+    let w = c .before .before .before .before .label-size in
+    let body = slice (a .at) (a .stop) (a .file .now) in
+    let f = subst (FitIs name [] body) (c .before .before .size .given .1) (w .ensures) in
+    (f .0, words-short (a .file .now) (a .at) (a .stop) (omega arith) (omega arith) _ (f .1 .is) (omega (arith, f .1 .within, length-slice (a .at) (a .stop) (a .file .now) (omega arith))) (omega arith))
 
 add-fitting : tie.Need-add-fitting
 add-fitting c = search needs
@@ -48,21 +66,50 @@ add-fitting-2 c = search needs
 fitting-requires : tie.Need-fitting-requires
 fitting-requires c κs = search needs
 
+returns-2 : tie.Need-returns-2
+returns-2 c =
+    let a = c .before .before .before .before .args in
+    let w = c .before .before .label-size in
+    let body = slice (a .at) (a .stop) (a .file .now) in
+    name-of-words body Own.NoName (subst (FitIs name [] body) (c .enum-told .given .1) (w .ensures)) tt
+
 returns-3 : tie.Need-returns-3
 returns-3 c =
-    let a = c .before .before .before .before .before .before .args in
-    let n = c .before .before .before .before .name-size in
-    words-is (a .file .now) (a .at) (a .stop) (omega arith) (omega arith) (n .result) (n .ensures) (omega arith) (c .before .word-at .result) (omega arith) (c .before .word-at .ensures .is) (c .fitting .result) (c .fitting .ensures)
+    let a = c .before .before .before .before .args in
+    let w = c .before .before .label-size in
+    let body = slice (a .at) (a .stop) (a .file .now) in
+    name-of-words body Own.Unfit (subst (FitIs name [] body) (c .enum-told2 .given .1) (w .ensures)) tt
+
+returns-4 : tie.Need-returns-4
+returns-4 c =
+    let a = c .before .before .before .before .args in
+    let w = c .before .before .label-size in
+    let body = slice (a .at) (a .stop) (a .file .now) in
+    name-of-words body Own.TooLong (subst (FitIs name [] body) (c .enum-told3 .given .1) (w .ensures)) tt
+
+returns-5 : tie.Need-returns-5
+returns-5 c =
+    let a = c .before .before .before .before .before .before .before .before .args in
+    let w = c .before .before .before .before .before .before .label-size in
+    let body = slice (a .at) (a .stop) (a .file .now) in
+    let f = subst (FitIs name [] body) (c .before .before .before .before .size .given .1) (w .ensures) in
+    let l = length-slice (a .at) (a .stop) (a .file .now) (omega arith) in
+    name-fine named-words [] body (f .0) (c .fitting .result)
+    (words-is (a .file .now) (a .at) (a .stop) (omega arith) (omega arith) _ (f .1 .is) (omega (arith, f .1 .within, l)) (c .before .word-at .result) (omega arith) (c .before .word-at .ensures .is)
+    (c .fitting .result) (c .fitting .ensures))
 
 pub named-words-size-spec : {M : Type 1} → statement M
 named-words-size-spec =
     tie.close
     (tie.spec
-    name-size-requires
+    label-size-requires
+    enum-told
+    enum-told-2
+    enum-told-3
+    enum-known-size
     sub-room
+    add-if1
     returns
-    add-if2
-    returns-2
     add-fitting
     add-word-at
     word-at-requires
@@ -70,4 +117,7 @@ named-words-size-spec =
     mul-fitting
     add-fitting-2
     fitting-requires
-    returns-3)
+    returns-2
+    returns-3
+    returns-4
+    returns-5)

@@ -2,10 +2,11 @@
 use mathlib.Core.Path.{refl, sym, _∙_}
 use native.Mathlib.Omega.{arith}
 use borrow.Author.Needs.{needs}
-use Rattle.studio_rules.specs.Table.{name, counted, named-words}
+use Rattle.studio_rules.specs.Table.{fixed, name, counted, each, named-words}
 use Rattle.studio_row.specs.Packed.{sizeIn}
+use mathlib.Core.List.{[]}
 use lib.Seq.{slice}
-use Rattle.studio_own_size.proofs.Sizes.{product-small, fixed-is, each-is, kind-fixed, kind-name, kind-counted, kind-each, kind-words, around-any}
+use Rattle.studio_own_size.proofs.Sizes.{product-small, fixed-is, each-is, kind-fixed, kind-name, kind-counted, kind-each, kind-words, name-fine, fit-any}
 use Rattle.studio_own_size.proofs.own_size.Statement.{statement}
 use Rattle.studio_own_size.proofs.own_size.Tie as tie
 
@@ -21,8 +22,8 @@ sub-fitting c = search needs
 fitting-requires : tie.Need-fitting-requires
 fitting-requires c κs = search needs
 
-name-size-requires : tie.Need-name-size-requires
-name-size-requires c κs = search needs
+label-size-requires : tie.Need-label-size-requires
+label-size-requires c κs = search needs
 
 size-requires-2 : tie.Need-size-requires-2
 size-requires-2 c κs = search needs
@@ -50,27 +51,30 @@ returns c = λ around h.
     let a = c .before .before .before .before .before .args in
     let z = c .before .size .ensures .is in
     rw (kind-fixed (a .row) (sym (c .before .before .before .kind .ensures) ∙ c .before .before .match .keys1))
-    (fixed-is (a .file .now) (a .at) (a .stop) (omega arith) (omega arith) (sizeIn (a .row)) around (c .fitting .result) (rw z at (c .fitting .ensures)))
+    (name-fine (fixed (sizeIn (a .row))) around (slice (a .at) (a .stop) (a .file .now)) refl (c .fitting .result)
+    (fixed-is (a .file .now) (a .at) (a .stop) (omega arith) (omega arith) (sizeIn (a .row)) around (c .fitting .result) (rw z at (c .fitting .ensures))))
 
 returns-2 : tie.Need-returns-2
 returns-2 c = λ around h.
     let a = c .before .before .before .before .args in
     rw (kind-name (a .row) (sym (c .before .before .kind .ensures) ∙ c .before .match .keys2))
-    (around-any name (λ x y body. refl) around (slice (a .at) (a .stop) (a .file .now)) (c .name-size .result) (c .name-size .ensures))
+    (fit-any name (λ x y body. refl) around (slice (a .at) (a .stop) (a .file .now)) (c .label-size .result) (c .label-size .ensures))
 
 returns-3 : tie.Need-returns-3
 returns-3 c = λ around h.
     let a = c .before .before .before .before .before .args in
     let z = c .before .size2 .ensures .is in
     rw (kind-counted (a .row) (sym (c .before .before .before .kind .ensures) ∙ c .before .before .match .keys3))
-    (around-any (counted (sizeIn (a .row))) (λ x y body. refl) around (slice (a .at) (a .stop) (a .file .now)) (c .counted-size .result) (rw z at (c .counted-size .ensures)))
+    (fit-any (counted (sizeIn (a .row))) (λ x y body. refl) around (slice (a .at) (a .stop) (a .file .now)) (c .counted-size .result)
+    (name-fine (counted (sizeIn (a .row))) [] (slice (a .at) (a .stop) (a .file .now)) refl (c .counted-size .result) (rw z at (c .counted-size .ensures))))
 
 returns-4 : tie.Need-returns-4
 returns-4 c = λ around h.
     let a = c .before .before .before .before .before .args in
     let z = c .before .size3 .ensures .is in
     rw (kind-each (a .row) (sym (c .before .before .before .kind .ensures) ∙ c .before .before .match .keys4))
-    (each-is (a .file .now) (a .at) (a .stop) (omega arith) (omega arith) (sizeIn (a .row)) (a .count) around h (c .fitting2 .result) (rw z at (c .fitting2 .ensures)))
+    (name-fine (each (sizeIn (a .row))) around (slice (a .at) (a .stop) (a .file .now)) refl (c .fitting2 .result)
+    (each-is (a .file .now) (a .at) (a .stop) (omega arith) (omega arith) (sizeIn (a .row)) (a .count) around h (c .fitting2 .result) (rw z at (c .fitting2 .ensures))))
 
 returns-5 : tie.Need-returns-5
 returns-5 c = λ around h.
@@ -78,7 +82,7 @@ returns-5 c = λ around h.
     let k = c .before .before .kind .ensures in
     let out = c .before .match .rest in
     rw (kind-words (a .row) (λ e. out .0 .0 .0 .1 (k ∙ e)) (λ e. out .0 .0 .1 (k ∙ e)) (λ e. out .0 .1 (k ∙ e)) (λ e. out .1 (k ∙ e)))
-    (around-any named-words (λ x y body. refl) around (slice (a .at) (a .stop) (a .file .now)) (c .named-words-size .result) (c .named-words-size .ensures))
+    (fit-any named-words (λ x y body. refl) around (slice (a .at) (a .stop) (a .file .now)) (c .named-words-size .result) (c .named-words-size .ensures))
 
 pub own-size-spec : {M : Type 1} → statement M
 own-size-spec =
@@ -88,7 +92,7 @@ own-size-spec =
     size-requires
     sub-fitting
     fitting-requires
-    name-size-requires
+    label-size-requires
     size-requires-2
     counted-size-requires
     size-requires-3

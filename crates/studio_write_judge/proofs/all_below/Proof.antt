@@ -6,7 +6,7 @@ use mathlib.Core.Logic.{⊎-elim}
 use lib.Dec.{ltb}
 use lib.ListN.{length, getD}
 use borrow.Author.Tests.{lt-ltb, le-ltb}
-use Rattle.studio_write_judge.proofs.FirstFault.{Told, told-none, told-good, told-bad, told-all}
+use Rattle.shared_words.proofs.FirstFault.{Told, told-none, told-good, told-bad, told-all}
 use Rattle.studio_write_judge.proofs.all_below.Statement.{statement}
 use Rattle.studio_write_judge.proofs.all_below.Tie as tie
 

@@ -8,7 +8,7 @@ use lib.ListN.{length}
 use borrow.Author.Needs.{needs}
 use borrow.Author.Tests.{not-true, not-false}
 use Rattle.studio_write_judge.specs.Judged.{finiteFloat}
-use Rattle.studio_write_judge.proofs.FirstFault.{Told, told-none, told-good, told-bad, told-all}
+use Rattle.shared_words.proofs.FirstFault.{Told, told-none, told-good, told-bad, told-all}
 use Rattle.studio_write_judge.proofs.all_finite.Statement.{statement}
 use Rattle.studio_write_judge.proofs.all_finite.Tie as tie
 

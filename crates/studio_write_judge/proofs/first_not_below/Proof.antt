@@ -5,7 +5,7 @@ use mathlib.Core.Bool.{Bool}
 use lib.Dec.{ltb}
 use lib.ListN.{length, getD}
 use borrow.Author.Tests.{lt-ltb, le-ltb}
-use Rattle.studio_write_judge.proofs.FirstFault.{Passed, passed-none, passed-more, found, all-passed}
+use Rattle.shared_words.proofs.FirstFault.{Passed, passed-none, passed-more, found, all-passed}
 use Rattle.studio_write_judge.proofs.first_not_below.Statement.{statement}
 use Rattle.studio_write_judge.proofs.first_not_below.Tie as tie
 

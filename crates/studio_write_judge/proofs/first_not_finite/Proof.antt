@@ -7,7 +7,7 @@ use lib.ListN.{length}
 use borrow.Author.Needs.{needs}
 use borrow.Author.Tests.{not-true, not-false}
 use Rattle.studio_write_judge.specs.Judged.{finiteFloat}
-use Rattle.studio_write_judge.proofs.FirstFault.{Passed, passed-none, passed-more, found, all-passed}
+use Rattle.shared_words.proofs.FirstFault.{Passed, passed-none, passed-more, found, all-passed}
 use Rattle.studio_write_judge.proofs.first_not_finite.Statement.{statement}
 use Rattle.studio_write_judge.proofs.first_not_finite.Tie as tie
 

@@ -4,7 +4,7 @@ use native.Mathlib.Omega.{arith}
 use lib.ListN.{length}
 use borrow.Author.Tests.{eq-eqb, ne-eqb}
 use Rattle.studio_write_judge.specs.Judged.{notZero}
-use Rattle.studio_write_judge.proofs.FirstFault.{Passed, passed-none, passed-more, found, all-passed}
+use Rattle.shared_words.proofs.FirstFault.{Passed, passed-none, passed-more, found, all-passed}
 use Rattle.studio_write_judge.proofs.first_zero.Statement.{statement}
 use Rattle.studio_write_judge.proofs.first_zero.Tie as tie
 

@@ -1,15 +1,14 @@
 -- Looking for the first fault of a row, by a loop: one law for every kind of row and test.
 -- What the loop has passed holds no fault, so that the first fault is the first of what is left.
 use mathlib.Core.Path.{_≡_, refl, sym, ap, _∙_}
-use Prim.Native.Nat.{ℕ, suc, _+_, _<_, _≤_}
+use Prim.Native.Nat.{ℕ, zero, suc, _+_, _<_, _≤_, min}
 use native.Mathlib.Numerals.{add-one}
 use native.Mathlib.Omega.{arith}
 use mathlib.Core.Bool.{Bool, true, false, _&&_, cond}
 use mathlib.Core.List.{List, [], _∷_}
-use lib.ListN.{length, drop, getD, drop-of-length-le}
+use lib.ListN.{length, take, drop, getD, drop-of-length-le}
 use lib.Seq.{drop-cons}
-use Rattle.shared_words.specs.Lists.{every}
-use Rattle.studio_write_judge.specs.Judged.{firstFault}
+use Rattle.shared_words.specs.Lists.{every, firstFault}
 
 -- the elements before i pass the test
 abbrev pub Passed : {A : Type 0} → (A → Bool) → List A → ℕ → Type 0
@@ -57,6 +56,28 @@ module _ {A : Type 0} (good : A → Bool) where
       go : (b : Bool) → (firstFault good xs < length xs → every good xs ≡ false) → cond b (suc (firstFault good xs)) 0 < suc (length xs) → (b && every good xs) ≡ false
       go true ih h = ih (omega arith)
       go false ih h = refl
+
+-- ---- where the first fault is
+
+module _ {A : Type 0} (good : A → Bool) where
+  pub fault-within : (xs : List A) → firstFault good xs ≤ length xs
+  fault-within [] = omega arith
+  fault-within (x ∷ xs) = go (good x) (fault-within xs)
+    where
+      go : (b : Bool) → firstFault good xs ≤ length xs → cond b (suc (firstFault good xs)) 0 ≤ suc (length xs)
+      go true ih = omega arith
+      go false ih = omega arith
+
+  -- of the first n elements
+  pub fault-take : (n : ℕ) (xs : List A) → firstFault good (take n xs) ≡ min (firstFault good xs) n
+  fault-take zero xs = omega arith
+  fault-take (suc n) [] = omega arith
+  fault-take (suc n) (x ∷ xs) = go (good x) (fault-take n xs)
+    where
+      go : (b : Bool) → firstFault good (take n xs) ≡ min (firstFault good xs) n →
+          cond b (suc (firstFault good (take n xs))) 0 ≡ min (cond b (suc (firstFault good xs)) 0) (suc n)
+      go true ih = omega arith
+      go false ih = omega arith
 
 -- ---- whether each passes, by a loop that goes on past a fault
 

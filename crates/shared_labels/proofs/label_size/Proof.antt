@@ -1,0 +1,49 @@
+-- Up to 63 bytes are all looked at; of more the first 63.
+use mathlib.Core.Path.{sym, ap, _∙_}
+use mathlib.Core.List.{List}
+use Prim.Native.Nat.{ℕ}
+use native.Mathlib.Omega.{arith}
+use borrow.Author.Needs.{needs}
+use lib.Seq.{slice, length-slice}
+use Rattle.shared_words.specs.Lists.{firstFault}
+use Rattle.shared_words.specs.Labels.{printable}
+use Rattle.shared_words.proofs.FirstFault.{fault-within, fault-take}
+use Rattle.shared_numbers.proofs.Slices.{take-slice}
+use Rattle.shared_labels.proofs.label_size.Statement.{statement}
+use Rattle.shared_labels.proofs.label_size.Tie as tie
+
+sub-if1 : tie.Need-sub-if1
+sub-if1 c = search needs
+
+printable-size-requires : tie.Need-printable-size-requires
+printable-size-requires c κs = search needs
+
+returns : tie.Need-returns
+returns c =
+    let a = c .before .before .before .args in
+    let t = slice (a .at) (a .end) (a .s .now) in
+    omega (arith, c .printable-size .ensures, fault-within printable t, length-slice (a .at) (a .end) (a .s .now) (omega arith))
+
+add-printable-size : tie.Need-add-printable-size
+add-printable-size c = search needs
+
+printable-size-requires-2 : tie.Need-printable-size-requires-2
+printable-size-requires-2 c κs = search needs
+
+returns-2 : tie.Need-returns-2
+returns-2 c =
+    let a = c .before .before .before .args in
+    let t = slice (a .at) (a .end) (a .s .now) in
+    c .printable-size2 .ensures ∙
+    ap (firstFault printable) (sym (take-slice 63 (a .at) (a .end) (a .s .now) (omega arith))) ∙ fault-take printable 63 t
+
+pub label-size-spec : {M : Type 1} → statement M
+label-size-spec =
+    tie.close
+    (tie.spec
+    sub-if1
+    printable-size-requires
+    returns
+    add-printable-size
+    printable-size-requires-2
+    returns-2)

@@ -1,0 +1,73 @@
+/*
+ * tds_words.h - the refusals of tds.h in words, for a program that tells its user why a figure is
+ * not shown. Both functions take any number, TDS_REFUSAL(answer) for instance, and answer a string
+ * that stays. All numbers have their words, those too that only calls of later versions answer.
+ *
+ *     fprintf(stderr, "not shown: %s, at byte %lu\n", tds_refusal_words(TDS_REFUSAL(answer)),
+ *             (unsigned long)TDS_PLACE(answer));
+ */
+#ifndef TDS_WORDS_H
+#define TDS_WORDS_H
+
+#include "tds.h"
+
+/* All numbers from 1 up to this are refusals. */
+#define TDS_LAST_REFUSAL 30
+
+#ifdef __cplusplus
+extern "C" {
+#endif
+
+/* Name and words of each refusal, by its number. */
+TDS_INLINE const char *const *tds_refusal_texts(int refusal) {
+    static const char *const texts[TDS_LAST_REFUSAL + 1][2] = {
+        /* 0 */ {"UNKNOWN", "no refusal has this number"},
+        /* 1 */ {"TOO LONG", "the file is longer than a figure may be (1,048,576 bytes)"},
+        /* 2 */ {"NOT A FIGURE", "the file does not begin as a figure does"},
+        /* 3 */ {"TRAILING", "bytes are left over behind the end of the figure"},
+        /* 4 */ {"SHORT", "a length is too small to be true"},
+        /* 5 */ {"OVERRUN", "a length runs past the end of the chunk around it"},
+        /* 6 */ {"STRAY", "a few bytes are left over where a chunk would begin"},
+        /* 7 */ {"MISPLACED", "a chunk stands where it may not stand"},
+        /* 8 */ {"TWICE", "a chunk is there twice that may be there only once"},
+        /* 9 */ {"NAME", "a name has no end"},
+        /* 10 */ {"LENGTH", "a chunk is too long or too short for what it holds"},
+        /* 11 */ {"NUMBER", "a coordinate is infinite or not a number"},
+        /* 12 */ {"INDEX", "a corner or a face is named that does not exist"},
+        /* 13 */ {"COUNT", "the mapping coordinates do not fit the number of vertices"},
+        /* 14 */ {"MISSING", "a part that must be there is missing from this chunk"},
+        /* 15 */ {"NO ROOM", "the room lent to the reader is too small"},
+        /* 16 */ {"NO SUCH MESH", "the figure has no mesh of this number"},
+        /* 17 */ {"EMPTY", "the mesh has no vertices, so there is no box around it"},
+        /* 18 */ {"SLIP", "the slip breaks the rules of slips"},
+        /* 19 */ {"DIFFERS", "a file is not the one that the slip speaks of"},
+        /* 20 */ {"HEADER", "the file does not begin as a Caligari figure does"},
+        /* 21 */ {"OWNER", "the number of a chunk is bad, or of the one that it hangs on"},
+        /* 22 */ {"SIZE", "a size is negative that may not be"},
+        /* 23 */ {"FATHER", "a part hangs on none that stands before it"},
+        /* 24 */ {"TEXT", "a name does not fit on the label (63 plain characters)"},
+        /* 25 */ {"FORM", "the file does not begin as a Cinema 4D figure does"},
+        /* 26 */ {"ORDER", "chunks are out of order, are there twice or have no end"},
+        /* 27 */ {"COMBINATION", "an object is made of parts that do not go together"},
+        /* 28 */ {"MATERIAL", "a texture names a material that does not exist"},
+        /* 29 */ {"SAME NAME", "two objects, or two materials, have the same name"},
+        /* 30 */ {"NO MATERIAL", "a group of faces names a material that is not there"},
+    };
+    return texts[refusal >= 1 && refusal <= TDS_LAST_REFUSAL ? refusal : 0];
+}
+
+/* The short name of a refusal, in capitals: "OVERRUN". Of another number: "UNKNOWN". */
+TDS_INLINE const char *tds_refusal_name(int refusal) {
+    return tds_refusal_texts(refusal)[0];
+}
+
+/* What is wrong, in a few plain words, without a full stop. */
+TDS_INLINE const char *tds_refusal_words(int refusal) {
+    return tds_refusal_texts(refusal)[1];
+}
+
+#ifdef __cplusplus
+}
+#endif
+
+#endif

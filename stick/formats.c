@@ -1,0 +1,55 @@
+/* The formats of figures: the one table of them. A reader for another one is a call in its row. */
+#include "formats.h"
+
+#include <stdbool.h>
+#include <string.h>
+#include <strings.h>
+
+#include "tds.h"
+
+static const struct format formats[] = {
+    {".3ds", tds_check, "chunk", "chunks"},
+    {".cob", NULL, "chunk", "chunks"},
+    {".c4d", NULL, "object", "objects"},
+};
+enum { FORMATS = sizeof formats / sizeof formats[0] };
+
+const struct format *studio_format(void) {
+    return &formats[0];
+}
+
+/* The length of a name without the slashes that may stand behind that of a folder. */
+static size_t length_of(const char *name) {
+    return strcspn(name, "/");
+}
+
+const struct format *format_of(const char *name) {
+    size_t length = length_of(name);
+    for (size_t i = 0; i < FORMATS; i++) {
+        size_t ending = strlen(formats[i].ending);
+        if (length >= ending &&
+            strncasecmp(name + length - ending, formats[i].ending, ending) == 0) {
+            return &formats[i];
+        }
+    }
+    return NULL;
+}
+
+static bool holds(const char *name, const char *ending) {
+    size_t length = strlen(ending);
+    for (; *name != '\0'; name++) {
+        if (strncasecmp(name, ending, length) == 0) {
+            return true;
+        }
+    }
+    return false;
+}
+
+const struct format *format_near(const char *name) {
+    for (size_t i = 0; i < FORMATS; i++) {
+        if (holds(name, formats[i].ending)) {
+            return &formats[i];
+        }
+    }
+    return NULL;
+}

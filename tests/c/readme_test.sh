@@ -1,0 +1,52 @@
+#!/bin/sh
+# What README shows of the bench tool is what it prints; what the pages point to and name is there.
+# shellcheck source=tests/c/common.sh
+. tests/c/common.sh
+
+# As it is read: times are another each time.
+plain() {
+    sed -E 's/in [0-9]+\.[0-9] seconds/in N seconds/'
+}
+# Each command of the tool in README, and the lines below it.
+sed -n '/^    \$ build\/stick /,/^$/p' README.md >"$T/shown"
+if [ "$(grep -c '^    \$ ' "$T/shown")" -ge 2 ]; then pass; else fail 'README shows no commands'; fi
+while IFS= read -r line; do
+    case $line in
+    '    $ build/stick '*)
+        try "README: ${line#    }"
+        # the words behind are folders of the repository
+        # shellcheck disable=SC2086
+        "$BUILD/stick" ${line#'    $ build/stick '} 2>&1 | plain >"$T/out"
+        : >"$T/err"
+        ;;
+    '' | '    …') ;;
+    *)
+        echo "${line#    }" | plain >"$T/line"
+        if grep -qxF -f "$T/line" "$T/out"; then pass; else fail "it does not print: $(cat "$T/line")"; fi
+        ;;
+    esac
+done <"$T/shown"
+
+try 'what the pages point to'
+for page in README.md CONTRIBUTING.md docs/*.md docs/landings/*.md samples/README.md second/README.md; do
+    # shellcheck disable=SC2016
+    sed 's/`[^`]*`//g' "$page" | grep -o '](\([^)]*\))' | sed 's/^](//; s/)$//; s/#.*//' | grep -v '^http' | sort -u | while read -r link; do
+        if [ -n "$link" ] && ! [ -e "$(dirname "$page")/$link" ]; then echo "$page: $link"; fi
+    done
+done >"$T/lost"
+if [ -s "$T/lost" ]; then fail "$(cat "$T/lost")"; else pass; fi
+try 'the definitions that FORMAT.md names'
+cat crates/*/specs/*.antt | grep -oE "[A-Za-z][A-Za-z0-9'-]*" | sort -u >"$T/words"
+# shellcheck disable=SC2016
+grep -v '^    ' docs/FORMAT.md | grep -oE '`[A-Za-z][A-Za-z]{3,}`' | tr -d '`' | sort -u >"$T/named"
+printf '%s\n' crates/* | sed 's/.*\///' >"$T/crates"
+if [ "$(wc -l <"$T/named")" -ge 40 ]; then pass; else fail 'it names none'; fi
+sort -u "$T/words" "$T/crates" | comm -23 "$T/named" - | grep -vx -e refused >"$T/lost"
+if [ -s "$T/lost" ]; then fail "not in any specs: $(tr '\n' ' ' <"$T/lost")"; else pass; fi
+try 'the chunks of the table are those of FORMAT.md'
+grep -oE '0x[0-9A-F]{4}\b' crates/studio_rules/specs/Table.antt | sed 's/0x//' | sort -u >"$T/chunks"
+if [ "$(wc -l <"$T/chunks")" -ge 43 ]; then pass; else fail 'the table has none'; fi
+while read -r chunk; do
+    if grep -qw -e "$chunk" docs/FORMAT.md; then pass; else fail "not $chunk"; fi
+done <"$T/chunks"
+finish readme_test
