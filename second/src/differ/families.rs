@@ -10,7 +10,7 @@ use super::lent::Difference;
 use super::node::Node;
 use super::random::Random;
 use super::writing::Writing;
-use super::{damage, harm, long, parts, rescues, rows, versions};
+use super::{damage, harm, long, parts, rescues, rows, swaps, versions};
 use crate::boundary::Boundary;
 use crate::{row, LIMIT};
 
@@ -26,6 +26,7 @@ pub enum Family {
     Rescues,
     Damage,
     Gaps,
+    Swaps,
     Boxes,
     Soup,
     Noise,
@@ -35,7 +36,7 @@ pub enum Family {
 }
 
 /// Each family, its share of all cases in ten thousand, and what it is.
-pub const FAMILIES: [(Family, u64, &str); 15] = [
+pub const FAMILIES: [(Family, u64, &str); 16] = [
     (Family::Grown, 1_700, "valid figures"),
     (Family::Rows, 1_500, "each row in each place"),
     (Family::Faults, 2_000, "each two faults at one chunk"),
@@ -45,6 +46,7 @@ pub const FAMILIES: [(Family, u64, &str); 15] = [
     (Family::Rescues, 800, "several faults at once"),
     (Family::Damage, 1_800, "bits, lengths, bytes damaged"),
     (Family::Gaps, 700, "private chunks in gaps"),
+    (Family::Swaps, 300, "neighbours in the 3D3D exchanged"),
     (Family::Boxes, 300, "boxes of floats of note"),
     (Family::Soup, 1_200, "legal parents, all else free"),
     (Family::Noise, 277, "bytes of no sense"),
@@ -64,7 +66,7 @@ pub enum Subject {
 pub fn make(family: Family, index: u64, random: &mut Random) -> Subject {
     let spread = |cases: usize| (index.wrapping_mul(1_000_003) % cases as u64) as usize;
     let file = match family {
-        Family::Grown | Family::Gaps => figure(random, Fill::Some).bytes(),
+        Family::Grown | Family::Gaps | Family::Swaps => figure(random, Fill::Some).bytes(),
         Family::Rows => rows::tried(spread(rows::CASES), random).bytes(),
         Family::Faults => faulty(spread(harm::CASES), random),
         Family::Names => harm::misnamed(random).bytes(),
@@ -99,6 +101,7 @@ pub fn judge<L: Boundary, R: Boundary>(
             let file = &lent[shift..shift + file.len()];
             match family {
                 Family::Gaps => gap(file, random, pair),
+                Family::Swaps => swap(file, random, pair),
                 _ => pair.whole(file, random),
             }
         }
@@ -129,6 +132,25 @@ fn gap<L: Boundary, R: Boundary>(
     tried.judge(&pair.left, "left")?;
     tried.judge(&pair.right, "right")?;
     pair.ask(&tried.after, Call::Check)
+}
+
+/// Neighbours in the 3D3D exchanged, one pair after the other, judged on both
+/// sides.
+fn swap<L: Boundary, R: Boundary>(
+    file: &[u8],
+    random: &mut Random,
+    pair: &mut Pair<L, R>,
+) -> Result<u64, Difference> {
+    let mut file = file.to_vec();
+    for _ in 0..random.from_to(1, 4) {
+        let Some(tried) = swaps::prepare(&pair.left, &file, random) else {
+            break;
+        };
+        tried.judge(&pair.left, "left")?;
+        tried.judge(&pair.right, "right")?;
+        file = tried.after;
+    }
+    pair.ask(&file, Call::Check)
 }
 
 /// A figure with faults put in on purpose, or with the file's own faults.

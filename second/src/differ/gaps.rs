@@ -57,7 +57,7 @@ impl Try {
 }
 
 /// The spots of a known chunk: behind its own data and behind each child.
-fn spots(file: &[u8], record: &[u32; RECORD]) -> Vec<usize> {
+pub fn spots(file: &[u8], record: &[u32; RECORD]) -> Vec<usize> {
     let [identifier, offset, length, _, _, own, ..] = record.map(|number| number as usize);
     if row(identifier as u16).is_none_or(|row| row.holds == 0) {
         return vec![];

@@ -48,6 +48,7 @@ pub mod seeded;
 pub mod shrink;
 pub mod slips;
 pub mod sums;
+pub mod swaps;
 pub mod turned;
 pub mod versions;
 pub mod writing;
