@@ -10,7 +10,7 @@
 static const struct format formats[] = {
     {".3ds", tds_check, "chunk", "chunks"},
     {".cob", NULL, "chunk", "chunks"},
-    {".c4d", NULL, "object", "objects"},
+    {".c4d", tds_c4d_check, "object", "objects"},
 };
 enum { FORMATS = sizeof formats / sizeof formats[0] };
 

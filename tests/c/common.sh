@@ -75,6 +75,11 @@ finish() {
     [ "$failed" -eq 0 ]
 }
 
+# A Cinema 4D figure with nothing in it.
+cinema() {
+    printf 'FORM\0\0\0\004MC4D'
+}
+
 # The triangle of docs/FORMAT.md.
 triangle() {
     printf 'MM\126\0\0\0==\120\0\0\0\0@\112\0\0\0A\0\0A\102\0\0\0\020A\054\0\0\0\003\0'

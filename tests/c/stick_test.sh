@@ -65,12 +65,24 @@ try 'figures of kinds that have no reader yet'
 folder kinds
 triangle >"$F/t.3ds"
 echo Caligari >"$F/a.cob"
-echo FORM >"$F/b.C4D"
 stick "$F"
 status_is 2
 matches err "stick: $F/a.cob: not checked: there is no reader for this kind of figure yet: compare it with the master \(--against\)"
-has err "$F/b.C4D: not checked: there is no reader for this kind of figure yet"
-unsealed 1 0 2
+unsealed 1 0 1
+
+try 'Cinema 4D figures'
+folder cinema
+triangle >"$F/t.3ds"
+cinema >"$F/b.C4D"
+stick --list "$F"
+status_is 0
+matches out "$F/b.C4D: accepted: 0 objects"
+passes 2
+printf x >>"$F/b.C4D"
+stick "$F"
+status_is 1
+matches out "$F/b.C4D: refused: FORM \(25\): the file does not begin as a Cinema 4D figure does, at byte 0: copy this figure again"
+unsealed 2 1 0
 
 try 'what another computer left is to be deleted, and is not taken for a figure'
 folder left
