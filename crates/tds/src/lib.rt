@@ -6,12 +6,13 @@ ghost use Prim.Native.Nat.{_/_, _%_};
 ghost use Rattle.studio_rules.specs.Encodings.{recordBytes, partBytes};
 ghost use Rattle.studio_rules.specs.Calls.{checkCall, listCall, inBytes, mappingInBytes, tablesCall, nameCall, boxCall, partsCall};
 ghost use Rattle.studio_list_table.specs.Listed.{inTable, inRow};
+ghost use Rattle.shared_words.specs.Encodings.{numberBytes};
 ghost use Rattle.studio_mesh_tables.specs.Rows.{twoRows, mappingRow};
 ghost use Rattle.studio_write.specs.Write.{writeCall};
 ghost use Rattle.c_version.specs.Version.{versionCode};
 ghost use Rattle.c_codes.specs.Codes.{recordsOr, sizesOr, numbersOr, sizeOr};
 ghost use Rattle.c_answers.specs.Given.{countsGiven, nameGiven, boxGiven};
-ghost use Rattle.c4d_rules.specs.Calls.{objectBytes, twoRows, c4dCheckCall, c4dListCall};
+ghost use Rattle.c4d_rules.specs.Calls.{objectBytes, twoRows as objectRows, c4dCheckCall, c4dListCall};
 ghost use Rattle.c_c4d.specs.Codes.{objectsOr};
 ghost use Rattle.slip_sums.specs.Fletcher.{sumOf};
 ghost use Rattle.slip_sums.specs.Passes.{sumsCall, matchOf};
@@ -195,7 +196,7 @@ pub extern "C" fn tds_c4d_check(file: &[u8]) -> u64
 #[no_mangle]
 pub extern "C" fn tds_c4d_list(file: &[u8], objects: &mut [u8], materials: &mut [u8]) -> u64
     ensures answer { λ n. ⌜ n ≡ objectsOr (c4dListCall objectBytes (numberBytes 4) (now (file .entry)) (now (objects .entry)) (now (materials .entry)) .answer) ⌝ }
-    ensures rows { λ _. ⌜ twoRows (now (objects .exit)) (now (materials .exit)) ≡ c4dListCall objectBytes (numberBytes 4) (now (file .entry)) (now (objects .entry)) (now (materials .entry)) .rows ⌝ }
+    ensures rows { λ _. ⌜ objectRows (now (objects .exit)) (now (materials .exit)) ≡ c4dListCall objectBytes (numberBytes 4) (now (file .entry)) (now (objects .entry)) (now (materials .entry)) .rows ⌝ }
 {
     c_c4d::found_code(c4d_list::list(file, objects, materials))
 }
