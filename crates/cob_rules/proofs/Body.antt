@@ -37,7 +37,7 @@ pub record Told (f : Reading) : Type 0 where
 skip-fits : (k : ℕ) (s : List ℕ) → k ≤ length s → skip k s ≡ some (drop k s)
 skip-fits k s l = rw (le-leb k (length s) l)
 
-skip-left : (k : ℕ) (s left : List ℕ) → skip k s ≡ some left → (k ≤ length s) × (drop k s ≡ left)
+pub skip-left : (k : ℕ) (s left : List ℕ) → skip k s ≡ some left → (k ≤ length s) × (drop k s ≡ left)
 skip-left k s left = go (leb k (length s)) refl
   where
     go : (e : Bool) → leb k (length s) ≡ e → _≡_ {A = Option (List ℕ)} (cond e (some (drop k s)) none) (some left) → (k ≤ length s) × (drop k s ≡ left)
@@ -65,7 +65,7 @@ module _ (w : ℕ) (f : ℕ → Reading) where
   abbrev good : List ℕ → Bool
   good s = leb w (length s) && not (negative w (value (take w s)))
 
-  counted-left : (s left : List ℕ) → counted w f s ≡ some left → (good s ≡ true) × (f (value (take w s)) (drop w s) ≡ some left)
+  pub counted-left : (s left : List ℕ) → counted w f s ≡ some left → (good s ≡ true) × (f (value (take w s)) (drop w s) ≡ some left)
   counted-left s left = go (good s) refl
     where
       go : (e : Bool) → good s ≡ e → _≡_ {A = Option (List ℕ)} (cond e (f (value (take w s)) (drop w s)) none) (some left) →
@@ -105,7 +105,7 @@ all-told = record {
 }
 
 module _ (f g : Reading) where
-  then-left : (s left : List ℕ) → andThen (f s) g ≡ some left → (t : List ℕ) × (f s ≡ some t) × (g t ≡ some left)
+  pub then-left : (s left : List ℕ) → andThen (f s) g ≡ some left → (t : List ℕ) × (f s ≡ some t) × (g t ≡ some left)
   then-left s left = go (f s) refl
     where
       go : (o : Option (List ℕ)) → f s ≡ o → andThen o g ≡ some left → (t : List ℕ) × (f s ≡ some t) × (g t ≡ some left)
@@ -176,7 +176,7 @@ parts-told Other h = absurd (false≢true h)
 
 -- ---- one body
 
-nothing-left : (o : Option (List ℕ)) → nothing o ≡ true → o ≡ some []
+pub nothing-left : (o : Option (List ℕ)) → nothing o ≡ true → o ≡ some []
 nothing-left none h = absurd (false≢true h)
 nothing-left (some []) h = refl
 nothing-left (some (b ∷ bs)) h = absurd (false≢true h)
