@@ -1,6 +1,6 @@
 -- A digital search tree in two rows, and the list of identifiers that it represents: the first `count` of `ids`.
 use mathlib.Core.Path.{_≡_}
-use mathlib.Core.Bool.{Bool, true, false, not}
+use mathlib.Core.Bool.{Bool, true, false, not, _&&_}
 use mathlib.Core.List.{List}
 use Prim.Native.Nat.{ℕ, zero, suc, _+_, _*_, _/_, _%_, _<_, _≤_}
 use lib.ListN.{getD, set, length}
@@ -68,3 +68,8 @@ pub record Grown (ids links : List ℕ) (count x : ℕ) (added : Bool) (ids′ l
   pub answer : added ≡ not (isAt (numberIn ids count x))
   pub new : added ≡ true → (ids′ ≡ set ids count x) × Represents ids′ links′ (count + 1)
   pub old : added ≡ false → (ids′ ≡ ids) × (links′ ≡ links)
+
+-- x is added where its parent is in the list and it is not
+pub record Admitted (ids : List ℕ) (count x parent : ℕ) (added : Bool) (ids′ links′ : List ℕ) : Type 0 where
+  pub answer : added ≡ (isAt (numberIn ids count parent) && not (isAt (numberIn ids count x)))
+  pub new : added ≡ true → (ids′ ≡ set ids count x) × Represents ids′ links′ (count + 1)

@@ -2,7 +2,7 @@
 // chosen. Node k holds ids[k]; its two links are links[2 * k] and links[2 * k + 1], the number of a later node or 0 for none. A search
 // takes the bits of x from the lowest up.
 ghost use mathlib.Core.Path.{_≡_};
-ghost use Rattle.cob_seen.specs.Tree.{Represents, Ready, Ended, Grown, numberIn};
+ghost use Rattle.cob_seen.specs.Tree.{Represents, Ready, Ended, Grown, Admitted, numberIn};
 
 // Where a search ended: at a node, with the bits that are left.
 pub struct Spot {
@@ -66,4 +66,15 @@ pub fn add(ids: &mut [u32], links: &mut [u32], count: usize, x: u32) -> bool
     links[2 * at + wide(spot.rest % 2)] = count as u32;
     ids[count] = x;
     true
+}
+
+// One identifier more, where its parent is there and it is not; whether it was added.
+pub fn admit(ids: &mut [u32], links: &mut [u32], count: usize, id: u32, parent: u32) -> bool
+    requires { ⌜ Ready (now ids) (now links) count ⌝ }
+    ensures { λ r. ⌜ Admitted (now (ids .entry)) count id parent r (now (ids .exit)) (now (links .exit)) ⌝ }
+{
+    let Place::At(_) = find(ids, links, count, parent) else {
+        return false;
+    };
+    add(ids, links, count, id)
 }
