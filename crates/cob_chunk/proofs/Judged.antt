@@ -8,7 +8,7 @@ use mathlib.Core.List.{List, [], _∷_}
 use mathlib.Core.Option.{Option, none, some}
 use lib.Dec.{eqb, leb}
 use lib.ListN.{length, take, drop, getD, length-drop}
-use lib.Seq.{drop-cons, drop-drop, drop-length}
+use lib.Seq.{drop-cons, drop-drop, drop-length, length-take-le}
 use borrow.Author.Tests.{ne-eqb, eq-eqb, le-leb, lt-leb, leb-true}
 use Rattle.shared_words.proofs.Bools.{or-second}
 use Rattle.cob_rules.specs.declared.Kind.{Kind}
@@ -16,7 +16,7 @@ use Rattle.cob_rules.specs.Fields.{negative}
 use Rattle.cob_rules.specs.Kinds.{isMesh, tellsEnd, parts}
 use Rattle.cob_rules.specs.Body.{behindAll, fits, nothing, exact, upTo, bodyAt}
 use Rattle.cob_rules.specs.Mesh.{allFinite, faceFirst, facesOf, allBelow}
-use Rattle.cob_rules.specs.Layout.{Chunk, kind, sizeField}
+use Rattle.cob_rules.specs.Layout.{Chunk, kind, sizeField, size}
 use Rattle.cob_rules.specs.Rules.{minusOne, sizeAllowed}
 use Rattle.cob_rules.specs.Walk.{chunkAt}
 use Rattle.cob_rules.proofs.Body.{told-exactly}
@@ -26,6 +26,7 @@ use Rattle.cob_mesh.specs.declared.Judged.{Judged}
 use Rattle.cob_mesh.specs.Laid.{judged}
 use Rattle.cob_chunk.specs.declared.Judgement.{Judgement}
 use Rattle.cob_chunk.specs.Chunks.{chunkIn, Stated, partsJudged, bodyJudged, judgedOf}
+use Rattle.cob_chunk.proofs.Fields.{head-in}
 
 -- ---- a body that is exact
 
@@ -134,3 +135,28 @@ module _ (s : List ℕ) (at : ℕ) where
   chunk-silent n t =
       let a : sizeAllowed here ≡ false = rw (n, t) (and-false (eqb (sizeField here) minusOne)) in
       rw a
+
+  -- ---- where it ends
+
+  module _ (l : at + 20 ≤ length s) where
+    sized : (n : ℕ) → length (here .body) ≡ n → at + 20 + n ≡ at + size here
+    sized n e = omega (arith, head-in s at l)
+
+    pub ends-stated : Stated s at → negative 4 (sizeField here) ≡ false → at + 20 + sizeField here ≡ at + size here
+    ends-stated h n =
+        let f = stated-fits h n in
+        let b : here .body ≡ take (sizeField here) (drop (at + 20) s) = body-in ∙ rw n in
+        sized (sizeField here) (ap length b ∙ length-take-le (sizeField here) (drop (at + 20) s) (omega (arith, length-drop (at + 20) s)))
+
+    pub ends-told : (n : ℕ) → negative 4 (sizeField here) ≡ true → Ends (behindAll (parts (kind here))) (drop (at + 20) s) 0 (Place.At n) → at + 20 + n ≡ at + size here
+    ends-told n g h =
+        let t = drop (at + 20) s in
+        let w = h .within .1 in
+        let e : length t - length (drop n t) ≡ n = omega (arith, length-drop n t) in
+        let b : here .body ≡ take n t = body-in ∙ rw (g, h .is, e) in
+        sized n (ap length b ∙ length-take-le n t w)
+
+    pub ends-nowhere : negative 4 (sizeField here) ≡ true → Ends (behindAll (parts (kind here))) (drop (at + 20) s) 0 Place.Nowhere → length s ≡ at + size here
+    ends-nowhere g h =
+        let b : here .body ≡ drop (at + 20) s = body-in ∙ rw (g, h .is) in
+        omega (arith, ap length b, length-drop (at + 20) s, sized (length (here .body)) refl)

@@ -12,7 +12,7 @@ ghost use lib.Dec.{eqb};
 ghost use lib.ListN.{length};
 ghost use Rattle.cob_rules.specs.Kinds.{isEnd, isMesh, listed, tellsEnd, parts};
 ghost use Rattle.cob_rules.specs.Body.{behindAll, exact, upTo};
-ghost use Rattle.cob_rules.specs.Layout.{kind};
+ghost use Rattle.cob_rules.specs.Layout.{kind, size};
 ghost use Rattle.cob_chunk.specs.Chunks.{chunkIn, kindBy, Stated, partsJudged, bodyJudged, judgedOf};
 
 // ---- kinds
@@ -168,4 +168,20 @@ pub fn judge_chunk(file: &[u8], at: usize) -> Judgement
         return Judgement::Size;
     }
     judge_told(k, &file[start..])
+}
+
+// The offset behind the chunk at an offset.
+pub fn chunk_end(file: &[u8], at: usize) -> usize
+    requires { ⌜ Stated (now file) at ⌝ }
+    ensures { λ r. ⌜ r ≡ at + size (chunkIn (now (file .entry)) at) ⌝ }
+{
+    let stated = long_at(file, at + 16);
+    let start = at + 20;
+    if stated < 0x8000_0000 {
+        return start + stated as usize;
+    }
+    match body_end(kind_at(file, at), &file[start..]) {
+        Place::At(n) => start + n,
+        Place::Nowhere => file.len(),
+    }
 }
