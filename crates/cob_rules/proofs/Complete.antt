@@ -23,7 +23,7 @@ use Rattle.cob_rules.proofs.Body.{body-told}
 
 -- ---- one chunk
 
-size-told : (c : Chunk) → Lawful c → negative 4 (sizeField c) ≡ false → sizeField c ≡ length (c .body)
+pub size-told : (c : Chunk) → Lawful c → negative 4 (sizeField c) ≡ false → sizeField c ≡ length (c .body)
 size-told c h e = eqb-true (sizeField c) (length (c .body)) (or-second (negative 4 (sizeField c)) (eqb (sizeField c) (length (c .body))) (h .size-matches) e)
 
 module _ (c : Chunk) (h : Lawful c) (more : List ℕ) where
@@ -37,13 +37,13 @@ module _ (c : Chunk) (h : Lawful c) (more : List ℕ) where
           body-told (kind c) (c .body) more (and-parts (eqb (sizeField c) minusOne) (tellsEnd (kind c)) a .1) (h .body-exact)
       go false e = take-at (c .body) more (sizeField c) (sym (size-told c h e))
 
-  chunk-found : chunkAt (chunkBytes c ++ more) ≡ c
+  pub chunk-found : chunkAt (chunkBytes c ++ more) ≡ c
   unfolding chunkAt
   chunk-found =
       rw (append-assoc (c .head) (c .body) more, take-at (c .head) (c .body ++ more) 20 (h .header-whole), drop-at (c .head) (c .body ++ more) 20 (h .header-whole))
       (rw body-found)
 
-  length-here : length (chunkBytes c ++ more) ≡ 20 + length (c .body) + length more
+  pub length-here : length (chunkBytes c ++ more) ≡ 20 + length (c .body) + length more
   length-here = omega (arith, length-append (chunkBytes c) more, length-append (c .head) (c .body), h .header-whole)
 
   step-good : (go : List Chunk → ℕ → List ℕ → Verdict) (seen : List Chunk) (o : ℕ) → (isEnd (kind c) || ownerKnown seen c) ≡ true →

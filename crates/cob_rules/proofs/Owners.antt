@@ -44,7 +44,7 @@ other : (seen : List Chunk) (c : Chunk) → New seen c → (x : ℕ) → used x 
 other seen c n x u = ne-eqb (identifier c) x λ e. true≢false (sym u ∙ (ap (λ (y : ℕ). used y seen) (sym e) ∙ n .fresh))
 
 -- the way up from an identifier that no chunk has
-topmost-unused : (seen : List Chunk) (x : ℕ) → used x seen ≡ false → topmost seen x ≡ x
+pub topmost-unused : (seen : List Chunk) (x : ℕ) → used x seen ≡ false → topmost seen x ≡ x
 unfolding topmost
 topmost-unused [] x u = refl
 topmost-unused (c ∷ seen) x u = go (eqb (identifier c) x) (topmost-unused seen x) u

@@ -148,7 +148,7 @@ length-all : (cs : List Chunk) → length (allBytes cs) ≡ total size cs
 length-all [] = refl
 length-all (c ∷ cs) = omega (arith, length-append (chunkBytes c) (allBytes cs), length-append (c .head) (c .body), length-all cs)
 
-length-bytes : (l : Layout) → length (bytes l) ≡ 32 + total size (l .chunks) + size (l .last)
+pub length-bytes : (l : Layout) → length (bytes l) ≡ 32 + total size (l .chunks) + size (l .last)
 length-bytes l =
     omega (arith, length-append (allBytes (l .chunks)) (chunkBytes (l .last)), length-append (l .last .head) (l .last .body), length-all (l .chunks))
 

@@ -154,3 +154,14 @@ module _ {ids links : List ℕ} where
       free = free;
       found = found;
     }
+
+-- ---- no identifier is there twice
+
+one-end : {ids links : List ℕ} {x bits k i j : ℕ} → Leads ids links x bits k i → Leads ids links x bits k j → i ≡ j
+one-end (here e p) (here f q) = sym p ∙ q
+one-end (here e p) (on a b l) = absurd (a e)
+one-end (on a b l) (here f q) = absurd (a f)
+one-end (on a b l) (on c d m) = one-end l m
+
+pub unique : {ids links : List ℕ} {count : ℕ} → Represents ids links count → (i j : ℕ) → i < count → j < count → getD ids i 0 ≡ getD ids j 0 → i ≡ j
+unique {ids} {links} r i j a b e = one-end (r .found i a) (subst (λ (x : ℕ). Leads ids links x x 0 j) (sym e) (r .found j b))

@@ -94,7 +94,7 @@ or-swap false true c = refl
 or-swap false false c = refl
 
 -- the tree finds 0 and the identifiers used
-known : (ids : List ℕ) (seen : List Chunk) (x : ℕ) → Holds ids seen → isAt (numberIn ids (suc (length seen)) x) ≡ (eqb x 0 || used x seen)
+pub known : (ids : List ℕ) (seen : List Chunk) (x : ℕ) → Holds ids seen → isAt (numberIn ids (suc (length seen)) x) ≡ (eqb x 0 || used x seen)
 unfolding numberIn
 known ids [] x h = found-or (eqb (getD ids 0 0) x) 0 Nowhere ∙ rw h (ap (λ (b : Bool). b || false) (zero-first x))
 known ids (c ∷ seen) x h =
