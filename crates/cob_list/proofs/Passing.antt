@@ -26,6 +26,7 @@ use Rattle.cob_rules.specs.Theorems.{seenIn}
 use Rattle.cob_rules.proofs.Complete.{size-told, chunk-found, length-here}
 use Rattle.cob_seen.specs.Tree.{Represents}
 use Rattle.cob_chunk.specs.Chunks.{chunkIn, Stated}
+use Rattle.cob_chunk.proofs.Stands.{chunk-is, long, whole, fits, behind, stated, Next, some-next}
 use Rattle.cob_step.specs.Steps.{Holds}
 use Rattle.cob_list.specs.Filling.{topFor, recordWith, restRecord, EndPut}
 use Rattle.cob_list.proofs.Owned.{Owns, Topped, topped}
@@ -64,46 +65,12 @@ starts {s} {l} up row m n h = record {
   put = put-none row 0;
 }
 
--- ---- a chunk that bytes begin with
-
-module _ (s : List ℕ) (at : ℕ) (c : Chunk) (more : List ℕ) (e : drop at s ≡ chunkBytes c ++ more) (h : Lawful c) (i : at ≤ length s) where
-  pub chunk-is : chunkIn s at ≡ c
-  chunk-is = ap chunkAt e ∙ chunk-found c h more
-
-  long : length s ≡ at + size c + length more
-  long = omega (arith, length-drop at s, ap length e, length-here c h more, h .header-whole)
-
-  pub whole : at + 20 ≤ length s
-  whole = omega (arith, long, h .header-whole)
-
-  pub fits : at + size c ≤ length s
-  fits = omega (arith, long)
-
-  pub behind : drop (at + size c) s ≡ more
-  behind = sym (drop-drop (size c) at s) ∙ ap (drop (size c)) e ∙ drop-at (chunkBytes c) more (size c) (length-append (c .head) (c .body))
-
-  pub stated : Stated s at
-  stated = record {
-    header = whole;
-    body = rw chunk-is (or-else (negative 4 (sizeField c)) (leb (20 + sizeField c) (length (drop at s)))
-        (λ n. le-leb (20 + sizeField c) (length (drop at s)) (omega (arith, size-told c h n, length-drop at s, long, h .header-whole))));
-  }
-
 -- identifiers of the first chunks
 holds-front : (ids : List ℕ) (left seen : List Chunk) → Holds ids (afterAll remember seen left) → Holds ids seen
 holds-front ids [] seen h = h
 holds-front ids (c ∷ left) seen h = holds-front ids left (c ∷ seen) h .1
 
 -- ---- the next chunk
-
-pub record Next (left : List Chunk) : Type 0 where
-  pub chunk : Chunk
-  pub rest : List Chunk
-  pub is : left ≡ chunk ∷ rest
-
-some-next : (left : List Chunk) → 0 < length left → Next left
-some-next [] l = absurd (omega arith)
-some-next (c ∷ rest) l = record { chunk = c; rest = rest; is = refl }
 
 module _ {s : List ℕ} {l : Layout} {count : ℕ} {ids up row₀ row : List ℕ} {at to k : ℕ} (r : Passing s l count ids up row₀ row at to k) where
   -- room for one record more

@@ -141,7 +141,7 @@ fn faces_below(s: &[u8], at: usize, count: usize, vertices: u32, textures: u32) 
 }
 
 // Whether the first of so many faces is none: a hole before any face.
-fn hole_first(s: &[u8], at: usize, count: usize) -> bool
+pub fn hole_first(s: &[u8], at: usize, count: usize) -> bool
     requires { ⌜ Whole (now s) at count ⌝ }
     ensures { λ r. ⌜ r ≡ not (faceFirst (facesAt count (drop at (now (s .entry))))) ⌝ }
 {
