@@ -1,10 +1,11 @@
 /*
  * Makes the sample edition and the damaged samples, the same bytes on every machine.
  *
- *     make_samples FOLDER              FOLDER/edition/ and FOLDER/damaged/
+ *     make_samples FOLDER              FOLDER/edition/, FOLDER/damaged/ and FOLDER/caligari/
  *     make_samples --too-long FILE     the one damaged figure that is too long to be kept
  *
- * FOLDER/damaged/expected.txt says of each damaged figure its refusal: file, number and place.
+ * FOLDER/damaged/expected.txt says of each damaged figure its refusal: file, number and place; so
+ * does FOLDER/caligari/expected.txt, where a good one has 0 0.
  */
 #include <errno.h>
 #include <stdio.h>
@@ -12,6 +13,7 @@
 #include <string.h>
 #include <sys/stat.h>
 
+#include "caligari.h"
 #include "damage.h"
 #include "edition.h"
 
@@ -62,9 +64,9 @@ static void make_edition(const char *parent) {
 }
 
 /* One line of expected.txt. */
-static void expect(struct figure *expected, const struct damage *damage, size_t place) {
+static void expect(struct figure *expected, const char *file, int refusal, size_t place) {
     char line[200];
-    int length = snprintf(line, sizeof line, "%s %d %zu\n", damage->file, damage->refusal, place);
+    int length = snprintf(line, sizeof line, "%s %d %zu\n", file, refusal, place);
     put_bytes(expected, line, (size_t)length);
 }
 
@@ -74,8 +76,24 @@ static void make_damaged(const char *parent) {
     for (const struct damage *damage = damages; damage->file != NULL; damage++) {
         struct figure figure = {0};
         damage->make(&figure);
-        expect(&expected, damage, damage->damage(&figure));
+        expect(&expected, damage->file, damage->refusal, damage->damage(&figure));
         write_in(folder, damage->file, &figure);
+        free_figure(&figure);
+    }
+    write_in(folder, "expected.txt", &expected);
+    free_figure(&expected);
+    free(folder);
+}
+
+static void make_caligari(const char *parent) {
+    char *folder = make_folder(parent, "caligari");
+    struct figure expected = {0};
+    for (const struct caligari *sample = caligaris; sample->file != NULL; sample++) {
+        struct figure figure = {0};
+        sample->make(&figure);
+        size_t place = sample->damage == NULL ? 0 : sample->damage(&figure);
+        expect(&expected, sample->file, sample->refusal, place);
+        write_in(folder, sample->file, &figure);
         free_figure(&figure);
     }
     write_in(folder, "expected.txt", &expected);
@@ -98,5 +116,6 @@ int main(int argc, char **argv) {
     }
     make_edition(argv[1]);
     make_damaged(argv[1]);
+    make_caligari(argv[1]);
     return 0;
 }

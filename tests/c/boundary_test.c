@@ -8,6 +8,7 @@
 #include <sys/mman.h>
 
 #include "cases.h"
+#include "cob_cases.h"
 #include "mesh_cases.h"
 #include "slices.h"
 #include "slip_cases.h"
@@ -331,5 +332,6 @@ int main(void) {
     try_meshes();
     try_writer();
     try_slips();
+    try_cobs();
     return finish("boundary_test");
 }

@@ -8,7 +8,7 @@ try 'the generator makes what is kept'
 mkdir "$T/again"
 run "$BUILD/make_samples" "$T/again"
 status_is 0
-for folder in edition damaged; do
+for folder in edition damaged caligari; do
     (cd samples/$folder && ls) >"$T/kept"
     (cd "$T/again/$folder" && ls) >"$T/made"
     same "the names in $folder" "$T/kept" "$T/made"
@@ -36,9 +36,10 @@ done <samples/damaged/expected.txt
 lines out $(($(wc -l <samples/damaged/expected.txt) + 2))
 
 try 'the one that is too long'
-run "$BUILD/make_samples" --too-long "$T/too-long.3ds"
+mkdir "$T/long"
+run "$BUILD/make_samples" --too-long "$T/long/too-long.3ds"
 status_is 0
-run "$BUILD/stick" "$T"
+run "$BUILD/stick" "$T/long"
 has out 'too-long.3ds: refused: TOO LONG (1): the file is longer than a figure may be'
 status_is 1
 

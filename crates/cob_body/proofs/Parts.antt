@@ -1,5 +1,5 @@
 -- Laws of `Ends` for a face, a run of faces, a map, and parts one after another.
-use mathlib.Core.Path.{_≡_, refl, ap, _∙_}
+use mathlib.Core.Path.{_≡_, refl, _∙_}
 use Prim.Native.Nat.{ℕ, zero, suc, _+_, _-_, _*_, _<_, _≤_}
 use native.Mathlib.Omega.{arith}
 use native.Mathlib.Nat.{one-mul}
@@ -15,7 +15,7 @@ use Rattle.shared_words.specs.Bytes.{value}
 use Rattle.shared_words.specs.Lists.{same}
 use Rattle.cob_rules.specs.declared.Kind.{Kind}
 use Rattle.cob_rules.specs.Kinds.{Part, optional, string, parts}
-use Rattle.cob_rules.specs.Body.{Reading, andThen, skip, counted, hole, face, faceRun, mapData, behind, behindAll}
+use Rattle.cob_rules.specs.Body.{andThen, skip, counted, hole, face, faceRun, mapData, behind, behindAll}
 use Rattle.cob_body.specs.declared.Place.{Place}
 use Rattle.cob_body.specs.Ends.{Ends, proper, Of}
 use Rattle.cob_body.proofs.Ends.{between-earlier, all-ends, counted-ends, counted-not, then-ends, then-not}

@@ -1,5 +1,5 @@
 -- Chunks seen, the nearest first, as the chunks of a layout; and how many of them are listed.
-use mathlib.Core.Path.{_≡_, refl, sym, ap, _∙_}
+use mathlib.Core.Path.{_≡_, refl, _∙_}
 use Prim.Native.Nat.{ℕ, suc, _+_, _≤_}
 use native.Mathlib.Omega.{arith}
 use mathlib.Core.Bool.{Bool, true, false, cond}
@@ -8,9 +8,8 @@ use lib.ListN.{length, length-append}
 use Rattle.shared_words.specs.declared.Refusal.{Refusal}
 use Rattle.shared_words.specs.Conditions.{refused, accepted}
 use Rattle.shared_flat.specs.Flat.{afterAll, records}
-use Rattle.cob_rules.specs.declared.Record.{Record}
 use Rattle.cob_rules.specs.Kinds.{listed}
-use Rattle.cob_rules.specs.Layout.{Chunk, kind, size, Layout, lastAt}
+use Rattle.cob_rules.specs.Layout.{Chunk, kind, size, lastAt}
 use Rattle.cob_rules.specs.Rules.{remember}
 use Rattle.cob_rules.specs.Walk.{Verdict, withChunk}
 use Rattle.cob_rules.specs.Gives.{recordOf, endRecord, oneIf, caligari, list}

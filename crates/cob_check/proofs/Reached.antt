@@ -5,12 +5,12 @@ use native.Mathlib.Omega.{arith}
 use mathlib.Core.Bool.{Bool, true, false, cond}
 use mathlib.Core.List.{List, [], _∷_}
 use mathlib.Core.Option.{none, some}
-use lib.ListN.{length, drop, getD, length-drop, drop-of-length-le}
+use lib.ListN.{length, drop, length-drop, drop-of-length-le}
 use lib.Seq.{drop-drop, drop-cons}
 use Rattle.shared_words.specs.declared.Refusal.{Refusal}
 use Rattle.shared_words.specs.declared.Refusal.the-variants.{Trailing, Missing}
 use Rattle.shared_words.specs.Conditions.{broken, refused, accepted}
-use Rattle.cob_rules.specs.Kinds.{isEnd, listed}
+use Rattle.cob_rules.specs.Kinds.{isEnd}
 use Rattle.cob_rules.specs.Layout.{Chunk, kind, size}
 use Rattle.cob_rules.specs.Walk.{chunkAt, walk, step}
 use Rattle.cob_rules.proofs.Fuel.{walk-nil, walk-cons}
@@ -19,7 +19,7 @@ use Rattle.cob_chunk.specs.Chunks.{chunkIn}
 use Rattle.cob_step.specs.declared.Step.{Step}
 use Rattle.cob_step.specs.Steps.{EndsAt, Holds, faultAt, Goes, StepIs, Steps}
 use Rattle.cob_check.specs.declared.Walked.{Walked}
-use Rattle.cob_check.specs.Walks.{Prepared, Accepted, WalkIs}
+use Rattle.cob_check.specs.Walks.{Prepared, WalkIs}
 use Rattle.cob_check.proofs.Lists.{withAll, onto, all-refused, all-accepted, seen-onto, length-seen, oneFor, countListed, few-listed, list-counted}
 
 -- ---- one step, by the rules

@@ -2,20 +2,20 @@
 use mathlib.Core.Path.{_≡_, refl, sym, ap, _∙_}
 use Prim.Native.Nat.{ℕ, _+_, _≤_}
 use native.Mathlib.Omega.{arith}
-use mathlib.Core.Bool.{Bool, true, false, _&&_, true≢false}
-use mathlib.Core.List.{List, _++_}
+use mathlib.Core.Bool.{Bool, true, false, _&&_}
+use mathlib.Core.List.{List}
 use lib.Dec.{eqb}
 use lib.ListN.{length, take, drop, length-take, length-drop, take-append-drop}
 use lib.Seq.{drop-drop, take-take, take-all, length-take-le}
 use borrow.Author.Tests.{eqb-true, eqb-false}
-use Rattle.shared_words.specs.Bytes.{Bytes, value, le}
+use Rattle.shared_words.specs.Bytes.{Bytes, value}
 use Rattle.shared_words.specs.Lists.{same}
 use Rattle.shared_words.proofs.Bytes.{bytes-take, bytes-drop, le-value}
 use Rattle.shared_numbers.specs.Numbers.{longAt}
 use Rattle.shared_numbers.proofs.Slices.{front-slice}
 use Rattle.cob_rules.specs.Fields.{field}
 use Rattle.cob_rules.specs.Kinds.{endType, grouType, polhType, mat1Type}
-use Rattle.cob_rules.specs.Layout.{kind, letters, identifier, parent, sizeField, size}
+use Rattle.cob_rules.specs.Layout.{kind, letters, identifier, parent, sizeField}
 use Rattle.cob_rules.specs.Walk.{chunkAt}
 use Rattle.cob_rules.proofs.Same.{same-true, same-refl}
 use Rattle.cob_chunk.specs.Chunks.{chunkIn, kindBy}

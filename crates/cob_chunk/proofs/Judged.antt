@@ -1,20 +1,18 @@
 -- What a body is judged, by where it ends; and a chunk by its size.
-use mathlib.Core.Path.{_≡_, refl, sym, ap, subst, _∙_}
+use mathlib.Core.Path.{_≡_, refl, sym, ap, _∙_}
 use Prim.Native.Nat.{ℕ, _+_, _-_, _*_, _<_, _≤_, _^_}
 use native.Mathlib.Omega.{arith}
-use native.Mathlib.Numerals.{add-one}
-use mathlib.Core.Bool.{Bool, true, false, not, _&&_, _||_, cond, false≢true}
-use mathlib.Core.List.{List, [], _∷_}
-use mathlib.Core.Option.{Option, none, some}
+use mathlib.Core.Bool.{Bool, true, false, _&&_, cond, false≢true}
+use mathlib.Core.List.{List}
 use lib.Dec.{eqb, leb}
-use lib.ListN.{length, take, drop, getD, length-drop}
+use lib.ListN.{length, take, drop, length-drop}
 use lib.Seq.{drop-cons, drop-drop, drop-length, length-take-le}
 use borrow.Author.Tests.{ne-eqb, eq-eqb, le-leb, lt-leb, leb-true}
 use Rattle.shared_words.proofs.Bools.{or-second}
 use Rattle.cob_rules.specs.declared.Kind.{Kind}
 use Rattle.cob_rules.specs.Fields.{negative}
 use Rattle.cob_rules.specs.Kinds.{isMesh, tellsEnd, parts}
-use Rattle.cob_rules.specs.Body.{behindAll, fits, nothing, exact, upTo, bodyAt}
+use Rattle.cob_rules.specs.Body.{behindAll, exact, upTo, bodyAt}
 use Rattle.cob_rules.specs.Mesh.{allFinite, faceFirst, facesOf, allBelow}
 use Rattle.cob_rules.specs.Layout.{Chunk, kind, sizeField, size}
 use Rattle.cob_rules.specs.Rules.{minusOne, sizeAllowed}

@@ -1,8 +1,8 @@
 -- Topmost owners by their nodes are those by identifier.
-use mathlib.Core.Path.{_≡_, refl, sym, ap, _∙_}
-use Prim.Native.Nat.{ℕ, suc, _+_, _<_, _≤_}
+use mathlib.Core.Path.{_≡_, refl, sym, _∙_}
+use Prim.Native.Nat.{ℕ, suc, _<_, _≤_}
 use native.Mathlib.Omega.{arith}
-use mathlib.Core.Bool.{Bool, true, false, not, _&&_, _||_, cond, true≢false, false≢true}
+use mathlib.Core.Bool.{Bool, true, false, not, _&&_, cond, false≢true}
 use mathlib.Core.List.{List, [], _∷_}
 use lib.Dec.{eqb}
 use lib.ListN.{length, getD, set}
@@ -10,8 +10,8 @@ use borrow.Author.Tests.{eqb-true, eqb-false, eq-eqb}
 use Rattle.shared_words.proofs.Bools.{or-second}
 use Rattle.cob_rules.specs.Layout.{Chunk, identifier, parent}
 use Rattle.cob_rules.specs.Rules.{used, ownerKnown}
-use Rattle.cob_rules.specs.Gives.{oneUp, topmost}
-use Rattle.cob_rules.proofs.Owners.{New, new, topmost-unused}
+use Rattle.cob_rules.specs.Gives.{topmost}
+use Rattle.cob_rules.proofs.Owners.{new, topmost-unused}
 use Rattle.cob_seen.specs.declared.Place.{Place}
 use Rattle.cob_seen.specs.Tree.{pick, numberIn, isAt, Represents}
 use Rattle.cob_seen.proofs.Numbers.{number-is, number-at}

@@ -1,29 +1,21 @@
 -- The pass over an accepted file: what is known before each chunk, and what each leaves.
 use mathlib.Core.Path.{_≡_, refl, sym, ap, subst, _∙_}
-use Prim.Native.Nat.{ℕ, zero, suc, _+_, _-_, _*_, _<_, _≤_}
+use Prim.Native.Nat.{ℕ, suc, _+_, _-_, _*_, _<_, _≤_}
 use native.Mathlib.Omega.{arith}
-use mathlib.Core.Bool.{Bool, true, false, _||_}
+use mathlib.Core.Bool.{true, false}
 use mathlib.Core.List.{List, [], _∷_, _++_, append-assoc, append-nil}
-use lib.Dec.{leb}
-use lib.ListN.{length, drop, getD, set, length-append, length-drop}
-use lib.Seq.{drop-drop, drop-at}
-use borrow.Author.Tests.{le-leb}
-use Rattle.shared_words.specs.Conditions.{accepted}
+use lib.ListN.{length, drop, getD, set, length-append}
 use Rattle.shared_words.specs.Effects.{filled}
-use Rattle.shared_words.proofs.Bools.{or-else}
 use Rattle.shared_numbers.specs.Put.{placed, Put}
 use Rattle.shared_numbers.proofs.Put.{put-none, put-front}
 use Rattle.shared_flat.specs.Flat.{afterAll, total, records}
 use Rattle.cob_rules.specs.declared.Record.{Record}
-use Rattle.cob_rules.specs.Fields.{negative}
 use Rattle.cob_rules.specs.Kinds.{listed}
-use Rattle.cob_rules.specs.Layout.{Chunk, kind, letters, identifier, parent, sizeField, size, Layout, fileHeader, chunkBytes, allBytes, lastAt}
-use Rattle.cob_rules.specs.Rules.{remember, Lawful, Placed, AllPlaced, limit, Meets}
-use Rattle.cob_rules.specs.Walk.{chunkAt, verdict}
-use Rattle.cob_rules.specs.Gives.{topmost, recordOf, endRecord, oneIf, caligari, list}
+use Rattle.cob_rules.specs.Layout.{Chunk, kind, parent, size, Layout, chunkBytes, allBytes, lastAt}
+use Rattle.cob_rules.specs.Rules.{remember, AllPlaced, Meets}
+use Rattle.cob_rules.specs.Gives.{recordOf, endRecord, oneIf, caligari, list}
 use Rattle.cob_rules.specs.Calls.{recordBytes}
 use Rattle.cob_rules.specs.Theorems.{seenIn}
-use Rattle.cob_rules.proofs.Complete.{size-told, chunk-found, length-here}
 use Rattle.cob_seen.specs.Tree.{Represents}
 use Rattle.cob_chunk.specs.Chunks.{chunkIn, Stated}
 use Rattle.cob_chunk.proofs.Stands.{chunk-is, long, whole, fits, behind, stated, Next, some-next}

@@ -10,13 +10,12 @@ use Rattle.shared_words.specs.Effects.{filled}
 use Rattle.shared_flat.specs.Flat.{total}
 use Rattle.cob_rules.specs.Layout.{Chunk, kind, parent, size, Layout}
 use Rattle.cob_rules.specs.Kinds.{listed}
-use Rattle.cob_rules.specs.Rules.{remember, AllPlaced, limit, Meets}
+use Rattle.cob_rules.specs.Rules.{AllPlaced, limit, Meets}
 use Rattle.cob_rules.specs.Walk.{verdict}
 use Rattle.cob_rules.specs.Gives.{list}
 use Rattle.cob_rules.specs.Calls.{recordBytes}
 use Rattle.cob_rules.proofs.Verdict.{accepted-exactly}
 use Rattle.cob_rules.proofs.PutIn.{length-bytes}
-use Rattle.cob_seen.specs.Tree.{Represents}
 use Rattle.cob_chunk.specs.Chunks.{chunkIn, Stated}
 use Rattle.cob_list.specs.Filling.{topFor, Fillable, Fills, EndPut, PutListed}
 use Rattle.cob_list.proofs.Owned.{Topped}

@@ -1,10 +1,10 @@
 -- The pass that fills the row; and what its functions promise.
 use mathlib.Core.Path.{_≡_}
-use Prim.Native.Nat.{ℕ, suc, _+_, _-_, _*_, _≤_}
+use Prim.Native.Nat.{ℕ, suc, _-_, _*_, _≤_}
 use mathlib.Core.Bool.{true, false, cond}
 use mathlib.Core.List.{List, [], _∷_}
 use lib.Dec.{eqb}
-use lib.ListN.{length, set}
+use lib.ListN.{length}
 use Rattle.shared_words.specs.Conditions.{accepted}
 use Rattle.shared_words.specs.Effects.{filled}
 use Rattle.shared_numbers.specs.Put.{placed, Put}

@@ -1,17 +1,17 @@
 -- Indices below their counts: one corner more, one face more; and floats and indices by positions.
 use mathlib.Core.Path.{_≡_, refl, sym, ap, _∙_}
-use Prim.Native.Nat.{ℕ, zero, suc, _+_, _-_, _*_, _<_, _≤_}
+use Prim.Native.Nat.{ℕ, zero, suc, _+_, _-_, _*_, _<_}
 use native.Mathlib.Omega.{arith}
 use mathlib.Core.Bool.{Bool, true, false, not, _&&_}
 use mathlib.Core.List.{List, _∷_}
 use lib.Dec.{ltb}
-use lib.ListN.{length, drop}
+use lib.ListN.{drop}
 use lib.Seq.{drop-drop}
 use Rattle.shared_words.specs.Bytes.{numbers}
 use Rattle.shared_words.specs.Lists.{every}
 use Rattle.shared_words.specs.Floats.{finite}
 use Rattle.shared_numbers.specs.Numbers.{longAt}
-use Rattle.cob_rules.specs.Mesh.{countOf, vertexList, textureList, faceList, vertexNumbers, textureNumbers, Face, firsts, facesAt, facesOf, faceFirst, allFinite, allBelow, cornersBelow}
+use Rattle.cob_rules.specs.Mesh.{vertexNumbers, textureNumbers, firsts, facesAt, facesOf, faceFirst, allFinite, allBelow}
 use Rattle.cob_mesh.specs.declared.Lists.{Lists}
 use Rattle.cob_mesh.specs.declared.Corners.{Corners}
 use Rattle.cob_mesh.specs.Laid.{Whole, Laid, FaceAt, allCorners, facesBelow}

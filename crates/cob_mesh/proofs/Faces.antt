@@ -5,7 +5,7 @@ use native.Mathlib.Omega.{arith}
 use native.Mathlib.Numerals.{add-one}
 use mathlib.Core.Bool.{Bool, true, false, not, cond, false≢true}
 use mathlib.Core.List.{List, [], _∷_}
-use mathlib.Core.Option.{Option, none, some, Option·none-ne-some}
+use mathlib.Core.Option.{Option, none, some}
 use lib.Dec.{leb, ltb}
 use lib.ListN.{length, take, drop, getD, length-drop, drop-of-length-le}
 use lib.Seq.{drop-cons, drop-drop}
@@ -16,8 +16,7 @@ use Rattle.cob_rules.specs.Fields.{negative}
 use Rattle.cob_rules.specs.Body.{andThen, skip, counted, hole, face, faceRun, fits}
 use Rattle.cob_rules.specs.Mesh.{cornersAt, facesAt}
 use Rattle.cob_rules.proofs.Body.{skip-left, counted-left, then-left}
-use Rattle.cob_body.specs.declared.Place.{Place}
-use Rattle.cob_body.specs.Ends.{Ends, Of}
+use Rattle.cob_body.specs.Ends.{Of}
 use Rattle.cob_body.proofs.Ends.{skip-fits}
 use Rattle.cob_body.proofs.Parts.{face-ends}
 use Rattle.cob_mesh.specs.declared.Corners.{Corners}

@@ -1,10 +1,10 @@
 -- Where the lists of a body stand that fits its parts exactly.
-use mathlib.Core.Path.{_≡_, refl, sym, ap, _∙_}
+use mathlib.Core.Path.{_≡_, sym, ap, _∙_}
 use Prim.Native.Nat.{ℕ, _+_, _*_, _≤_}
 use native.Mathlib.Omega.{arith}
 use mathlib.Core.Bool.{true, not}
 use mathlib.Core.List.{List, [], _∷_, _++_}
-use mathlib.Core.Option.{Option, none, some, Option·some-injective, Option·none-ne-some}
+use mathlib.Core.Option.{some, Option·none-ne-some}
 use lib.Dec.{leb}
 use lib.ListN.{length, take, drop, length-drop}
 use lib.Seq.{drop-drop}
@@ -14,13 +14,12 @@ use Rattle.shared_words.proofs.Bools.{and-parts}
 use Rattle.cob_rules.specs.declared.Kind.{Kind}
 use Rattle.cob_rules.specs.Fields.{negative}
 use Rattle.cob_rules.specs.Kinds.{Part, times, faces, group, vertices, textures, parts}
-use Rattle.cob_rules.specs.Body.{andThen, skip, faceRun, behind, behindAll, exact}
+use Rattle.cob_rules.specs.Body.{skip, faceRun, behind, behindAll, exact}
 use Rattle.cob_rules.specs.Mesh.{countOf}
 use Rattle.cob_rules.proofs.Body.{skip-left, counted-left, then-left, nothing-left}
 use Rattle.cob_body.specs.declared.Place.{Place}
 use Rattle.cob_body.specs.Ends.{Ends}
 use Rattle.cob_body.proofs.Parts.{behind-append}
-use Rattle.cob_mesh.specs.declared.Lists.{Lists}
 use Rattle.cob_mesh.specs.Laid.{Whole, Laid}
 
 module _ (body : List ℕ) (h : exact Kind.PolH body ≡ true) where

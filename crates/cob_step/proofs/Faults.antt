@@ -1,10 +1,10 @@
 -- The conditions at a chunk, in order; and that of the owner by what the search tree holds.
 use mathlib.Core.Path.{_≡_, refl, sym, ap, _∙_}
-use Prim.Native.Nat.{ℕ, suc, _+_, _<_, _≤_}
+use Prim.Native.Nat.{ℕ, suc, _+_, _<_}
 use native.Mathlib.Omega.{arith}
 use mathlib.Core.Bool.{Bool, true, false, not, _&&_, _||_, cond, true≢false}
 use mathlib.Core.List.{List, [], _∷_}
-use mathlib.Core.Option.{none, some}
+use mathlib.Core.Option.{some}
 use lib.Dec.{eqb, leb}
 use lib.ListN.{length, drop, getD, set, length-drop}
 use lib.Seq.{getD-set-same, getD-set-other}
@@ -16,7 +16,6 @@ use Rattle.cob_rules.specs.Fields.{negative}
 use Rattle.cob_rules.specs.Kinds.{isEnd}
 use Rattle.cob_rules.specs.Layout.{Chunk, kind, identifier, parent, sizeField}
 use Rattle.cob_rules.specs.Rules.{used, ownerKnown, sizeAllowed, bodyExact, numbersFinite, holesInFaces, indicesBelow}
-use Rattle.cob_rules.specs.Walk.{chunkConditions}
 use Rattle.cob_seen.specs.declared.Place.{Place}
 use Rattle.cob_seen.specs.declared.Place.the-variants.{At, Nowhere}
 use Rattle.cob_seen.specs.Tree.{pick, numberIn, isAt}

@@ -1,28 +1,25 @@
 -- What a chunk comes to: by its body, and with its identifier in the search tree.
-use mathlib.Core.Path.{_≡_, refl, sym, ap, subst, _∙_}
+use mathlib.Core.Path.{_≡_, sym, ap, subst, _∙_}
 use Prim.Native.Nat.{ℕ, suc, _+_, _-_, _*_, _<_, _≤_, _^_}
 use native.Mathlib.Omega.{arith}
-use native.Mathlib.Numerals.{add-one}
-use mathlib.Core.Bool.{Bool, true, false, not, _&&_, _||_, cond}
-use mathlib.Core.List.{List, [], _∷_, _++_}
+use mathlib.Core.Bool.{Bool, true, false, _&&_, _||_, cond}
+use mathlib.Core.List.{List, _∷_}
 use mathlib.Core.Option.{none, some}
 use lib.Dec.{leb}
-use lib.ListN.{length, drop, set, length-drop, length-append}
+use lib.ListN.{length, drop, length-drop, length-append}
 use borrow.Author.Tests.{le-leb, lt-leb}
 use Rattle.shared_words.specs.declared.Refusal.{Refusal}
-use Rattle.cob_rules.specs.Fields.{negative}
 use Rattle.cob_rules.specs.Kinds.{isEnd, listed}
-use Rattle.cob_rules.specs.Body.{bodyAt}
 use Rattle.cob_rules.specs.Layout.{Chunk, kind, identifier, parent, sizeField}
 use Rattle.cob_rules.specs.Rules.{ownerKnown, sizeAllowed, bodyExact, numbersFinite, holesInFaces, indicesBelow}
 use Rattle.cob_rules.specs.Walk.{chunkAt}
 use Rattle.cob_rules.proofs.Body.{body-whole}
-use Rattle.cob_seen.specs.Tree.{Represents, numberIn, isAt, Admitted}
+use Rattle.cob_seen.specs.Tree.{Represents, Admitted}
 use Rattle.cob_chunk.specs.declared.Judgement.{Judgement}
 use Rattle.cob_chunk.specs.Chunks.{chunkIn, judgedOf}
 use Rattle.cob_chunk.proofs.Fields.{head-in}
 use Rattle.cob_step.specs.declared.Body.{Body}
-use Rattle.cob_step.specs.Steps.{within, faultOf, EndsAt, BodyTold, BodyIs, Holds, faultAt, Goes}
+use Rattle.cob_step.specs.Steps.{within, EndsAt, BodyTold, BodyIs, Holds, faultAt, Goes}
 use Rattle.cob_step.proofs.Faults.{judged-fault, owner-by, holds-more}
 
 -- ---- within the file

@@ -1,9 +1,9 @@
 -- The calls' answers and rows: by the room in them, and by the mesh that was asked for.
-use mathlib.Core.Path.{_≡_, refl, sym, ap, subst, _∙_}
+use mathlib.Core.Path.{_≡_, sym, ap, subst, _∙_}
 use Prim.Native.Nat.{ℕ, _+_, _*_, _/_, _<_, _≤_}
 use native.Mathlib.Nat.{div-mul-le-self}
 use native.Mathlib.Omega.{arith}
-use mathlib.Core.List.{List, [], _∷_}
+use mathlib.Core.List.{List}
 use lib.ListN.{length, drop}
 use borrow.Author.Tests.{le-leb, lt-leb}
 use Rattle.shared_words.specs.declared.Refusal.{Refusal}
@@ -16,14 +16,14 @@ use Rattle.shared_numbers.specs.Numbers.{longAt}
 use Rattle.shared_numbers.specs.Put.{Put}
 use Rattle.shared_numbers.proofs.Put.{put-then, put-front}
 use Rattle.cob_rules.specs.declared.Answered.{Answered}
-use Rattle.cob_rules.specs.Mesh.{countOf, vertexList, vertexNumbers, facesAt, facesOf, triangles, cornersOf}
+use Rattle.cob_rules.specs.Mesh.{facesAt, facesOf, triangles, cornersOf}
 use Rattle.cob_rules.specs.Gives.{Mesh, meshIn}
 use Rattle.cob_rules.specs.Calls.{give, sizesOf, sizesCall, Rows, tablesOf, tablesCall}
 use Rattle.cob_mesh.specs.declared.Lists.{Lists}
 use Rattle.cob_mesh.specs.Laid.{Whole, Laid}
 use Rattle.cob_mesh.proofs.Below.{vertices-are, faces-are}
 use Rattle.cob_tables.specs.declared.Asked.{Asked}
-use Rattle.cob_tables.specs.Asked.{bodyIn, Stands, bad, good, picked, AskedTold, AskedIs}
+use Rattle.cob_tables.specs.Asked.{bodyIn, Stands, bad, good, AskedTold, AskedIs}
 use Rattle.cob_tables.specs.Rows.{rows, TablesAre}
 use Rattle.cob_tables.proofs.Picks.{of-picked}
 use Rattle.cob_tables.proofs.Faces.{three-each}

@@ -16,10 +16,10 @@ use Rattle.cob_rules.specs.Walk.{verdict}
 use Rattle.cob_rules.specs.Gives.{oneIf, Mesh, meshIn, meshOf, meshesOf, meshes}
 use Rattle.cob_rules.proofs.Verdict.{accepted-exactly}
 use Rattle.cob_chunk.specs.Chunks.{chunkIn, Stated}
-use Rattle.cob_chunk.proofs.Stands.{chunk-is, whole, fits, behind, stated, body-is, Next}
+use Rattle.cob_chunk.proofs.Stands.{chunk-is, whole, fits, behind, stated, body-is}
 use Rattle.cob_chunk.proofs.Judged.{mesh-kind}
 use Rattle.cob_tables.specs.declared.Found.{Found}
-use Rattle.cob_tables.specs.Asked.{Readable, bodyIn, Stands, FoundIn, FoundIs}
+use Rattle.cob_tables.specs.Asked.{Readable, bodyIn, FoundIn, FoundIs}
 
 -- ---- the element of a number
 

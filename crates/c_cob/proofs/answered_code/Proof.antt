@@ -1,29 +1,22 @@
+-- The count, or a refusal.
+use borrow.Author.Needs.{needs}
 use mathlib.Core.Path.{sym, ap, _∙_}
 use Rattle.c_cob.specs.Codes.{countOr}
-use borrow.Author.Needs.{needs}
 use Rattle.c_cob.proofs.answered_code.Statement.{statement}
 use Rattle.c_cob.proofs.answered_code.Tie as tie
-use Rattle.c_cob.proofs.answered_code.Reads as reads
-use Rattle.c_cob.proofs.answered_code.Lts as lts
-use Rattle.c_codes.proofs.refusal_code.Reads as refusal-code-reads
 
--- src/lib.rt:12:25
 enum-known-answered : tie.Need-enum-known-answered
 enum-known-answered c = search needs
 
--- src/lib.rt:13:27
 enum-known-answered-2 : tie.Need-enum-known-answered-2
 enum-known-answered-2 c = search needs
 
--- src/lib.rt:13:33
 refusal-code-requires : tie.Need-refusal-code-requires
 refusal-code-requires c κs = search needs
 
--- src/lib.rt:8:1
 returns : tie.Need-returns
 returns c = search needs
 
--- src/lib.rt:8:1
 returns-2 : tie.Need-returns-2
 returns-2 c = c .refusal-code .ensures ∙ ap countOr (sym (c .before .before .answered2 .given .1))
 

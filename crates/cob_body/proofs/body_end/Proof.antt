@@ -1,64 +1,47 @@
+-- The position behind the parts of a kind.
+use borrow.Author.Needs.{needs}
 use native.Mathlib.Omega.{arith}
 use Rattle.cob_rules.specs.declared.Kind.{Kind}
 use Rattle.cob_body.proofs.Parts.{no-parts, of-kind, any-ends}
-use borrow.Author.Needs.{needs}
 use Rattle.cob_body.proofs.body_end.Statement.{statement}
 use Rattle.cob_body.proofs.body_end.Tie as tie
-use Rattle.cob_body.proofs.body_end.Reads as reads
-use Rattle.cob_body.proofs.body_end.Lts as lts
-use Rattle.cob_body.proofs.group_end.Reads as group-end-reads
-use Rattle.cob_body.proofs.material_end.Reads as material-end-reads
-use Rattle.cob_body.proofs.mesh_end.Reads as mesh-end-reads
 
--- src/lib.rt:255:22
 enum-told : tie.Need-enum-told
 enum-told c = search needs
 
--- src/lib.rt:256:23
 enum-told-2 : tie.Need-enum-told-2
 enum-told-2 c = search needs
 
--- src/lib.rt:256:23
 group-end-requires : tie.Need-group-end-requires
 group-end-requires c κs = search needs
 
--- src/lib.rt:257:23
 enum-told-3 : tie.Need-enum-told-3
 enum-told-3 c = search needs
 
--- src/lib.rt:257:23
 mesh-end-requires : tie.Need-mesh-end-requires
 mesh-end-requires c κs = search needs
 
--- src/lib.rt:258:23
 enum-told-4 : tie.Need-enum-told-4
 enum-told-4 c = search needs
 
--- src/lib.rt:258:23
 material-end-requires : tie.Need-material-end-requires
 material-end-requires c κs = search needs
 
--- src/lib.rt:259:34
 enum-told-5 : tie.Need-enum-told-5
 enum-told-5 c = search needs
 
--- src/lib.rt:251:1
 returns : tie.Need-returns
 returns c = of-kind _ Kind.End (c .enum-told .given .1) (no-parts (omega arith))
 
--- src/lib.rt:251:1
 returns-2 : tie.Need-returns-2
 returns-2 c = of-kind _ Kind.Grou (c .before .enum-told2 .given .1) (c .group-end .ensures)
 
--- src/lib.rt:251:1
 returns-3 : tie.Need-returns-3
 returns-3 c = of-kind _ Kind.PolH (c .before .enum-told3 .given .1) (c .mesh-end .ensures)
 
--- src/lib.rt:251:1
 returns-4 : tie.Need-returns-4
 returns-4 c = of-kind _ Kind.Mat1 (c .before .enum-told4 .given .1) (c .material-end .ensures)
 
--- src/lib.rt:251:1
 returns-5 : tie.Need-returns-5
 returns-5 c = of-kind _ Kind.Other (c .enum-told5 .given .1) (any-ends _)
 

@@ -1,38 +1,28 @@
+-- A list of faces and holes.
+use borrow.Author.Needs.{needs}
 use Rattle.cob_rules.specs.Body.{faceRun}
 use Rattle.cob_body.proofs.Ends.{count-of, count-bad, counted-ends, counted-not}
-use borrow.Author.Needs.{needs}
 use Rattle.cob_body.proofs.faces_end.Statement.{statement}
 use Rattle.cob_body.proofs.faces_end.Tie as tie
-use Rattle.cob_body.proofs.faces_end.Reads as reads
-use Rattle.cob_body.proofs.faces_end.Lts as lts
-use Rattle.cob_body.proofs.long_count.Reads as long-count-reads
-use Rattle.cob_body.proofs.run_end.Reads as run-end-reads
 
--- src/lib.rt:151:11
 long-count-requires : tie.Need-long-count-requires
 long-count-requires c κs = search needs
 
--- src/lib.rt:152:21
 enum-known-n : tie.Need-enum-known-n
 enum-known-n c = search needs
 
--- src/lib.rt:152:38
 add-run-end : tie.Need-add-run-end
 add-run-end c = search needs
 
--- src/lib.rt:152:27
 run-end-requires : tie.Need-run-end-requires
 run-end-requires c κs = let k = count-of (c .before .before .before .long-count .ensures) (c .before .n .given .1) in k .whole
 
--- src/lib.rt:153:25
 enum-told : tie.Need-enum-told
 enum-told c = search needs
 
--- src/lib.rt:147:1
 returns : tie.Need-returns
 returns c = let k = count-of (c .before .before .before .before .long-count .ensures) (c .before .before .n .given .1) in counted-ends faceRun k (c .run-end .ensures)
 
--- src/lib.rt:147:1
 returns-2 : tie.Need-returns-2
 returns-2 c = let x = c .before .before .before .before .args in counted-not 4 faceRun (x .s .now) (x .at) (count-bad (c .before .before .long-count .ensures) (c .enum-told .given .1))
 

@@ -1,45 +1,34 @@
+-- A map, where its letter and a colon stand.
+use borrow.Author.Needs.{needs}
 use native.Mathlib.Omega.{arith}
 use Rattle.cob_body.proofs.Parts.{map-short, map-letter, map-colon, map-here, map-not, map-ends}
-use borrow.Author.Needs.{needs}
 use Rattle.cob_body.proofs.map_end.Statement.{statement}
 use Rattle.cob_body.proofs.map_end.Tie as tie
-use Rattle.cob_body.proofs.map_end.Reads as reads
-use Rattle.cob_body.proofs.map_end.Lts as lts
-use Rattle.cob_body.proofs.map_data_end.Reads as map-data-end-reads
 
--- src/lib.rt:176:8
 sub-if1 : tie.Need-sub-if1
 sub-if1 c = search needs
 
--- src/lib.rt:177:9
 returns : tie.Need-returns
 returns c = let x = c .before .before .args in map-not (x .s .now) (x .at) (x .letter) (x .k) (omega arith) (map-short (x .s .now) (x .at) (x .letter) (x .k) (c .if1 .taken))
 
--- src/lib.rt:179:8
 shared-slice-read-if2 : tie.Need-shared-slice-read-if2
 shared-slice-read-if2 c = search needs
 
--- src/lib.rt:180:9
 returns-2 : tie.Need-returns-2
 returns-2 c = let x = c .before .before .before .before .args in map-not (x .s .now) (x .at) (x .letter) (x .k) (omega arith) (map-letter (x .s .now) (x .at) (x .letter) (x .k) (omega arith) (c .if2 .taken))
 
--- src/lib.rt:182:10
 add-if3 : tie.Need-add-if3
 add-if3 c = search needs
 
--- src/lib.rt:182:8
 shared-slice-read-if3 : tie.Need-shared-slice-read-if3
 shared-slice-read-if3 c = search needs
 
--- src/lib.rt:183:9
 returns-3 : tie.Need-returns-3
 returns-3 c = let x = c .before .before .before .before .before .before .args in map-not (x .s .now) (x .at) (x .letter) (x .k) (omega arith) (map-colon (x .s .now) (x .at) (x .letter) (x .k) (omega arith) (c .if3 .taken))
 
--- src/lib.rt:185:5
 map-data-end-requires : tie.Need-map-data-end-requires
 map-data-end-requires c κs = search needs
 
--- src/lib.rt:172:1
 returns-4 : tie.Need-returns-4
 returns-4 c = let x = c .before .before .before .before .before .before .before .args in map-ends (x .s .now) (x .at) (x .letter) (x .k) (map-here (x .s .now) (x .at) (x .letter) (x .k) (omega arith) (c .before .before .before .if2 .left) (c .before .if3 .left)) (c .map-data-end .ensures)
 

@@ -1,37 +1,28 @@
+-- A count of 2 bytes.
+use borrow.Author.Needs.{needs}
 use mathlib.Core.Path.{_∙_}
 use native.Mathlib.Omega.{arith}
 use Rattle.shared_numbers.specs.Numbers.{wordAt}
 use Rattle.cob_body.proofs.Ends.{count-short, count-negative, count-good}
-use borrow.Author.Needs.{needs}
 use Rattle.cob_body.proofs.short_count.Statement.{statement}
 use Rattle.cob_body.proofs.short_count.Tie as tie
-use Rattle.cob_body.proofs.short_count.Reads as reads
-use Rattle.cob_body.proofs.short_count.Lts as lts
-use Rattle.cob_body.proofs.wide.Reads as wide-reads
-use Rattle.shared_numbers.proofs.word_at.Reads as word-at-reads
 
--- src/lib.rt:47:8
 sub-if1 : tie.Need-sub-if1
 sub-if1 c = search needs
 
--- src/lib.rt:48:9
 returns : tie.Need-returns
 returns c = count-short 2 _ _ (c .if1 .taken)
 
--- src/lib.rt:50:9
 word-at-requires : tie.Need-word-at-requires
 word-at-requires c κs = search needs
 
--- src/lib.rt:52:9
 returns-2 : tie.Need-returns-2
 unfolding wordAt
 returns-2 c = let x = c .before .before .before .before .args in count-negative 2 (x .s .now) (x .at) (c .before .word-at .result) (omega arith) (c .before .word-at .ensures .is) (omega arith)
 
--- src/lib.rt:54:17
 wide-requires : tie.Need-wide-requires
 wide-requires c κs = search needs
 
--- src/lib.rt:43:1
 returns-3 : tie.Need-returns-3
 unfolding wordAt
 returns-3 c = let x = c .before .before .before .before .before .args in count-good 2 (x .s .now) (x .at) _ (omega arith) (c .wide .ensures ∙ c .before .before .word-at .ensures .is) (omega (arith, c .wide .ensures))

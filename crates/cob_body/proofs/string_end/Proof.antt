@@ -1,41 +1,30 @@
-use native.Mathlib.Nat.{one-mul}
+-- A string: its length, and its bytes.
 use Prim.Native.Nat.{_*_}
-use native.Mathlib.Omega.{arith}
+use borrow.Author.Needs.{needs}
+use native.Mathlib.Nat.{one-mul}
 use Rattle.cob_rules.specs.Body.{skip}
 use Rattle.cob_body.proofs.Ends.{count-of, count-bad, counted-ends, counted-not}
-use borrow.Author.Needs.{needs}
 use Rattle.cob_body.proofs.string_end.Statement.{statement}
 use Rattle.cob_body.proofs.string_end.Tie as tie
-use Rattle.cob_body.proofs.string_end.Reads as reads
-use Rattle.cob_body.proofs.string_end.Lts as lts
-use Rattle.cob_body.proofs.short_count.Reads as short-count-reads
-use Rattle.cob_body.proofs.skip_bytes.Reads as skip-bytes-reads
 
--- src/lib.rt:93:11
 short-count-requires : tie.Need-short-count-requires
 short-count-requires c κs = search needs
 
--- src/lib.rt:94:21
 enum-known-n : tie.Need-enum-known-n
 enum-known-n c = search needs
 
--- src/lib.rt:94:41
 add-skip-bytes : tie.Need-add-skip-bytes
 add-skip-bytes c = search needs
 
--- src/lib.rt:94:27
 skip-bytes-requires : tie.Need-skip-bytes-requires
 skip-bytes-requires c κs = let k = count-of (c .before .before .before .short-count .ensures) (c .before .n .given .1) in k .whole
 
--- src/lib.rt:95:25
 enum-told : tie.Need-enum-told
 enum-told c = search needs
 
--- src/lib.rt:89:1
 returns : tie.Need-returns
 returns c = let k = count-of (c .before .before .before .before .short-count .ensures) (c .before .before .n .given .1) in counted-ends (λ n. skip (1 * n)) k (rw one-mul (c .skip-bytes .ensures))
 
--- src/lib.rt:89:1
 returns-2 : tie.Need-returns-2
 returns-2 c = let x = c .before .before .before .before .args in counted-not 2 (λ n. skip (1 * n)) (x .s .now) (x .at) (count-bad (c .before .before .short-count .ensures) (c .enum-told .given .1))
 

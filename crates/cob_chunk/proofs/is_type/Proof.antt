@@ -1,14 +1,11 @@
+-- Whether the four letters and the version are these.
 use borrow.Author.Tests.{eq-eqb, ne-eqb}
 use Rattle.cob_chunk.proofs.is_type.Statement.{statement}
 use Rattle.cob_chunk.proofs.is_type.Tie as tie
-use Rattle.cob_chunk.proofs.is_type.Reads as reads
-use Rattle.cob_chunk.proofs.is_type.Lts as lts
 
--- src/lib.rt:21:1
 returns : tie.Need-returns
 returns c = rw (eq-eqb _ _ (c .if1 .taken))
 
--- src/lib.rt:21:1
 returns-2 : tie.Need-returns-2
 returns-2 c = rw (ne-eqb _ _ (c .if1 .left))
 

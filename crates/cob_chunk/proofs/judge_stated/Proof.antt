@@ -1,39 +1,29 @@
+-- A body of a stated size.
+use borrow.Author.Needs.{needs}
 use mathlib.Core.Path.{_∙_}
 use Rattle.cob_body.proofs.Ends.{ends-at, ends-not}
 use Rattle.cob_chunk.proofs.Judged.{stated-not, stated-more, stated-exact, exact-judged}
-use borrow.Author.Needs.{needs}
 use Rattle.cob_chunk.proofs.judge_stated.Statement.{statement}
 use Rattle.cob_chunk.proofs.judge_stated.Tie as tie
-use Rattle.cob_chunk.proofs.judge_stated.Reads as reads
-use Rattle.cob_chunk.proofs.judge_stated.Lts as lts
-use Rattle.cob_body.proofs.body_end.Reads as body-end-reads
-use Rattle.cob_chunk.proofs.judge_parts.Reads as judge-parts-reads
 
--- src/lib.rt:132:24
 body-end-requires : tie.Need-body-end-requires
 body-end-requires c κs = search needs
 
--- src/lib.rt:132:19
 enum-known-n : tie.Need-enum-known-n
 enum-known-n c = search needs
 
--- src/lib.rt:133:9
 enum-told : tie.Need-enum-told
 enum-told c = search needs
 
--- src/lib.rt:133:9
 returns : tie.Need-returns
 returns c = let x = c .before .before .before .before .args in stated-not (x .k) (x .body .now) (ends-not (c .before .before .body-end .ensures) (c .enum-told .given .1))
 
--- src/lib.rt:136:9
 returns-2 : tie.Need-returns-2
 returns-2 c = let x = c .before .before .before .before .before .before .args in stated-more (x .k) (x .body .now) _ (ends-at (c .before .before .before .before .body-end .ensures) (c .before .before .n .given .1)) (c .if1 .taken)
 
--- src/lib.rt:138:5
 judge-parts-requires : tie.Need-judge-parts-requires
 judge-parts-requires c κs = let x = c .before .before .before .before .before .before .args in stated-exact (x .k) (x .body .now) _ (ends-at (c .before .before .before .before .body-end .ensures) (c .before .before .n .given .1)) (c .if1 .left)
 
--- src/lib.rt:129:1
 returns-3 : tie.Need-returns-3
 returns-3 c = let x = c .before .before .before .before .before .before .before .args in
     c .judge-parts .ensures ∙ exact-judged (x .k) (x .body .now) (stated-exact (x .k) (x .body .now) _ (ends-at (c .before .before .before .before .before .body-end .ensures) (c .before .before .before .n .given .1)) (c .before .if1 .left))

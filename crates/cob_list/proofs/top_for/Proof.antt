@@ -1,44 +1,33 @@
+-- The node of the topmost owner of node k, from its parent's identifier.
+use borrow.Author.Needs.{needs}
+use borrow.Author.Tests.{eq-eqb, ne-eqb}
 use mathlib.Core.Path.{sym, _∙_}
 use native.Mathlib.Omega.{arith}
-use borrow.Author.Tests.{eq-eqb, ne-eqb}
 use Rattle.cob_seen.proofs.Numbers.{number-at}
-use borrow.Author.Needs.{needs}
 use Rattle.cob_list.proofs.top_for.Statement.{statement}
 use Rattle.cob_list.proofs.top_for.Tie as tie
-use Rattle.cob_list.proofs.top_for.Reads as reads
-use Rattle.cob_list.proofs.top_for.Lts as lts
-use Rattle.cob_owner.proofs.topmost.Reads as topmost-reads
-use Rattle.cob_seen.proofs.find.Reads as find-reads
 
--- src/lib.rt:34:9
 returns : tie.Need-returns
 returns c = rw (eq-eqb _ _ (c .if1 .taken))
 
--- src/lib.rt:36:11
 find-requires : tie.Need-find-requires
 find-requires c κs = search needs
 
--- src/lib.rt:37:19
 enum-known-p : tie.Need-enum-known-p
 enum-known-p c = search needs
 
--- src/lib.rt:37:37
 cast-topmost : tie.Need-cast-topmost
 cast-topmost c = let x = c .before .before .before .before .before .before .before .before .args in let a = number-at (x .ids .now) (x .count) (x .parent) _ (sym (c .before .before .before .find .ensures) ∙ c .before .p .given .1) in omega (arith, a .0)
 
--- src/lib.rt:37:25
 topmost-requires : tie.Need-topmost-requires
 topmost-requires c κs = let x = c .before .before .before .before .before .before .before .before .args in let a = number-at (x .ids .now) (x .count) (x .parent) _ (sym (c .before .before .before .find .ensures) ∙ c .before .p .given .1) in omega (arith, a .0)
 
--- src/lib.rt:38:27
 enum-told : tie.Need-enum-told
 enum-told c = search needs
 
--- src/lib.rt:29:1
 returns-2 : tie.Need-returns-2
 returns-2 c = c .topmost .ensures ∙ rw (ne-eqb _ _ (c .before .before .before .before .before .if1 .left), sym (c .before .before .before .before .find .ensures) ∙ c .before .before .p .given .1)
 
--- src/lib.rt:29:1
 returns-3 : tie.Need-returns-3
 returns-3 c = rw (ne-eqb _ _ (c .before .before .before .if1 .left), sym (c .before .before .find .ensures) ∙ c .enum-told .given .1)
 

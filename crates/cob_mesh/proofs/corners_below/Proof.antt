@@ -1,19 +1,17 @@
-use mathlib.Core.Path.{_≡_, refl, sym, ap, _∙_}
+-- Whether the corners at a position are below the counts of vertices and of texture vertices.
 use Prim.Native.Nat.{ℕ, _+_, _*_, _≤_}
-use native.Mathlib.Omega.{arith}
-use mathlib.Core.Bool.{true, false}
+use borrow.Author.Tests.{le-ltb, lt-ltb}
 use lib.Dec.{ltb}
 use lib.ListN.{length, drop}
-use borrow.Author.Tests.{le-ltb, lt-ltb}
-use Rattle.shared_words.specs.Lists.{every}
+use mathlib.Core.Bool.{true}
+use mathlib.Core.Path.{_≡_, refl, sym, ap, _∙_}
+use native.Mathlib.Omega.{arith}
 use Rattle.shared_numbers.specs.Numbers.{longAt}
+use Rattle.shared_words.specs.Lists.{every}
 use Rattle.cob_mesh.specs.Laid.{allCorners}
 use Rattle.cob_mesh.proofs.Below.{corner-good, vertex-bad, texture-bad}
 use Rattle.cob_mesh.proofs.corners_below.Statement.{statement}
 use Rattle.cob_mesh.proofs.corners_below.Tie as tie
-use Rattle.cob_mesh.proofs.corners_below.Reads as reads
-use Rattle.cob_mesh.proofs.corners_below.Lts as lts
-use Rattle.shared_numbers.proofs.long_at.Reads as long-at-reads
 
 abbrev Inv-loop : tie.InvT-loop
 Inv-loop s at count vertices textures left₀ o₀ left o = (o + 8 * left ≤ length s) × (allCorners vertices textures count (drop at s) ≡ allCorners vertices textures left (drop o s))
@@ -21,47 +19,37 @@ Inv-loop s at count vertices textures left₀ o₀ left o = (o + 8 * left ≤ le
 abbrev μ-loop : tie.MeasureT-loop
 μ-loop s at count vertices textures left₀ o₀ left o = left
 
--- src/lib.rt:108:5
 loop-holds : tie.Need-loop-holds Inv-loop μ-loop
 loop-holds c = (omega arith, refl)
 
--- src/lib.rt:109:24
 long-at-requires : tie.Need-long-at-requires Inv-loop μ-loop
 long-at-requires c κs = omega arith
 
--- src/lib.rt:110:13
 returns : tie.Need-returns Inv-loop μ-loop
 returns c = let x = c .before .before .before .before .before .args in
     let l = c .before .before .before .loop in
     sym (l .inv .1 ∙ vertex-bad (x .s .now) (x .vertices) (x .textures) (l .o) (l .left) (omega arith) (ap (λ (n : ℕ). ltb n (x .vertices)) (sym (c .before .long-at .ensures .is)) ∙ le-ltb _ _ (c .if1 .taken)))
 
--- src/lib.rt:112:35
 add-long-at : tie.Need-add-long-at Inv-loop μ-loop
 add-long-at c = omega arith
 
--- src/lib.rt:112:24
 long-at-requires-2 : tie.Need-long-at-requires-2 Inv-loop μ-loop
 long-at-requires-2 c κs = omega arith
 
--- src/lib.rt:113:13
 returns-2 : tie.Need-returns-2 Inv-loop μ-loop
 returns-2 c = let x = c .before .before .before .before .before .before .before .args in
     let l = c .before .before .before .before .before .loop in
     sym (l .inv .1 ∙ texture-bad (x .s .now) (x .vertices) (x .textures) (l .o) (l .left) (omega arith) (ap (λ (n : ℕ). ltb n (x .textures)) (sym (c .before .long-at2 .ensures .is)) ∙ le-ltb _ _ (c .if2 .taken)))
 
--- src/lib.rt:115:9
 add-o : tie.Need-add-o Inv-loop μ-loop
 add-o c = omega arith
 
--- src/lib.rt:116:9
 sub-left : tie.Need-sub-left Inv-loop μ-loop
 sub-left c = omega arith
 
--- src/lib.rt:108:5
 loop-less : tie.Need-loop-less Inv-loop μ-loop
 loop-less c = omega arith
 
--- src/lib.rt:108:5
 loop-again : tie.Need-loop-again Inv-loop μ-loop
 loop-again c = let x = c .before .before .before .before .before .before .before .args in
     let l = c .before .before .before .before .before .loop in
@@ -69,7 +57,6 @@ loop-again c = let x = c .before .before .before .before .before .before .before
     let t : ltb (longAt (x .s .now) (l .o + 4)) (x .textures) ≡ true = ap (λ (n : ℕ). ltb n (x .textures)) (sym (c .before .long-at2 .ensures .is)) ∙ lt-ltb _ _ (c .if2 .left) in
     (omega arith, l .inv .1 ∙ corner-good (x .s .now) (x .vertices) (x .textures) (l .o) (l .left) (omega arith) v t)
 
--- src/lib.rt:102:1
 returns-3 : tie.Need-returns-3 Inv-loop μ-loop
 unfolding every
 returns-3 c = let e : c .before .loop .left ≡ 0 = omega arith in sym (c .before .loop .inv .1 ∙ rw e)

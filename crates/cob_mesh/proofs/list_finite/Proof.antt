@@ -1,45 +1,35 @@
-use mathlib.Core.Path.{_≡_, ap, _∙_}
+-- Whether the floats of a list are finite, k of them an entry.
 use Prim.Native.Nat.{ℕ, _+_, _*_}
-use native.Mathlib.Omega.{arith}
-use lib.ListN.{drop}
-use Rattle.shared_words.specs.Bytes.{numbers}
-use Rattle.shared_words.specs.Lists.{every}
-use Rattle.shared_words.specs.Floats.{finite}
-use Rattle.shared_numbers.specs.Numbers.{longAt}
 use borrow.Author.Needs.{needs}
+use lib.ListN.{drop}
+use mathlib.Core.Path.{_≡_, ap, _∙_}
+use native.Mathlib.Omega.{arith}
+use Rattle.shared_numbers.specs.Numbers.{longAt}
+use Rattle.shared_words.specs.Bytes.{numbers}
+use Rattle.shared_words.specs.Floats.{finite}
+use Rattle.shared_words.specs.Lists.{every}
 use Rattle.cob_mesh.proofs.list_finite.Statement.{statement}
 use Rattle.cob_mesh.proofs.list_finite.Tie as tie
-use Rattle.cob_mesh.proofs.list_finite.Reads as reads
-use Rattle.cob_mesh.proofs.list_finite.Lts as lts
-use Rattle.cob_mesh.proofs.wide.Reads as wide-reads
-use Rattle.shared_numbers.proofs.long_at.Reads as long-at-reads
-use Rattle.studio_scan.proofs.all_finite.Reads as all-finite-reads
 
--- src/lib.rt:160:22
 long-at-requires : tie.Need-long-at-requires
 long-at-requires c κs = search needs
 
--- src/lib.rt:160:9
 wide-requires : tie.Need-wide-requires
 wide-requires c κs = search needs
 
--- src/lib.rt:161:19
 add-all-finite : tie.Need-add-all-finite
 add-all-finite c = search needs
 
--- src/lib.rt:161:27
 mul-all-finite : tie.Need-mul-all-finite
 mul-all-finite c = let x = c .before .before .before .args in
     let e : x .k * c .wide .result ≡ x .k * longAt (x .s .now) (x .at) = ap (λ (n : ℕ). x .k * n) (c .wide .ensures ∙ c .before .long-at .ensures .is) in
     omega (arith, c .before .before .before .pre .1)
 
--- src/lib.rt:161:5
 all-finite-requires : tie.Need-all-finite-requires
 all-finite-requires c κs = let x = c .before .before .before .args in
     let e : x .k * c .wide .result ≡ x .k * longAt (x .s .now) (x .at) = ap (λ (n : ℕ). x .k * n) (c .wide .ensures ∙ c .before .long-at .ensures .is) in
     omega (arith, c .before .before .before .pre .1)
 
--- src/lib.rt:156:1
 returns : tie.Need-returns
 returns c = let x = c .before .before .before .before .args in
     c .all-finite .ensures ∙ ap (λ (n : ℕ). every finite (numbers 4 (x .k * n) (drop (x .at + 4) (x .s .now)))) (c .before .wide .ensures ∙ c .before .before .long-at .ensures .is)

@@ -1,14 +1,15 @@
-use native.Mathlib.Omega.{arith}
-use mathlib.Core.Path.{sym, _∙_}
-use Rattle.cob_owner.proofs.Up.{up, stop}
+-- parents[k] is the number of the record that owns record k, or k where none does.
 use Prim.Native.Nat.{ℕ, _<_}
 use borrow.Fn.Kinds.{In}
 use borrow.Fn.PlainCycle.{Measures, is, falls, and}
-use Rattle.cob_owner.proofs.topmost.Reads as topmost
-use Rattle.cob_owner.proofs.topmost.Kinds as topmost-kinds
-use Rattle.cob_owner.proofs.+topmost.Lts-topmost as topmost-lts
-use Rattle.cob_owner.proofs.+topmost.{statement}
+use mathlib.Core.Path.{sym, _∙_}
+use native.Mathlib.Omega.{arith}
 use Rattle.cob_owner.proofs.+topmost.Tie.{close}
+use Rattle.cob_owner.proofs.+topmost.{statement}
+use Rattle.cob_owner.proofs.Up.{up, stop}
+use Rattle.cob_owner.proofs.+topmost.Lts-topmost as topmost-lts
+use Rattle.cob_owner.proofs.topmost.Kinds as topmost-kinds
+use Rattle.cob_owner.proofs.topmost.Reads as topmost
 
 abbrev μ-topmost : Measures 1 topmost-kinds.ps ℕ
 μ-topmost κs a = a .1 .0
@@ -19,31 +20,26 @@ topmost-at t = and 1 topmost-kinds.ps (is 1 topmost-kinds.ps μ-topmost t) topmo
 abbrev topmost-below : ℕ → In 1 topmost-kinds.ps
 topmost-below t = and 1 topmost-kinds.ps (falls 1 topmost-kinds.ps _<_ μ-topmost t) topmost.Pre
 
--- src/lib.rt:13:13
 topmost-mul-p :
     (t : ℕ) → topmost-lts.Need-mul-p (topmost-below t, topmost.Post) (topmost-at t) topmost.Post
 topmost-mul-p t c = omega arith
 
--- src/lib.rt:13:13
 topmost-shared-slice-read-p : (t : ℕ) → topmost-lts.Need-shared-slice-read-p (
   topmost-below t,
   topmost.Post,
 ) (topmost-at t) topmost.Post
 topmost-shared-slice-read-p t c = omega arith
 
--- src/lib.rt:14:16
 topmost-topmost-requires : (t : ℕ) → topmost-lts.Need-topmost-requires (
   topmost-below t,
   topmost.Post,
 ) (topmost-at t) topmost.Post
 topmost-topmost-requires t c κs = (omega arith, omega arith)
 
--- src/lib.rt:8:1
 topmost-returns :
     (t : ℕ) → topmost-lts.Need-returns (topmost-below t, topmost.Post) (topmost-at t) topmost.Post
 topmost-returns t c = c .topmost .ensures ∙ sym (up _ _ (c .before .if1 .taken))
 
--- src/lib.rt:8:1
 topmost-returns-2 :
     (t : ℕ) →
     topmost-lts.Need-returns-2 (topmost-below t, topmost.Post) (topmost-at t) topmost.Post

@@ -1,12 +1,12 @@
 -- The end of the search for x, and the node put there.
-use mathlib.Core.Path.{refl, sym, ap, subst}
-use mathlib.Core.Bool.{not, true≢false, false≢true}
 use Prim.Native.Nat.{ℕ, _+_, _*_}
-use native.Mathlib.Omega.{arith}
+use borrow.Author.Needs.{needs}
 use lib.ListN.{set}
+use mathlib.Core.Bool.{not, true≢false, false≢true}
+use mathlib.Core.Path.{refl, sym, ap, subst}
+use native.Mathlib.Omega.{arith}
 use Rattle.cob_seen.specs.Tree.{Represents, isAt}
 use Rattle.cob_seen.proofs.Search.{there, nowhere, grows}
-use borrow.Author.Needs.{needs}
 use Rattle.cob_seen.proofs.add.Statement.{statement}
 use Rattle.cob_seen.proofs.add.Tie as tie
 

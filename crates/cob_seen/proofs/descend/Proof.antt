@@ -1,15 +1,15 @@
 -- The loop's invariant: the search has come to `at`. Links rise, so what is left of the nodes falls.
-use mathlib.Core.Path.{_≡_, sym, ap, subst, _∙_}
 use Prim.Native.Nat.{ℕ, _+_, _*_, _/_, _-_}
-use native.Mathlib.Omega.{arith}
 use lib.ListN.{getD}
+use mathlib.Core.Path.{_≡_, sym, ap, subst, _∙_}
+use native.Mathlib.Omega.{arith}
 use Rattle.cob_seen.specs.Tree.{Comes, linkOf}
 use Rattle.cob_seen.proofs.Search.{bit, comes-start, comes-on}
+use Rattle.cob_seen.proofs.descend.Lts as lts
+use Rattle.cob_seen.proofs.descend.Reads as reads
+use Rattle.cob_seen.proofs.wide.Reads as wide-reads
 use Rattle.cob_seen.proofs.descend.Statement.{statement}
 use Rattle.cob_seen.proofs.descend.Tie as tie
-use Rattle.cob_seen.proofs.descend.Reads as reads
-use Rattle.cob_seen.proofs.descend.Lts as lts
-use Rattle.cob_seen.proofs.wide.Reads as wide-reads
 
 abbrev Inv-loop : tie.InvT-loop
 Inv-loop ids links count x at₀ rest₀ at rest = Comes ids links count x at rest

@@ -1,7 +1,7 @@
 -- What the end of the search says of the list.
+use borrow.Author.Needs.{needs}
 use mathlib.Core.Path.{sym}
 use Rattle.cob_seen.proofs.Search.{there, nowhere}
-use borrow.Author.Needs.{needs}
 use Rattle.cob_seen.proofs.find.Statement.{statement}
 use Rattle.cob_seen.proofs.find.Tie as tie
 

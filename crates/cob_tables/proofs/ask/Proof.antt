@@ -1,56 +1,42 @@
+-- The check of the file, then the mesh.
 use Prim.Native.Nat.{ℕ}
-use native.Mathlib.Omega.{arith}
+use borrow.Author.Needs.{needs}
 use mathlib.Core.Path.{subst}
+use native.Mathlib.Omega.{arith}
 use Rattle.cob_tables.specs.Asked.{FoundIs}
 use Rattle.cob_tables.proofs.Picks.{file-refused, readable, mesh-here, mesh-nowhere}
-use borrow.Author.Needs.{needs}
 use Rattle.cob_tables.proofs.ask.Statement.{statement}
 use Rattle.cob_tables.proofs.ask.Tie as tie
-use Rattle.cob_tables.proofs.ask.Reads as reads
-use Rattle.cob_tables.proofs.ask.Lts as lts
-use Rattle.cob_check.proofs.check.Reads as check-reads
-use Rattle.cob_tables.proofs.find_mesh.Reads as find-mesh-reads
-use Rattle.cob_tables.proofs.wide.Reads as wide-reads
 
--- src/lib.rt:84:11
 check-requires : tie.Need-check-requires
 check-requires c κs = search needs
 
--- src/lib.rt:85:27
 enum-known-r : tie.Need-enum-known-r
 enum-known-r c = search needs
 
--- src/lib.rt:86:53
 enum-told : tie.Need-enum-told
 enum-told c = search needs
 
--- src/lib.rt:86:53
 wide-requires : tie.Need-wide-requires
 wide-requires c κs = search needs
 
--- src/lib.rt:86:37
 find-mesh-requires : tie.Need-find-mesh-requires
 find-mesh-requires c κs = (readable (c .before .before .before .before .before .args .file .now) (c .before .before .before .check .ensures) (c .before .enum-told .given .1), omega (arith, c .wide .ensures))
 
--- src/lib.rt:87:23
 enum-known-from : tie.Need-enum-known-from
 enum-known-from c = search needs
 
--- src/lib.rt:88:28
 enum-known-n : tie.Need-enum-known-n
 enum-known-n c = search needs
 
--- src/lib.rt:81:1
 returns : tie.Need-returns
 returns c = file-refused (c .before .before .before .before .before .args .file .now) (c .before .before .before .check .ensures) _ (c .before .r .given .1)
 
--- src/lib.rt:81:1
 returns-2 : tie.Need-returns-2
 returns-2 c = let x = c .before .before .before .before .before .before .before .before .before .args in
     mesh-here (x .file .now) (x .mesh) (readable (x .file .now) (c .before .before .before .before .before .before .before .check .ensures) (c .before .before .before .before .before .enum-told .given .1))
     (subst (λ (n : ℕ). FoundIs (x .file .now) n (c .before .before .before .find-mesh .result)) (c .before .before .before .before .wide .ensures) (c .before .before .before .find-mesh .ensures)) (c .before .from .given .1)
 
--- src/lib.rt:81:1
 returns-3 : tie.Need-returns-3
 returns-3 c = let x = c .before .before .before .before .before .before .before .before .before .args in
     mesh-nowhere (x .file .now) (x .mesh) (readable (x .file .now) (c .before .before .before .before .before .before .before .check .ensures) (c .before .before .before .before .before .enum-told .given .1))

@@ -1,11 +1,8 @@
+-- The corners of all of them, into the front of a row.
 use native.Mathlib.Omega.{arith}
 use Rattle.cob_tables.proofs.Faces.{Filling, filling-starts, triangle-fits, fill-more, filled-all}
 use Rattle.cob_tables.proofs.fill_corners.Statement.{statement}
 use Rattle.cob_tables.proofs.fill_corners.Tie as tie
-use Rattle.cob_tables.proofs.fill_corners.Reads as reads
-use Rattle.cob_tables.proofs.fill_corners.Lts as lts
-use Rattle.cob_tables.proofs.put_triangle.Reads as put-triangle-reads
-use Rattle.cob_tables.proofs.triangle_at.Reads as triangle-at-reads
 
 abbrev Inv-loop : tie.InvT-loop
 Inv-loop s at count row₀ left₀ o₀ to₀ row left o to = Filling s at count row₀ row o left to
@@ -13,35 +10,27 @@ Inv-loop s at count row₀ left₀ o₀ to₀ row left o to = Filling s at count
 abbrev μ-loop : tie.MeasureT-loop
 μ-loop s at count row₀ left₀ o₀ to₀ row left o to = left
 
--- src/lib.rt:184:5
 loop-holds : tie.Need-loop-holds Inv-loop μ-loop
 loop-holds c = filling-starts _ _ _ _ (c .before .before .pre .0) (c .before .before .pre .1)
 
--- src/lib.rt:185:13
 triangle-at-requires : tie.Need-triangle-at-requires Inv-loop μ-loop
 triangle-at-requires c κs = (c .before .loop .inv .whole, c .loop-test .taken)
 
--- src/lib.rt:186:9
 put-triangle-requires : tie.Need-put-triangle-requires Inv-loop μ-loop
 put-triangle-requires c κs = triangle-fits (c .before .before .before .loop .inv) (c .before .before .loop-test .taken) (c .before .triangle-at .ensures)
 
--- src/lib.rt:188:9
 sub-left : tie.Need-sub-left Inv-loop μ-loop
 sub-left c = omega arith
 
--- src/lib.rt:184:5
 loop-less : tie.Need-loop-less Inv-loop μ-loop
 loop-less c = omega arith
 
--- src/lib.rt:184:5
 loop-again : tie.Need-loop-again Inv-loop μ-loop
 loop-again c = fill-more (c .before .before .before .before .before .before .loop .inv) (c .before .before .before .before .before .loop-test .taken) (c .before .before .before .before .triangle-at .ensures) (c .before .before .put-triangle .ensures) (omega arith)
 
--- src/lib.rt:177:1
 same-length : tie.Need-same-length Inv-loop μ-loop
 same-length c = c .before .loop .inv .row-long
 
--- src/lib.rt:177:1
 returns : tie.Need-returns Inv-loop μ-loop
 returns c = filled-all (c .before .loop .inv) (omega arith)
 

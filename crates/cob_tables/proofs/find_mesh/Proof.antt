@@ -1,19 +1,14 @@
-use mathlib.Core.Path.{sym, ap, _∙_}
+-- The mesh of a number in an accepted file.
 use Prim.Native.Nat.{_-_}
-use native.Mathlib.Omega.{arith}
-use lib.ListN.{length}
 use borrow.Author.Needs.{needs}
 use borrow.Author.Tests.{not-true, not-false}
+use lib.ListN.{length}
+use mathlib.Core.Path.{sym, ap, _∙_}
+use native.Mathlib.Omega.{arith}
 use Rattle.cob_rules.specs.Kinds.{isEnd}
-use Rattle.cob_tables.proofs.Finding.{Finding, starts, head-whole, nowhere, here-stated, here-fits, here-long, finds, passes}
+use Rattle.cob_tables.proofs.Finding.{Finding, starts, head-whole, nowhere, here-stated, here-long, finds, passes}
 use Rattle.cob_tables.proofs.find_mesh.Statement.{statement}
 use Rattle.cob_tables.proofs.find_mesh.Tie as tie
-use Rattle.cob_tables.proofs.find_mesh.Reads as reads
-use Rattle.cob_tables.proofs.find_mesh.Lts as lts
-use Rattle.cob_chunk.proofs.chunk_end.Reads as chunk-end-reads
-use Rattle.cob_chunk.proofs.is_end.Reads as is-end-reads
-use Rattle.cob_chunk.proofs.kind_at.Reads as kind-at-reads
-use Rattle.cob_tables.proofs.count_mesh.Reads as count-mesh-reads
 
 abbrev Inv-loop : tie.InvT-loop
 Inv-loop file mesh at₀ n₀ at n = Finding file mesh at n
@@ -21,53 +16,55 @@ Inv-loop file mesh at₀ n₀ at n = Finding file mesh at n
 abbrev μ-loop : tie.MeasureT-loop
 μ-loop file mesh at₀ n₀ at n = length file - at
 
--- src/lib.rt:68:5
 loop-holds : tie.Need-loop-holds Inv-loop μ-loop
 loop-holds c = starts _ _ (c .before .pre .0)
 
--- src/lib.rt:68:19
 kind-at-requires : tie.Need-kind-at-requires Inv-loop μ-loop
 kind-at-requires c κs = head-whole (c .loop .inv)
 
--- src/lib.rt:68:12
 is-end-requires : tie.Need-is-end-requires Inv-loop μ-loop
 is-end-requires c κs = search needs
 
--- src/lib.rt:69:13
 chunk-end-requires : tie.Need-chunk-end-requires Inv-loop μ-loop
 chunk-end-requires c κs = here-stated (c .before .before .before .loop .inv) (ap isEnd (sym (c .before .before .kind-at .ensures)) ∙ sym (c .before .is-end .ensures) ∙ not-true _ (c .if1 .taken))
 
--- src/lib.rt:70:13
 count-mesh-requires : tie.Need-count-mesh-requires Inv-loop μ-loop
 count-mesh-requires c κs = head-whole (c .before .before .before .before .loop .inv)
 
--- src/lib.rt:71:19
 add-if2 : tie.Need-add-if2 Inv-loop μ-loop
 add-if2 c = omega (arith, c .before .before .before .before .before .loop .inv .few, c .before .before .before .before .before .before .before .pre .1, c .count-mesh .ensures .1)
 
--- src/lib.rt:72:30
 add-t11 : tie.Need-add-t11 Inv-loop μ-loop
 add-t11 c = omega (arith, head-whole (c .before .before .before .before .before .before .loop .inv))
 
--- src/lib.rt:72:13
 returns : tie.Need-returns Inv-loop μ-loop
-returns c = finds (c .before .before .before .before .before .before .loop .inv) (ap isEnd (sym (c .before .before .before .before .before .kind-at .ensures)) ∙ sym (c .before .before .before .before .is-end .ensures) ∙ not-true _ (c .before .before .before .if1 .taken)) _ _ (c .before .count-mesh .ensures .0) (c .before .before .chunk-end .ensures) (c .if2 .taken)
+returns c =
+    let count-mesh′ = c .before .count-mesh in
+    let chunk-end′ = c .before .before .chunk-end in
+    let if1′ = c .before .before .before .if1 in
+    let is-end′ = c .before .before .before .before .is-end in
+    let kind-at′ = c .before .before .before .before .before .kind-at in
+    let loop′ = c .before .before .before .before .before .before .loop in
+    finds (loop′ .inv) (ap isEnd (sym (kind-at′ .ensures)) ∙ sym (is-end′ .ensures) ∙ not-true _ (if1′ .taken)) _ _ (count-mesh′ .ensures .0) (chunk-end′ .ensures) (c .if2 .taken)
 
--- src/lib.rt:74:9
 add-n : tie.Need-add-n Inv-loop μ-loop
 add-n c = omega arith
 
--- src/lib.rt:68:5
 loop-less : tie.Need-loop-less Inv-loop μ-loop
 loop-less c = let t = ap isEnd (sym (c .before .before .before .before .before .kind-at .ensures)) ∙ sym (c .before .before .before .before .is-end .ensures) ∙ not-true _ (c .before .before .before .if1 .taken) in
     let n = c .before .before .chunk-end .ensures in
     omega (arith, here-long (c .before .before .before .before .before .before .loop .inv) t, head-whole (c .before .before .before .before .before .before .loop .inv))
 
--- src/lib.rt:68:5
 loop-again : tie.Need-loop-again Inv-loop μ-loop
-loop-again c = passes (c .before .before .before .before .before .before .loop .inv) (ap isEnd (sym (c .before .before .before .before .before .kind-at .ensures)) ∙ sym (c .before .before .before .before .is-end .ensures) ∙ not-true _ (c .before .before .before .if1 .taken)) _ _ (c .before .count-mesh .ensures .0) (c .before .before .chunk-end .ensures) (c .if2 .left)
+loop-again c =
+    let count-mesh′ = c .before .count-mesh in
+    let chunk-end′ = c .before .before .chunk-end in
+    let if1′ = c .before .before .before .if1 in
+    let is-end′ = c .before .before .before .before .is-end in
+    let kind-at′ = c .before .before .before .before .before .kind-at in
+    let loop′ = c .before .before .before .before .before .before .loop in
+    passes (loop′ .inv) (ap isEnd (sym (kind-at′ .ensures)) ∙ sym (is-end′ .ensures) ∙ not-true _ (if1′ .taken)) _ _ (count-mesh′ .ensures .0) (chunk-end′ .ensures) (c .if2 .left)
 
--- src/lib.rt:62:1
 returns-2 : tie.Need-returns-2 Inv-loop μ-loop
 returns-2 c = nowhere (c .before .before .before .loop .inv) (ap isEnd (sym (c .before .before .kind-at .ensures)) ∙ sym (c .before .is-end .ensures) ∙ not-false _ (c .if1 .left))
 
