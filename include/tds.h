@@ -1,6 +1,7 @@
 /*
- * tds.h - a strict reader of 3D Studio figures (.3ds), a writer of bare ones, and the slip of a
- * stick, which tells whether the files on it are still what they were.
+ * tds.h - a strict reader of 3D Studio figures (.3ds), a writer of bare ones, a strict reader of
+ * binary Caligari figures (.cob), and the slip of a stick, which tells whether the files on it are
+ * still what they were.
  *
  * A figure is read whole, from memory, by rules without exceptions: every length fills the chunk
  * around it exactly, every known chunk stands in its place, every corner of a face is a vertex that
@@ -69,7 +70,7 @@ extern "C" {
  * lent may be filled in another way than it was built for. (Version 1 had six numbers a record, and
  * no tds_version.) CHANGELOG.md says what came with each.
  */
-#define TDS_VERSION (65536 * 2 + 256 * 3 + 0)
+#define TDS_VERSION (65536 * 2 + 256 * 4 + 0)
 uint64_t tds_version(void);
 
 /* No file longer than this is a figure. One byte more is enough to hand to tds_check to be told. */
@@ -100,6 +101,9 @@ enum tds_refusal {
     TDS_EMPTY = 17,        /* the file is good but the mesh has no vertices, so no box (place 0) */
     TDS_SLIP = 18,         /* a slip that breaks its rules (place: see the calls about slips) */
     TDS_DIFFERS = 19,      /* a file is not the one of an entry (place 0: length, 1: sums) */
+    TDS_HEADER = 20,       /* a Caligari file without the header that it must have (place 0) */
+    TDS_OWNER = 21,        /* an identifier that is 0 or used before, or an unknown parent */
+    TDS_SIZE = 22,         /* a negative size where there may be none */
     TDS_FATHER = 23,       /* a part that hangs on none before it: see tds_parts (the B010) */
     TDS_TEXT = 24,         /* a name that does not fit the label: see TDS_LONGEST_NAME */
     TDS_FORM = 25,         /* a Cinema 4D file whose first 12 bytes are not right (place 0) */
@@ -319,6 +323,80 @@ uint64_t tds_write(const uint8_t *name, size_t name_len, const float *vertices, 
                    const uint16_t *corners, size_t corners_len, uint8_t *out, size_t out_len);
 
 /*
+ * CALIGARI FIGURES: binary .cob files, little-endian, with the chunks END 1.0, Grou 0.01, PolH 0.02
+ * and Mat1 0.05. A chunk of another type or version is stepped over by its size, but its identifier
+ * and parent count. All of the above holds here too. The refusals of a file, in their order:
+ *
+ *    1  as for a figure (place 0)
+ *   20  the first 32 bytes are not "Caligari V00.01BLH", 13 spaces and a newline (place 0)
+ *
+ * then for each chunk, in file order and at its offset, the first of these:
+ *
+ *    5  its header or its stated size passes the end of the file
+ *   21  its identifier is 0 or that of an earlier chunk, or its parent is neither 0 nor the
+ *       identifier of an earlier chunk (of END neither is looked at)
+ *   22  its size is negative, and not the -1 that END, Grou and PolH may have
+ *   10  its body does not fill its size, or does not fit; or a count, a string's length or a
+ *       dupecount is negative
+ *   11  a coordinate of a vertex or of a texture vertex is infinite or not a number
+ *   12  an index of a face is not that of a vertex or texture vertex, or a hole comes first
+ *
+ * and 3 where bytes follow END, or 14 where the file ends without it (place: the offset reached);
+ * after all that 16 and 15.
+ */
+
+/* Is this file a Caligari figure? Answers the count of its records, 1 at least, or a refusal. */
+uint64_t tds_cob_check(const uint8_t *file, size_t file_len);
+
+/*
+ * The chunks of the four types, in file order, one record each.
+ *
+ * Answers the count of records and fills as many, from the start of the slice; or refuses with the
+ * file's faults, or 15 with the records needed (place). Room is records_len / TDS_COB_RECORD_BYTES
+ * records. A record is six numbers, in the order of enum tds_cob_record; tds_get_cob_record reads
+ * one of them.
+ */
+uint64_t tds_cob_list(const uint8_t *file, size_t file_len, uint8_t *records, size_t records_len);
+
+#define TDS_COB_RECORD_NUMBERS 6
+#define TDS_COB_RECORD_BYTES (4 * TDS_COB_RECORD_NUMBERS)
+
+enum tds_cob_record {
+    TDS_COB_TYPE = 0,       /* its four letters, the first in the lowest byte */
+    TDS_COB_OFFSET = 1,     /* where its header begins */
+    TDS_COB_LENGTH = 2,     /* its length, the 20 bytes of the header counted */
+    TDS_COB_IDENTIFIER = 3, /* 0 for END, as are the next two */
+    TDS_COB_PARENT = 4,     /* the identifier of its parent, or 0 */
+    TDS_COB_OWNER = 5       /* the identifier of its topmost owner: its own where the parent is 0 */
+};
+
+/* The four types as numbers of a record. */
+#define TDS_COB_END 0x20444E45u
+#define TDS_COB_GROUP 0x756F7247u
+#define TDS_COB_MESH 0x486C6F50u
+#define TDS_COB_MATERIAL 0x3174614Du
+
+/*
+ * How large are the tables of a mesh? Meshes are the PolH chunks, from number 0, in file order.
+ *
+ * Answers 2 and fills two numbers: how many vertices the mesh has, and how many faces with three
+ * corners and no holes. Or refuses with the file's faults, 16 with the count of meshes (place), or
+ * 15 with 2 (place).
+ */
+uint64_t tds_cob_sizes(const uint8_t *file, size_t file_len, uint32_t mesh, uint8_t *sizes,
+                       size_t sizes_len);
+
+/*
+ * The tables of a mesh: three floats a vertex, and of each face with three corners and no holes its
+ * three corners, indices of vertices; four bytes each number.
+ *
+ * Answers the count of vertices. Or refuses with the file's faults, 16 with the count of meshes
+ * (place), or 15 with the numbers needed (place), of the vertices where both slices are too small.
+ */
+uint64_t tds_cob_tables(const uint8_t *file, size_t file_len, uint32_t mesh, uint8_t *vertices,
+                        size_t vertices_len, uint8_t *corners, size_t corners_len);
+
+/*
  * THE SLIP OF A STICK: one small file that says which files are on the stick, with the length and
  * the sums of each, so that a damaged file is found. The calls below take any files, not only
  * figures. docs/SLIP.md says what the sums find and what they miss: one turned bit is always
@@ -492,6 +570,12 @@ TDS_INLINE uint32_t tds_get_entry(const uint8_t *entries, size_t entry, enum tds
 /* One number of one part. */
 TDS_INLINE uint32_t tds_get_part(const uint8_t *parts, size_t part, enum tds_part number) {
     return tds_get4(parts + part * TDS_PART_BYTES + 4 * (size_t)number);
+}
+
+/* One number of one record of a filled list of a Caligari figure. */
+TDS_INLINE uint32_t tds_get_cob_record(const uint8_t *records, size_t record,
+                                       enum tds_cob_record number) {
+    return tds_get4(records + record * TDS_COB_RECORD_BYTES + 4 * (size_t)number);
 }
 
 /* One number of one record of a filled list. */

@@ -1,11 +1,12 @@
 /*
  * Makes the sample edition, an older figure and the damaged ones, the same bytes on every machine.
  *
- *     make_samples FOLDER              FOLDER/edition/, old/, damaged/ and c4d/
+ *     make_samples FOLDER              FOLDER/edition/, old/, damaged/, caligari/ and c4d/
  *     make_samples --too-long FILE     the one damaged figure that is too long to be kept
  *
  * FOLDER/damaged/expected.txt says of each damaged figure its refusal: file, number and place; so
- * does FOLDER/c4d/expected.txt, and of the good one there 0 and how many objects it has.
+ * does FOLDER/caligari/expected.txt, where a good one has 0 0, and FOLDER/c4d/expected.txt, where
+ * the good one has 0 and how many objects there are.
  */
 #include <errno.h>
 #include <stdio.h>
@@ -13,6 +14,7 @@
 #include <string.h>
 #include <sys/stat.h>
 
+#include "caligari.h"
 #include "cinema.h"
 #include "damage.h"
 #include "edition.h"
@@ -64,9 +66,9 @@ static void make_tools(const char *parent, const char *name, const struct tool *
 }
 
 /* One line of expected.txt. */
-static void expect(struct figure *expected, const struct damage *damage, size_t place) {
+static void expect(struct figure *expected, const char *file, int refusal, size_t place) {
     char line[200];
-    int length = snprintf(line, sizeof line, "%s %d %zu\n", damage->file, damage->refusal, place);
+    int length = snprintf(line, sizeof line, "%s %d %zu\n", file, refusal, place);
     put_bytes(expected, line, (size_t)length);
 }
 
@@ -76,8 +78,24 @@ static void make_damaged(const char *parent, const char *name, const struct dama
     for (const struct damage *damage = damages; damage->file != NULL; damage++) {
         struct figure figure = {0};
         damage->make(&figure);
-        expect(&expected, damage, damage->damage(&figure));
+        expect(&expected, damage->file, damage->refusal, damage->damage(&figure));
         write_in(folder, damage->file, &figure);
+        free_figure(&figure);
+    }
+    write_in(folder, "expected.txt", &expected);
+    free_figure(&expected);
+    free(folder);
+}
+
+static void make_caligari(const char *parent) {
+    char *folder = make_folder(parent, "caligari");
+    struct figure expected = {0};
+    for (const struct caligari *sample = caligaris; sample->file != NULL; sample++) {
+        struct figure figure = {0};
+        sample->make(&figure);
+        size_t place = sample->damage == NULL ? 0 : sample->damage(&figure);
+        expect(&expected, sample->file, sample->refusal, place);
+        write_in(folder, sample->file, &figure);
         free_figure(&figure);
     }
     write_in(folder, "expected.txt", &expected);
@@ -102,5 +120,6 @@ int main(int argc, char **argv) {
     make_tools(argv[1], "old", older);
     make_damaged(argv[1], "damaged", damages);
     make_damaged(argv[1], "c4d", cinema_samples);
+    make_caligari(argv[1]);
     return 0;
 }

@@ -9,6 +9,7 @@
 
 #include "c4d_cases.h"
 #include "cases.h"
+#include "cob_cases.h"
 #include "mapping_cases.h"
 #include "mesh_cases.h"
 #include "parts_cases.h"
@@ -343,6 +344,7 @@ int main(void) {
     try_parts();
     try_writer();
     try_slips();
+    try_cobs();
     try_c4ds();
     return finish("boundary_test");
 }

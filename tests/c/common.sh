@@ -75,6 +75,12 @@ finish() {
     [ "$failed" -eq 0 ]
 }
 
+# A Caligari figure with nothing in it: the file's header, and END.
+caligari() {
+    printf 'Caligari V00.01BLH             \n'
+    printf 'END \001\0\0\0\0\0\0\0\0\0\0\0\377\377\377\377'
+}
+
 # A Cinema 4D figure with nothing in it.
 cinema() {
     printf 'FORM\0\0\0\004MC4D'

@@ -8,7 +8,7 @@ try 'the generator makes what is kept'
 mkdir "$T/again"
 run "$BUILD/make_samples" "$T/again"
 status_is 0
-for folder in edition old damaged c4d; do
+for folder in edition old damaged caligari c4d; do
     (cd samples/$folder && ls) >"$T/kept"
     (cd "$T/again/$folder" && ls) >"$T/made"
     same "the names in $folder" "$T/kept" "$T/made"

@@ -61,14 +61,22 @@ stick --quiet "$F"
 status_is 2
 lines out 1
 
-try 'figures of kinds that have no reader yet'
-folder kinds
+try 'Caligari figures'
+folder caligari
 triangle >"$F/t.3ds"
-echo Caligari >"$F/a.cob"
+caligari >"$F/a.COB"
+stick --list "$F"
+status_is 0
+matches out "$F/a.COB: accepted: 1 chunk"
+passes 2
+turn "$F/a.COB" 0
 stick "$F"
-status_is 2
-matches err "stick: $F/a.cob: not checked: there is no reader for this kind of figure yet: compare it with the master \(--against\)"
-unsealed 1 0 1
+status_is 1
+matches out "$F/a.COB: refused: HEADER \(20\): the file does not begin as a Caligari figure does, at byte 0: copy this figure again"
+unsealed 2 1 0
+caligari >"$T/one.cob"
+stick "$T/one.cob"
+status_is 0
 
 try 'Cinema 4D figures'
 folder cinema

@@ -17,14 +17,17 @@ ghost use Rattle.c_c4d.specs.Codes.{objectsOr};
 ghost use Rattle.slip_sums.specs.Fletcher.{sumOf};
 ghost use Rattle.slip_sums.specs.Passes.{sumsCall, matchOf};
 ghost use Rattle.slip_rules.specs.Calls.{byteRow, slipReadCall, givenBytes, slipWriteCall};
+ghost use Rattle.cob_rules.specs.Calls.{checkCall as cobCheckCall, listCall as cobListCall, sizesCall as cobSizesCall, tablesCall as cobTablesCall, recordBytes as cobRecords};
+ghost use Rattle.cob_tables.specs.Rows.{rows as cobRows};
 ghost use Rattle.c_slip.specs.Codes.{entriesOr};
 ghost use Rattle.c_parts.specs.Codes.{partsOr};
+ghost use Rattle.c_cob.specs.Codes.{countOr};
 ghost use Rattle.c_sums.specs.Numbers.{sumsOr, zeroOr, sumIn, withPartNumber, joinNumbers};
 
 // The version of the library.
 #[no_mangle]
 pub extern "C" fn tds_version() -> u64
-    ensures { λ n. ⌜ n ≡ versionCode 2 3 0 ⌝ }
+    ensures { λ n. ⌜ n ≡ versionCode 2 4 0 ⌝ }
 {
     c_version::version()
 }
@@ -199,4 +202,46 @@ pub extern "C" fn tds_c4d_list(file: &[u8], objects: &mut [u8], materials: &mut 
     ensures rows { λ _. ⌜ objectRows (now (objects .exit)) (now (materials .exit)) ≡ c4dListCall objectBytes (numberBytes 4) (now (file .entry)) (now (objects .entry)) (now (materials .entry)) .rows ⌝ }
 {
     c_c4d::found_code(c4d_list::list(file, objects, materials))
+}
+
+// ---- Caligari figures
+
+// The count of records, or a refusal.
+#[no_mangle]
+pub extern "C" fn tds_cob_check(file: &[u8]) -> u64
+    ensures { λ n. ⌜ n ≡ countOr (cobCheckCall (now (file .entry))) ⌝ }
+{
+    c_cob::answered_code(cob_check::check(file))
+}
+
+// The count of records that now stand in the front of the slice, 24 bytes each, or a refusal.
+#[no_mangle]
+pub extern "C" fn tds_cob_list(file: &[u8], records: &mut [u8]) -> u64
+    ensures answer { λ n. ⌜ n ≡ countOr (cobListCall cobRecords (now (file .entry)) (now (records .entry)) .answer) ⌝ }
+    ensures records { λ _. ⌜ now (records .exit) ≡ cobListCall cobRecords (now (file .entry)) (now (records .entry)) .rows ⌝ }
+{
+    c_cob::answered_code(cob_list::list(file, records))
+}
+
+// 2, where the counts of vertices and of faces now stand in the front of the slice, four bytes each; or a refusal.
+#[no_mangle]
+pub extern "C" fn tds_cob_sizes(file: &[u8], mesh: u32, sizes: &mut [u8]) -> u64
+    ensures answer { λ n. ⌜ n ≡ countOr (cobSizesCall (numberBytes 4) (now (file .entry)) mesh (now (sizes .entry)) .answer) ⌝ }
+    ensures sizes { λ _. ⌜ now (sizes .exit) ≡ cobSizesCall (numberBytes 4) (now (file .entry)) mesh (now (sizes .entry)) .rows ⌝ }
+{
+    c_cob::answered_code(cob_tables::sizes(file, mesh, sizes))
+}
+
+// The count of vertices that now stand in the front of the first slice, and corners in the second, or a refusal.
+#[no_mangle]
+pub extern "C" fn tds_cob_tables(
+    file: &[u8],
+    mesh: u32,
+    vertices: &mut [u8],
+    corners: &mut [u8],
+) -> u64
+    ensures answer { λ n. ⌜ n ≡ countOr (cobTablesCall (numberBytes 4) (now (file .entry)) mesh (cobRows (now (vertices .entry)) (now (corners .entry))) .answer) ⌝ }
+    ensures rows { λ _. ⌜ cobRows (now (vertices .exit)) (now (corners .exit)) ≡ cobTablesCall (numberBytes 4) (now (file .entry)) mesh (cobRows (now (vertices .entry)) (now (corners .entry))) .rows ⌝ }
+{
+    c_cob::answered_code(cob_tables::tables(file, mesh, vertices, corners))
 }
