@@ -128,12 +128,13 @@ fn painted(right: bool, random: &mut Random) -> Node {
     build::meshed("", parts)
 }
 
-/// A keyframer of very many parts, each on the one before or on any.
+/// A keyframer of very many parts: the first in a chain, so that depths pass a
+/// byte, and those behind on the one before or on any.
 fn hung(random: &mut Random) -> Node {
     let chain = random.chance(50);
     let father = |number: usize, random: &mut Random| match number {
         0 => ROOT,
-        _ if chain => number as u16 - 1,
+        _ if chain || number < 1_000 => number as u16 - 1,
         _ => random.below(number) as u16,
     };
     let parts = (0..40_000).map(|number| parts::part("", father(number, random)));
