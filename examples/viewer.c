@@ -5,8 +5,8 @@
  *
  * It reads the file, has it checked, and only then sizes its tables, from the list of chunks, where
  * it steps over every branch that it does not open, and fills them. Instead of drawing it prints a
- * summary of each mesh. A refused figure is not shown at all: half an adze shown calmly is worse
- * than none.
+ * summary of each mesh, and the tree of the parts that move. A refused figure is not shown at all:
+ * half an adze shown calmly is worse than none.
  *
  * Exit status: 0 shown, 1 the figure is refused, 2 the file could not be read.
  */
@@ -52,8 +52,8 @@ static int no_memory(void) {
 }
 
 /* Names come from strangers, but the check has let none pass that a label cannot take. */
-static void print_name(const uint8_t *span) {
-    fwrite(file + tds_get4(span), 1, tds_get4(span + 4), stdout);
+static void print_name(size_t offset, size_t length) {
+    fwrite(file + offset, 1, length, stdout);
 }
 
 static void print_corner(const uint8_t *box) {
@@ -75,7 +75,7 @@ static int show_tables(uint32_t mesh, const uint8_t *vertices, size_t vertices_l
         return refused(boxed);
     }
     printf("mesh %lu \"", (unsigned long)mesh);
-    print_name(span);
+    print_name(tds_get4(span), tds_get4(span + 4));
     printf("\": vertices %lu, faces %lu", (unsigned long)vertices_len / 12,
            (unsigned long)corners_len / 6);
     if (!TDS_REFUSED(boxed)) { /* a mesh without vertices has no box, but is a good mesh */
@@ -151,6 +151,42 @@ static int show_list(const uint8_t *records, size_t count) {
     return 0;
 }
 
+/* One line of the tree: the record is that of the part's B010, whose own data begins with its name
+ * and ends with the name's zero and six bytes. */
+static void show_part(const uint8_t *records, size_t record, const uint8_t *parts, size_t part) {
+    uint32_t father = tds_get_part(parts, part, TDS_PART_FATHER);
+    uint32_t depth = tds_get_part(parts, part, TDS_PART_DEPTH);
+    uint32_t offset = tds_get_record(records, record, TDS_RECORD_OFFSET);
+    uint32_t own = tds_get_record(records, record, TDS_RECORD_OWN);
+    printf("%*spart %lu \"", depth < 20 ? 2 * (int)depth : 40, "", (unsigned long)part);
+    print_name(offset + 6, own - 7);
+    if (father == TDS_NO_FATHER) {
+        printf("\"\n");
+    } else {
+        printf("\" on part %lu\n", (unsigned long)father);
+    }
+}
+
+/* The parts that move, each further in than the one that it hangs on. */
+static int show_parts(const uint8_t *records, size_t count) {
+    uint64_t needed = tds_parts(file, file_len, NULL, 0); /* none, or refused with how many */
+    size_t parts_len = TDS_PART_BYTES * (size_t)TDS_PLACE(needed);
+    uint8_t *parts = malloc(parts_len + 1);
+    size_t part = 0, i;
+    uint64_t answer;
+    if (parts == NULL) {
+        return no_memory();
+    }
+    answer = tds_parts(file, file_len, parts, parts_len);
+    for (i = 0; i < count && !TDS_REFUSED(answer); i++) {
+        if (tds_get_record(records, i, TDS_RECORD_ID) == TDS_ID_PART_HEAD) {
+            show_part(records, i, parts, part++);
+        }
+    }
+    free(parts);
+    return TDS_REFUSED(answer) ? refused(answer) : 0;
+}
+
 /* Checks the file first; the answer is the room the list needs. */
 static int show_figure(void) {
     uint64_t answer = tds_check(file, file_len);
@@ -167,6 +203,9 @@ static int show_figure(void) {
     }
     answer = tds_list(file, file_len, records, records_len);
     status = TDS_REFUSED(answer) ? refused(answer) : show_list(records, (size_t)answer);
+    if (status == 0) {
+        status = show_parts(records, (size_t)answer);
+    }
     free(records);
     return status;
 }

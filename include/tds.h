@@ -1,6 +1,7 @@
 /*
- * tds.h - a strict reader of 3D Studio figures (.3ds), a writer of bare ones, and the slip of a
- * stick, which tells whether the files on it are still what they were.
+ * tds.h - a strict reader of 3D Studio figures (.3ds), a writer of bare ones, a strict reader of
+ * binary Caligari figures (.cob), and the slip of a stick, which tells whether the files on it are
+ * still what they were.
  *
  * A figure is read whole, from memory, by rules without exceptions: every length fills the chunk
  * around it exactly, every known chunk stands in its place, every corner of a face is a vertex that
@@ -44,10 +45,10 @@
  * tds_records and those about one mesh take up to twice that. tds_sum_join and tds_sum_matches read
  * no bytes. Stack: a few kilobytes.
  *
- * ORDER OF REFUSALS. First the faults of the file, which are 1 to 14 and 24: the first that is met,
- * walking the file from its start, a chunk's own faults before those inside it, 24 right after 9.
- * Then 16; then 17; then 15. So a damaged file is refused as damaged whatever mesh was asked for
- * and whatever room was lent.
+ * ORDER OF REFUSALS. First the faults of the file, which are 1 to 14, 23 and 24: the first that is
+ * met, walking the file from its start, a chunk's own faults before those inside it, 24 right after
+ * 9 and 23 after 10. Then 16; then 17; then 15. So a damaged file is refused as damaged whatever
+ * mesh was asked for and whatever room was lent.
  *
  * LANGUAGE. C89 and later, and C++. <stdint.h> came only with C99, but is there with every compiler
  * this library is built for, in C89 mode too, and is the one thing beyond C89 that is used here.
@@ -69,7 +70,7 @@ extern "C" {
  * lent may be filled in another way than it was built for. (Version 1 had six numbers a record, and
  * no tds_version.) CHANGELOG.md says what came with each.
  */
-#define TDS_VERSION (65536 * 2 + 256 * 0 + 0)
+#define TDS_VERSION (65536 * 2 + 256 * 4 + 0)
 uint64_t tds_version(void);
 
 /* No file longer than this is a figure. One byte more is enough to hand to tds_check to be told. */
@@ -93,14 +94,22 @@ enum tds_refusal {
     TDS_LENGTH = 10,       /* a chunk too long or too short for what it holds */
     TDS_NUMBER = 11,       /* an infinite coordinate, or one that is not a number */
     TDS_INDEX = 12,        /* a corner or face number that does not exist */
-    TDS_COUNT = 13,        /* mapping coordinates whose count is not that of the vertices */
+    TDS_COUNT = 13,        /* more mapping pairs than vertices; from version 3 on, or fewer */
     TDS_MISSING = 14,      /* a chunk that must be there is not (place: the chunk around it) */
-    TDS_NO_ROOM = 15,      /* a lent slice is too small (place: records or numbers needed) */
+    TDS_NO_ROOM = 15,      /* a lent slice is too small (place: records, numbers, parts needed) */
     TDS_NO_SUCH_MESH = 16, /* the file is good but has no such mesh (place: how many it has) */
     TDS_EMPTY = 17,        /* the file is good but the mesh has no vertices, so no box (place 0) */
     TDS_SLIP = 18,         /* a slip that breaks its rules (place: see the calls about slips) */
     TDS_DIFFERS = 19,      /* a file is not the one of an entry (place 0: length, 1: sums) */
-    TDS_TEXT = 24          /* a name that does not fit the label: see TDS_LONGEST_NAME */
+    TDS_HEADER = 20,       /* a Caligari file without the header that it must have (place 0) */
+    TDS_OWNER = 21,        /* an identifier that is 0 or used before, or an unknown parent */
+    TDS_SIZE = 22,         /* a negative size where there may be none */
+    TDS_FATHER = 23,       /* a part that hangs on none before it: see tds_parts (the B010) */
+    TDS_TEXT = 24,         /* a name that does not fit the label: see TDS_LONGEST_NAME */
+    TDS_FORM = 25,         /* a Cinema 4D file whose first 12 bytes are not right (place 0) */
+    TDS_ORDER = 26,        /* a chunk or sub-chunk of it out of order, or with no end */
+    TDS_COMBINATION = 27,  /* an object of none of the nine kinds (place: its T_END) */
+    TDS_MATERIAL = 28      /* a texture whose material does not exist */
 };
 
 /*
@@ -209,6 +218,21 @@ uint64_t tds_tables(const uint8_t *file, size_t file_len, uint32_t mesh, uint8_t
                     size_t vertices_len, uint8_t *corners, size_t corners_len);
 
 /*
+ * The mapping of one mesh: a pair of texture coordinates for each vertex.
+ *
+ * Fills two floats u, v for each vertex (8 bytes a vertex), in the order of the vertices; none
+ * where the mesh has no mapping (no 4140). Answers how many numbers were filled, 2 * vertices or 0;
+ * or refuses with 1 to 14; 16 with the count of meshes; or 15 with the numbers needed (place). Room
+ * is mapping_len / 4 numbers.
+ *
+ * Figures of versions below 3, and those that tell no version, may have fewer pairs than vertices:
+ * the missing ones are filled with zeros. The version of a file is that of its first 0002 of 10
+ * bytes among the chunks directly in 4D4D.
+ */
+uint64_t tds_mapping(const uint8_t *file, size_t file_len, uint32_t mesh, uint8_t *mapping,
+                     size_t mapping_len);
+
+/*
  * Where the bytes of a file went.
  *
  * Fills three numbers: headers (6 for each record), own data of all records, and bytes of unknown
@@ -240,6 +264,39 @@ uint64_t tds_name(const uint8_t *file, size_t file_len, uint32_t mesh, uint8_t *
 uint64_t tds_box(const uint8_t *file, size_t file_len, uint32_t mesh, uint8_t *box, size_t box_len);
 
 /*
+ * The parts of a moving figure, and who hangs on whom: a vice's screw hangs on its moving jaw, that
+ * on its fixed jaw, and goes where it goes.
+ *
+ * A part is a B002 in the figure's keyframer, B000; parts are numbered from 0 in file order, and no
+ * other chunk is counted with them. Fills two numbers a part, 8 bytes, in the order of enum
+ * tds_part; tds_get_part reads one of them. A father always has a lower number than the parts that
+ * hang on him, so they can be gone through from the first to the last. Answers the count of parts,
+ * 0 where there is no B000, and fills as many from the start of the slice; or refuses with a fault
+ * of the file, or 15 with the parts needed (place). Room is parts_len / TDS_PART_BYTES parts.
+ */
+uint64_t tds_parts(const uint8_t *file, size_t file_len, uint8_t *parts, size_t parts_len);
+
+#define TDS_PART_NUMBERS 2
+#define TDS_PART_BYTES (4 * TDS_PART_NUMBERS)
+
+enum tds_part {
+    TDS_PART_FATHER = 0, /* the number of the part that it hangs on, or TDS_NO_FATHER */
+    TDS_PART_DEPTH = 1   /* how many fathers there are above it: 0 where it has none */
+};
+
+/* The father of a part that hangs on none. No figure has so many parts. */
+#define TDS_NO_FATHER 65535u
+
+/*
+ * The identifiers of a moving figure, for reading the list. Each B002 has one B010, so those are
+ * the parts in order too; the own data of a B010 is the part's name with its zero, and six bytes
+ * more.
+ */
+#define TDS_ID_KEYFRAMER 0xB000u
+#define TDS_ID_PART 0xB002u
+#define TDS_ID_PART_HEAD 0xB010u
+
+/*
  * Writes a bare figure: one object with one mesh.
  *
  * Takes a name without its zero, x, y, z of each vertex, and three corners of each face. Here the
@@ -264,6 +321,80 @@ uint64_t tds_box(const uint8_t *file, size_t file_len, uint32_t mesh, uint8_t *b
  */
 uint64_t tds_write(const uint8_t *name, size_t name_len, const float *vertices, size_t vertices_len,
                    const uint16_t *corners, size_t corners_len, uint8_t *out, size_t out_len);
+
+/*
+ * CALIGARI FIGURES: binary .cob files, little-endian, with the chunks END 1.0, Grou 0.01, PolH 0.02
+ * and Mat1 0.05. A chunk of another type or version is stepped over by its size, but its identifier
+ * and parent count. All of the above holds here too. The refusals of a file, in their order:
+ *
+ *    1  as for a figure (place 0)
+ *   20  the first 32 bytes are not "Caligari V00.01BLH", 13 spaces and a newline (place 0)
+ *
+ * then for each chunk, in file order and at its offset, the first of these:
+ *
+ *    5  its header or its stated size passes the end of the file
+ *   21  its identifier is 0 or that of an earlier chunk, or its parent is neither 0 nor the
+ *       identifier of an earlier chunk (of END neither is looked at)
+ *   22  its size is negative, and not the -1 that END, Grou and PolH may have
+ *   10  its body does not fill its size, or does not fit; or a count, a string's length or a
+ *       dupecount is negative
+ *   11  a coordinate of a vertex or of a texture vertex is infinite or not a number
+ *   12  an index of a face is not that of a vertex or texture vertex, or a hole comes first
+ *
+ * and 3 where bytes follow END, or 14 where the file ends without it (place: the offset reached);
+ * after all that 16 and 15.
+ */
+
+/* Is this file a Caligari figure? Answers the count of its records, 1 at least, or a refusal. */
+uint64_t tds_cob_check(const uint8_t *file, size_t file_len);
+
+/*
+ * The chunks of the four types, in file order, one record each.
+ *
+ * Answers the count of records and fills as many, from the start of the slice; or refuses with the
+ * file's faults, or 15 with the records needed (place). Room is records_len / TDS_COB_RECORD_BYTES
+ * records. A record is six numbers, in the order of enum tds_cob_record; tds_get_cob_record reads
+ * one of them.
+ */
+uint64_t tds_cob_list(const uint8_t *file, size_t file_len, uint8_t *records, size_t records_len);
+
+#define TDS_COB_RECORD_NUMBERS 6
+#define TDS_COB_RECORD_BYTES (4 * TDS_COB_RECORD_NUMBERS)
+
+enum tds_cob_record {
+    TDS_COB_TYPE = 0,       /* its four letters, the first in the lowest byte */
+    TDS_COB_OFFSET = 1,     /* where its header begins */
+    TDS_COB_LENGTH = 2,     /* its length, the 20 bytes of the header counted */
+    TDS_COB_IDENTIFIER = 3, /* 0 for END, as are the next two */
+    TDS_COB_PARENT = 4,     /* the identifier of its parent, or 0 */
+    TDS_COB_OWNER = 5       /* the identifier of its topmost owner: its own where the parent is 0 */
+};
+
+/* The four types as numbers of a record. */
+#define TDS_COB_END 0x20444E45u
+#define TDS_COB_GROUP 0x756F7247u
+#define TDS_COB_MESH 0x486C6F50u
+#define TDS_COB_MATERIAL 0x3174614Du
+
+/*
+ * How large are the tables of a mesh? Meshes are the PolH chunks, from number 0, in file order.
+ *
+ * Answers 2 and fills two numbers: how many vertices the mesh has, and how many faces with three
+ * corners and no holes. Or refuses with the file's faults, 16 with the count of meshes (place), or
+ * 15 with 2 (place).
+ */
+uint64_t tds_cob_sizes(const uint8_t *file, size_t file_len, uint32_t mesh, uint8_t *sizes,
+                       size_t sizes_len);
+
+/*
+ * The tables of a mesh: three floats a vertex, and of each face with three corners and no holes its
+ * three corners, indices of vertices; four bytes each number.
+ *
+ * Answers the count of vertices. Or refuses with the file's faults, 16 with the count of meshes
+ * (place), or 15 with the numbers needed (place), of the vertices where both slices are too small.
+ */
+uint64_t tds_cob_tables(const uint8_t *file, size_t file_len, uint32_t mesh, uint8_t *vertices,
+                        size_t vertices_len, uint8_t *corners, size_t corners_len);
 
 /*
  * THE SLIP OF A STICK: one small file that says which files are on the stick, with the length and
@@ -368,6 +499,42 @@ uint64_t tds_slip_read(const uint8_t *slip, size_t slip_len, uint8_t *entries, s
 uint64_t tds_slip_write(const uint8_t *names, size_t names_len, const uint8_t *entries,
                         size_t entries_len, uint8_t *out, size_t out_len);
 
+/*
+ * CINEMA 4D FIGURES (.c4d). Of these the structure alone is read, as strictly: the sizes of all
+ * chunks and sub-chunks, PLTF, MAT4 and OBJ5 in this order and once each, materials up to MAT_END,
+ * objects from T_OBJECT to T_END, each with the sub-chunks of one of the nine combinations that the
+ * format has. Chunks and sub-chunks of unknown kinds are stepped over. docs/FORMAT.md has the
+ * rules.
+ *
+ * Refusals: 1; 25; then the first fault met, at its chunk or sub-chunk: 5, 10 for a texture that is
+ * not of 64 bytes, 26, 28, 27 (at the T_END; a missing end is 26 at its MAT4 or OBJ5); then 15.
+ */
+
+/* Answers the count of objects, which may be 0, or refuses. */
+uint64_t tds_c4d_check(const uint8_t *file, size_t file_len);
+
+/* An OBJECT is three numbers, 12 bytes, in the order of enum tds_object. */
+#define TDS_OBJECT_NUMBERS 3
+#define TDS_OBJECT_BYTES (4 * TDS_OBJECT_NUMBERS)
+
+enum tds_object {
+    TDS_OBJECT_OFFSET = 0,      /* where its T_OBJECT begins */
+    TDS_OBJECT_COMBINATION = 1, /* 1 to 9: mesh, polygon, light, camera, ground, sky, sphere,
+                                   environment, none of these */
+    TDS_OBJECT_TEXTURES = 2     /* how many textures it has */
+};
+
+/*
+ * The objects, in order; and the materials of the textures of all objects, one after another, four
+ * bytes each: the first belong to the first object, and so on. No material (-1) is 0xFFFFFFFF.
+ *
+ * Answers the count of objects and fills as many, from the start of each slice; or refuses as
+ * tds_c4d_check does, or with 15 and the objects needed (place), then with 15 and the materials
+ * needed. Rooms are objects_len / TDS_OBJECT_BYTES objects and materials_len / 4 materials.
+ */
+uint64_t tds_c4d_list(const uint8_t *file, size_t file_len, uint8_t *objects, size_t objects_len,
+                      uint8_t *materials, size_t materials_len);
+
 /* The words below are what C89, C99 and C++ call a function that lives in a header. */
 #if defined(__cplusplus) || (defined(__STDC_VERSION__) && __STDC_VERSION__ >= 199901L)
 #define TDS_INLINE static inline
@@ -398,6 +565,17 @@ TDS_INLINE float tds_get_float(const uint8_t *at) {
 /* One number of one entry of a slip. */
 TDS_INLINE uint32_t tds_get_entry(const uint8_t *entries, size_t entry, enum tds_entry number) {
     return tds_get4(entries + entry * TDS_ENTRY_BYTES + 4 * (size_t)number);
+}
+
+/* One number of one part. */
+TDS_INLINE uint32_t tds_get_part(const uint8_t *parts, size_t part, enum tds_part number) {
+    return tds_get4(parts + part * TDS_PART_BYTES + 4 * (size_t)number);
+}
+
+/* One number of one record of a filled list of a Caligari figure. */
+TDS_INLINE uint32_t tds_get_cob_record(const uint8_t *records, size_t record,
+                                       enum tds_cob_record number) {
+    return tds_get4(records + record * TDS_COB_RECORD_BYTES + 4 * (size_t)number);
 }
 
 /* One number of one record of a filled list. */

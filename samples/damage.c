@@ -106,6 +106,13 @@ static size_t letter_turned(struct figure *figure) {
     return name;
 }
 
+static size_t father_turned(struct figure *figure) {
+    size_t jaw = find_chunk(figure, TDS_ID_PART_HEAD, 1);
+    size_t end = jaw + tds_get4(figure->bytes + jaw + 2);
+    turn_bit(figure, end - 2, 0); /* part 1 hung on part 0, and now hangs on itself */
+    return jaw;
+}
+
 static size_t vertex_count_turned(struct figure *figure) {
     size_t vertices = find_chunk(figure, TDS_ID_VERTICES, 1);
     turn_bit(figure, vertices + 6, 0);
@@ -170,6 +177,7 @@ const struct damage damages[] = {
     {"twice-second-list-of-vertices.3ds", TDS_TWICE, make_mallet, second_vertices},
     {"name-zero-byte-lost.3ds", TDS_NAME, make_vice, name_zero_lost},
     {"text-letter-bit-turned.3ds", TDS_TEXT, make_vice, letter_turned},
+    {"father-own-number-bit-turned.3ds", TDS_FATHER, make_vice, father_turned},
     {"length-vertex-count-bit-turned.3ds", TDS_LENGTH, make_plane, vertex_count_turned},
     {"number-coordinate-infinite-bit-turned.3ds", TDS_NUMBER, make_saw, coordinate_infinite},
     {"index-corner-bit-turned.3ds", TDS_INDEX, make_adze, corner_turned},

@@ -16,16 +16,25 @@ const struct tool edition[] = {
     {NULL, NULL},
 };
 
+const struct tool older[] = {
+    {"gouge.3ds", make_gouge},
+    {NULL, NULL},
+};
+
 /* What most figures begin with: 4D4D with the version, 3D3D with the version of its mesh part. */
-static void open_figure(struct figure *figure) {
+static void open_version(struct figure *figure, uint32_t version) {
     open_chunk(figure, 0x4D4D);
     open_chunk(figure, 0x0002);
-    put_number(figure, 3);
+    put_number(figure, version);
     close_chunk(figure);
     open_chunk(figure, 0x3D3D);
     open_chunk(figure, 0x3D3E);
-    put_number(figure, 3);
+    put_number(figure, version);
     close_chunk(figure);
+}
+
+static void open_figure(struct figure *figure) {
+    open_version(figure, 3);
 }
 
 static void close_figure(struct figure *figure) {
@@ -161,6 +170,37 @@ static void put_lights(struct figure *figure) {
     close_chunk(figure);
 }
 
+/* A part of the keyframer: its name, two flag words and its father, and a track that is not read.
+ */
+static void put_part(struct figure *figure, const char *name, unsigned father) {
+    open_chunk(figure, 0xB002);
+    open_chunk(figure, 0xB010);
+    put_name(figure, name);
+    put_number(figure, 0);
+    put_word(figure, father);
+    close_chunk(figure);
+    put_private(figure, 1);
+    close_chunk(figure);
+}
+
+/* The bar turns in the screw, which turns in the moving jaw, which slides in the fixed one. Of the
+ * blocks of the keyframer only B002 are parts, and only they are counted. */
+static void put_keyframer(struct figure *figure) {
+    enum { FIXED_JAW, MOVING_JAW, SCREW, NONE = 65535 };
+    open_chunk(figure, 0xB000);
+    open_chunk(figure, 0xB008); /* from frame 0 to frame 100 */
+    put_number(figure, 0);
+    put_number(figure, 100);
+    close_chunk(figure);
+    put_part(figure, "fixed jaw", NONE);
+    put_chunk(figure, 0xB003, "", 0); /* where the camera is, which is not read */
+    put_part(figure, "moving jaw", FIXED_JAW);
+    put_part(figure, "screw", MOVING_JAW);
+    put_private(figure, 2);
+    put_part(figure, "bar", SCREW);
+    close_chunk(figure);
+}
+
 void make_vice(struct figure *figure) {
     static const int screw[][2] = {{0, 12}, {240, 12}};
     static const int bar[][2] = {{0, 9}, {8, 9}, {8, 6}, {172, 6}, {172, 9}, {180, 9}};
@@ -179,8 +219,16 @@ void make_vice(struct figure *figure) {
     put_turned(figure, "bar", (struct point){240, -90, 80}, 1, bar, LENGTH(bar), &steel);
     put_lights(figure);
     close_chunk(figure);
-    open_chunk(figure, 0xB000); /* a keyframer: of no kind that is read */
-    put_private(figure, 2);
+    put_keyframer(figure);
     close_chunk(figure);
-    close_chunk(figure);
+}
+
+void make_gouge(struct figure *figure) {
+    static const int blade[][2] = {{0, 4}, {60, 6}, {180, 12}, {190, 12}};
+    static const int handle[][2] = {{0, 10}, {20, 14}, {110, 12}, {120, 8}};
+    struct extras some = {.mapping = 1, .unmapped = 5}, none = {0};
+    open_version(figure, 2);
+    put_turned(figure, "blade", (struct point){0, 0, 0}, 0, blade, LENGTH(blade), &some);
+    put_turned(figure, "handle", (struct point){-120, 0, 0}, 0, handle, LENGTH(handle), &none);
+    close_figure(figure);
 }

@@ -1,10 +1,12 @@
 /*
- * Makes the sample edition and the damaged samples, the same bytes on every machine.
+ * Makes the sample edition, an older figure and the damaged ones, the same bytes on every machine.
  *
- *     make_samples FOLDER              FOLDER/edition/ and FOLDER/damaged/
+ *     make_samples FOLDER              FOLDER/edition/, old/, damaged/, caligari/ and c4d/
  *     make_samples --too-long FILE     the one damaged figure that is too long to be kept
  *
- * FOLDER/damaged/expected.txt says of each damaged figure its refusal: file, number and place.
+ * FOLDER/damaged/expected.txt says of each damaged figure its refusal: file, number and place; so
+ * does FOLDER/caligari/expected.txt, where a good one has 0 0, and FOLDER/c4d/expected.txt, where
+ * the good one has 0 and how many objects there are.
  */
 #include <errno.h>
 #include <stdio.h>
@@ -12,6 +14,8 @@
 #include <string.h>
 #include <sys/stat.h>
 
+#include "caligari.h"
+#include "cinema.h"
 #include "damage.h"
 #include "edition.h"
 
@@ -50,9 +54,9 @@ static void write_in(const char *folder, const char *file, const struct figure *
     free(path);
 }
 
-static void make_edition(const char *parent) {
-    char *folder = make_folder(parent, "edition");
-    for (const struct tool *tool = edition; tool->file != NULL; tool++) {
+static void make_tools(const char *parent, const char *name, const struct tool *tools) {
+    char *folder = make_folder(parent, name);
+    for (const struct tool *tool = tools; tool->file != NULL; tool++) {
         struct figure figure = {0};
         tool->make(&figure);
         write_in(folder, tool->file, &figure);
@@ -62,20 +66,36 @@ static void make_edition(const char *parent) {
 }
 
 /* One line of expected.txt. */
-static void expect(struct figure *expected, const struct damage *damage, size_t place) {
+static void expect(struct figure *expected, const char *file, int refusal, size_t place) {
     char line[200];
-    int length = snprintf(line, sizeof line, "%s %d %zu\n", damage->file, damage->refusal, place);
+    int length = snprintf(line, sizeof line, "%s %d %zu\n", file, refusal, place);
     put_bytes(expected, line, (size_t)length);
 }
 
-static void make_damaged(const char *parent) {
-    char *folder = make_folder(parent, "damaged");
+static void make_damaged(const char *parent, const char *name, const struct damage *damages) {
+    char *folder = make_folder(parent, name);
     struct figure expected = {0};
     for (const struct damage *damage = damages; damage->file != NULL; damage++) {
         struct figure figure = {0};
         damage->make(&figure);
-        expect(&expected, damage, damage->damage(&figure));
+        expect(&expected, damage->file, damage->refusal, damage->damage(&figure));
         write_in(folder, damage->file, &figure);
+        free_figure(&figure);
+    }
+    write_in(folder, "expected.txt", &expected);
+    free_figure(&expected);
+    free(folder);
+}
+
+static void make_caligari(const char *parent) {
+    char *folder = make_folder(parent, "caligari");
+    struct figure expected = {0};
+    for (const struct caligari *sample = caligaris; sample->file != NULL; sample++) {
+        struct figure figure = {0};
+        sample->make(&figure);
+        size_t place = sample->damage == NULL ? 0 : sample->damage(&figure);
+        expect(&expected, sample->file, sample->refusal, place);
+        write_in(folder, sample->file, &figure);
         free_figure(&figure);
     }
     write_in(folder, "expected.txt", &expected);
@@ -96,7 +116,10 @@ int main(int argc, char **argv) {
         fprintf(stderr, "usage: make_samples FOLDER | make_samples --too-long FILE\n");
         return 2;
     }
-    make_edition(argv[1]);
-    make_damaged(argv[1]);
+    make_tools(argv[1], "edition", edition);
+    make_tools(argv[1], "old", older);
+    make_damaged(argv[1], "damaged", damages);
+    make_damaged(argv[1], "c4d", cinema_samples);
+    make_caligari(argv[1]);
     return 0;
 }

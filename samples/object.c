@@ -65,9 +65,10 @@ static void put_in_faces(struct figure *figure, const struct mesh *mesh,
 static void put_behind_lists(struct figure *figure, const struct mesh *mesh,
                              const struct extras *extras) {
     if (extras->mapping) {
+        size_t pairs = mesh->vertex_count - extras->unmapped;
         open_chunk(figure, 0x4140);
-        put_word(figure, (unsigned)mesh->vertex_count);
-        for (size_t i = 0; i < mesh->vertex_count; i++) {
+        put_word(figure, (unsigned)pairs);
+        for (size_t i = 0; i < pairs; i++) {
             put_float(figure, mesh->vertices[3 * i] / 256);
             put_float(figure, mesh->vertices[3 * i + 2] / 256);
         }

@@ -10,6 +10,7 @@ struct extras {
     const char *material;  /* of all its faces, or NULL */
     int smoothing;         /* whether its faces have smoothing groups */
     int mapping;           /* whether its vertices have mapping coordinates */
+    size_t unmapped;       /* how many of the last of them have none all the same */
     int axes;              /* whether it has a local system of axes */
     int private_chunks;    /* whether a private chunk stands in each of its gaps */
     size_t private_length; /* if not 0: a private chunk makes the whole object this long */

@@ -80,10 +80,7 @@ static void check_file(struct check *check, struct subject *subject) {
 
 /* A file that is not read, since there is nothing to judge it by. */
 static void pass_by(struct check *check, const struct subject *subject) {
-    if (subject->kind == KIND_NO_READER) {
-        could_not_for_words(check, subject->path, "there is no reader for this kind of figure yet",
-                            "compare it with the master (--against)");
-    } else if (subject->kind == KIND_NEAR_FIGURE) {
+    if (subject->kind == KIND_NEAR_FIGURE) {
         report_near(check->report, subject->path);
     } else {
         report_unknown(check->report, subject->path);
@@ -108,7 +105,7 @@ static bool is_extra(struct check *check, const struct subject *subject) {
 /* A file is read if it can be judged by itself or compared with another. */
 static void judge_file(struct check *check, struct subject *subject) {
     bool to_collect = check->files != NULL && subject->kind == KIND_OTHER;
-    check->figures += subject->kind == KIND_FIGURE || subject->kind == KIND_NO_READER;
+    check->figures += subject->kind == KIND_FIGURE;
     if (is_extra(check, subject)) {
         return;
     }
@@ -169,7 +166,7 @@ static void look_at_folder(struct check *check, const struct entry *entry) {
     if (*entry->below != '\0' && kind == KIND_LEFT_BEHIND) {
         walk_pass_over(&check->walk);
         report_found(check->report, FOUND_LEFT_BEHIND, entry->path, NULL, "delete it");
-    } else if (kind == KIND_FIGURE || kind == KIND_NO_READER) {
+    } else if (kind == KIND_FIGURE) {
         could_not_for_words(check, entry->path,
                             "it is a folder, though it is named as a figure (what is in it is "
                             "checked)",

@@ -9,8 +9,8 @@
 
 static const struct format formats[] = {
     {".3ds", tds_check, "chunk", "chunks"},
-    {".cob", NULL, "chunk", "chunks"},
-    {".c4d", NULL, "object", "objects"},
+    {".cob", tds_cob_check, "chunk", "chunks"},
+    {".c4d", tds_c4d_check, "object", "objects"},
 };
 enum { FORMATS = sizeof formats / sizeof formats[0] };
 

@@ -7,7 +7,7 @@
 
 struct format {
     const char *ending; /* of names, in letters of either case */
-    uint64_t (*check)(const uint8_t *file, size_t file_len); /* NULL: there is no reader yet */
+    uint64_t (*check)(const uint8_t *file, size_t file_len);
     const char *one, *many; /* what the check answers the count of */
 };
 

@@ -64,7 +64,7 @@ enum kind kind_of(const char *path) {
         return KIND_LEFT_BEHIND;
     }
     if (format != NULL) {
-        return format->check != NULL ? KIND_FIGURE : KIND_NO_READER;
+        return KIND_FIGURE;
     }
     return format_near(name) != NULL ? KIND_NEAR_FIGURE : KIND_OTHER;
 }

@@ -4,7 +4,6 @@
 
 enum kind {
     KIND_FIGURE,      /* is read strictly, by the reader of its format */
-    KIND_NO_READER,   /* a figure of a format for which there is no reader yet */
     KIND_NEAR_FIGURE, /* adze.3ds.part, adze.3ds~: a figure that was perhaps not copied whole */
     KIND_LEFT_BEHIND, /* what other computers leave on a stick: ._adze.3ds, Thumbs.db */
     KIND_OTHER        /* nothing that is known here */

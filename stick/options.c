@@ -40,9 +40,10 @@ static const struct option names[] = {
 void print_help(void) {
     printf("Usage: stick [OPTION]... FOLDER...\n"
            "       stick --copy EDITION [OPTION]... FOLDER...\n"
-           "Checks every figure (.3ds) in each FOLDER and below it, and says in plain words\n"
-           "which are damaged, where, and what to do. The last line begins with PASS or\n"
-           "DO NOT SEAL. Several FOLDERs are worked on at once; one may also be a file.\n"
+           "Checks every figure (.3ds, .cob, .c4d) in each FOLDER and below it, and says in\n"
+           "plain words which are damaged, where, and what to do. The last line begins with\n"
+           "PASS or DO NOT SEAL. Several FOLDERs are worked on at once; one may also be a\n"
+           "file.\n"
            "\n"
            "      --against MASTER  compare every file with the one in the folder MASTER too\n"
            "      --copy EDITION    first copy what is in EDITION and not in a FOLDER yet,\n"

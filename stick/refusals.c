@@ -86,8 +86,9 @@ static const struct refusal table[] = {
      AGAIN, ADVICE},
     {TDS_COUNT,
      "A mesh may say for each of its vertices which spot of a picture belongs there.\n"
-     "Then there must be exactly one for each vertex, and here there are more or\n"
-     "fewer. The place is where the list of mapping coordinates begins.\n",
+     "Then there must be one for each vertex (in a figure older than version 3 at\n"
+     "most one), and here there are more or fewer. The place is where the list of\n"
+     "mapping coordinates begins.\n",
      AGAIN, ADVICE},
     {TDS_MISSING,
      "A figure must have an editor part, which holds everything that is shown, and a\n"

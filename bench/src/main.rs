@@ -1,6 +1,7 @@
 //! The speed of the library under test against the second reader: the same
 //! machine, the same input, one run, turn by turn.
 
+mod c4ds;
 mod calls;
 mod figures;
 mod measure;
@@ -60,6 +61,13 @@ fn limit(lent: &mut Lent) {
         written,
         size,
     );
+    for figure in c4ds::all() {
+        assert_eq!(figure.bytes.len(), second::LIMIT);
+        let copying = copying(&figure.bytes);
+        for (call, times) in c4ds::times(&figure.bytes, TURNS) {
+            line(figure.what, call, copying, times, figure.bytes.len());
+        }
+    }
     let (size, times) = write(second::LIMIT, TURNS);
     line(
         "a figure written",

@@ -1,11 +1,14 @@
 //! The strict walk over a whole file: the first fault in the paper's order,
 //! or the byte counts and the place of the mesh that is asked for.
 
-use crate::bytes::header;
+use crate::bytes::{header, word};
 use crate::own::Mesh;
+use crate::parts::{next_part, Part};
+use crate::rescue::Cut;
 use crate::table::{place, row, Own, Row};
 use crate::version::mapped_whole;
 use crate::{Number, Refusal, HEADER, LIMIT};
+use std::ops::Range;
 
 /// The identifier that a figure begins with, and its row.
 const FIGURE: u16 = 0x4D4D;
@@ -47,23 +50,58 @@ struct Walk<'a> {
     name: (usize, usize),
     mesh: Mesh,
     meshes: usize,
-    wanted: Option<u32>,
-    found: Option<Found>,
+    parts: Vec<Part>,
+    /// The numbers of the meshes that are asked for, and those that were found.
+    wanted: Range<usize>,
+    found: Vec<Found>,
+    /// Whether the 3D3D is to be mended; where it stands, and what is cut.
+    mending: bool,
+    edit: usize,
+    cuts: Vec<Cut>,
 }
 
 /// Whether a file is a figure, and what it counts to.
 pub fn check(file: &[u8]) -> Result<Counts, Refusal> {
-    Ok(walked(file, None)?.counts)
+    Ok(walked(file, 0..0)?.counts)
 }
 
 /// A mesh of a file; the file's own fault comes before "no such mesh".
 pub(crate) fn find(file: &[u8], mesh: u32) -> Result<Found, Refusal> {
-    let walk = walked(file, Some(mesh))?;
-    walk.found.ok_or(Number::NoSuchMesh.at(walk.meshes))
+    let mesh = mesh as usize;
+    let walk = walked(file, mesh..mesh + 1)?;
+    let found = walk.found.first().copied();
+    found.ok_or(Number::NoSuchMesh.at(walk.meshes))
 }
 
-/// The walk over a whole file, after 1 and 2, and 4, 5 and 3 for the 4D4D.
-fn walked(file: &[u8], wanted: Option<u32>) -> Result<Walk<'_>, Refusal> {
+/// All meshes of a file.
+pub(crate) fn found(file: &[u8]) -> Result<Vec<Found>, Refusal> {
+    Ok(walked(file, 0..usize::MAX)?.found)
+}
+
+/// The parts of a file.
+pub(crate) fn hung(file: &[u8]) -> Result<Vec<Part>, Refusal> {
+    Ok(walked(file, 0..0)?.parts)
+}
+
+/// The 3D3D of a damaged file and what must be cut out of it, or the first fault
+/// outside its children.
+pub(crate) fn cuts(file: &[u8]) -> Result<(usize, Vec<Cut>), Refusal> {
+    let mut walk = begun(file, 0..0)?;
+    walk.mending = true;
+    walk.known(FIGURE_ROW, 0, &file[HEADER..])?;
+    Ok((walk.edit, walk.cuts))
+}
+
+/// The walk over a whole file.
+fn walked(file: &[u8], wanted: Range<usize>) -> Result<Walk<'_>, Refusal> {
+    let mut walk = begun(file, wanted)?;
+    walk.known(FIGURE_ROW, 0, &file[HEADER..])?;
+    walk.counts.headers = HEADER * walk.counts.records;
+    Ok(walk)
+}
+
+/// A walk that has judged 1 and 2, and 4, 5 and 3 for the 4D4D.
+fn begun(file: &[u8], wanted: Range<usize>) -> Result<Walk<'_>, Refusal> {
     Number::TooLong.unless(file.len() <= LIMIT, 0)?;
     let (FIGURE, length) = header(file).ok_or(Number::NotAFigure.at(0))? else {
         return Err(Number::NotAFigure.at(0));
@@ -71,19 +109,20 @@ fn walked(file: &[u8], wanted: Option<u32>) -> Result<Walk<'_>, Refusal> {
     Number::Short.unless(length >= HEADER, 0)?;
     Number::Overrun.unless(length <= file.len(), 0)?;
     Number::Trailing.unless(length == file.len(), length)?;
-    let mut walk = Walk {
+    Ok(Walk {
         file,
         mapped_whole: mapped_whole(file),
         counts: Counts::default(),
         name: (0, 0),
         mesh: Mesh::default(),
         meshes: 0,
+        parts: Vec::new(),
         wanted,
-        found: None,
-    };
-    walk.known(FIGURE_ROW, 0, &file[HEADER..])?;
-    walk.counts.headers = HEADER * walk.counts.records;
-    Ok(walk)
+        found: Vec::new(),
+        mending: false,
+        edit: 0,
+        cuts: Vec::new(),
+    })
 }
 
 impl Parent {
@@ -123,12 +162,23 @@ impl Walk<'_> {
     #[inline(always)]
     fn known(&mut self, row: &Row, at: usize, body: &[u8]) -> Result<(), Refusal> {
         let own = self.mesh.own(row, body, at)?;
+        if row.own == Own::Part {
+            self.hang(word(body, own - 2), at)?;
+        }
         self.counts.records += 1;
         self.counts.own += own;
         match row.holds {
             0 => Ok(()),
             _ => self.inside(row, at, own, at + HEADER + body.len()),
         }
+    }
+
+    /// Notes the next part, if its father is an earlier one, or 23.
+    #[inline(never)]
+    fn hang(&mut self, father: u16, at: usize) -> Result<(), Refusal> {
+        let part = next_part(&self.parts, father, at)?;
+        self.parts.push(part);
+        Ok(())
     }
 
     /// Walks what stands behind the own data of a chunk whose row has a "+";
@@ -143,6 +193,11 @@ impl Walk<'_> {
             needs: row.needs,
         };
         let start = at + HEADER;
+        if row.holds == place::H3D3D && self.mending {
+            self.edit = at;
+            self.mend(start, end);
+            return Ok(());
+        }
         match row.own {
             Own::Name => self.name = (start, own - 1),
             _ if row.holds == place::H4100 => self.mesh = Mesh::default(),
@@ -156,13 +211,42 @@ impl Walk<'_> {
         Ok(())
     }
 
+    /// Judges each child of a 3D3D by itself, and adds those that fail to the
+    /// cuts; from a bad header on all is cut.
+    fn mend(&mut self, start: usize, end: usize) {
+        let mut at = start;
+        while at < end {
+            let (failed, bytes) = match child(&self.file[at..end], at) {
+                Err(refusal) => (Err(refusal), end - at),
+                Ok((_, length)) => (self.alone(at, at + length), length),
+            };
+            if let Err(Refusal { number, .. }) = failed {
+                self.cuts.push(Cut {
+                    offset: at,
+                    number,
+                    bytes,
+                });
+            }
+            at += bytes;
+        }
+    }
+
+    /// Judges one child of a 3D3D as if it were the only one.
+    fn alone(&mut self, at: usize, end: usize) -> Result<(), Refusal> {
+        let mut parent = Parent {
+            chunk: at,
+            end,
+            place: place::H3D3D,
+            seen: 0,
+            needs: 0,
+        };
+        self.children(&mut parent, at)
+    }
+
     /// Counts a mesh that met the rules, and keeps it if it is asked for.
     fn count_mesh(&mut self) {
-        if self
-            .wanted
-            .is_some_and(|wanted| wanted as usize == self.meshes)
-        {
-            self.found = Some(Found {
+        if self.wanted.contains(&self.meshes) {
+            self.found.push(Found {
                 mesh: self.mesh,
                 name: self.name,
             });

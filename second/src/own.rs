@@ -37,6 +37,7 @@ impl Mesh {
             Own::Bytes(bytes) => fitting(row, usize::from(bytes), body, at),
             Own::Name => fitting(row, named(body, at)?, body, at),
             Own::Smoothing => fitting(row, 4 * self.faces.count, body, at),
+            Own::Part => fitting(row, named(body, at)? + 6, body, at),
             Own::Vertices | Own::Faces | Own::Mapping | Own::Group => self.counted(row, body, at),
         }
     }

@@ -27,6 +27,7 @@ pub enum Number {
     Header = 20,
     Owner = 21,
     Size = 22,
+    Father = 23,
     Text = 24,
     Form = 25,
     Order = 26,

@@ -1,12 +1,15 @@
 //! The table of chunks, laid out as the paper lays it out: where each
 //! identifier may stand, what its own data is, and whether children follow.
 
+use crate::parts::PARTS_LISTED;
 use place::*;
 use Own::*;
 
 /// The chunks that others may stand under, one bit each.
 pub mod place {
-    pub const FILE: u16 = 1;
+    /// No chunk's.
+    pub const FILE: u16 = 0;
+    pub const HB000: u16 = 1;
     pub const H4D4D: u16 = 1 << 1;
     pub const H3D3D: u16 = 1 << 2;
     pub const H2100: u16 = 1 << 3;
@@ -21,6 +24,7 @@ pub mod place {
     pub const H4600: u16 = 1 << 12;
     pub const H4610: u16 = 1 << 13;
     pub const H4700: u16 = 1 << 14;
+    pub const HB002: u16 = 1 << 15;
 
     /// Where a colour may stand.
     pub const COLOURED: u16 = H2100 | HA010 | HA020 | HA030 | H4600;
@@ -43,6 +47,8 @@ pub enum Own {
     Smoothing,
     /// Word m, then m times two floats.
     Mapping,
+    /// Name, two words, the father.
+    Part,
 }
 
 /// One row of the table.
@@ -90,9 +96,9 @@ const fn under(place: u16, own: Own) -> Row {
     }
 }
 
-/// The rows, each with the identifiers that have it.
+/// The rows, each with the identifiers that have it, those of Q-7 last.
 #[rustfmt::skip]
-const ROWS: [(&[u16], Row); 34] = [
+const ALL: [(&[u16], Row); 38] = [
     (&[0x4D4D],                                 under(FILE, Bytes(0)).plus(H4D4D).needs(2)),
     (&[0x0002],                                 under(H4D4D, Bytes(4)).once(1)),
     (&[0x3D3D],                                 under(H4D4D, Bytes(0)).plus(H3D3D).once(2)),
@@ -127,7 +133,14 @@ const ROWS: [(&[u16], Row); 34] = [
     (&[0x4653],                                 under(H4610, Name)),
     (&[0x4656],                                 under(H4610, Bytes(4))),
     (&[0x4700],                                 under(H4000, Bytes(32)).plus(H4700).once(1)),
+    (&[0xB000],                                 under(H4D4D, Bytes(0)).plus(HB000).once(4)),
+    (&[0xB008],                                 under(HB000, Bytes(8)).once(1)),
+    (&[0xB002],                                 under(HB000, Bytes(0)).plus(HB002).needs(1)),
+    (&[0xB010],                                 under(HB002, Part).once(1)),
 ];
+
+/// Those that are in force.
+const ROWS: &[(&[u16], Row)] = ALL.split_at(if PARTS_LISTED { 38 } else { 34 }).0;
 
 /// The rows by their numbers, close together.
 static TABLE: [Row; ROWS.len()] = {

@@ -202,7 +202,7 @@ fn twice_comes_after_misplaced_and_before_the_rest() {
 
 #[test]
 fn lengths_are_asked_of_unlisted_chunks_too() {
-    let mut file = figure(&[&chunk(0xB000, &[b"MM"])]);
+    let mut file = figure(&[&chunk(0xB001, &[b"MM"])]);
     assert_eq!(counts(&file), (12, 0, 8));
     file[14] = 9;
     assert_eq!(refusal(&file), (5, 12));

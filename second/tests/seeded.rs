@@ -6,7 +6,7 @@ use second::differ::compare::Pair;
 use second::differ::named;
 use second::differ::run::{grown, Plan, Tally};
 use second::differ::seeded::{misread_rows, Error, Seeded, ERRORS};
-use second::LABELS_JUDGED;
+use second::{LABELS_JUDGED, PARTS_LISTED};
 use std::ops::Range;
 
 /// A small run that prints nothing.
@@ -22,8 +22,8 @@ fn plan(count: u64) -> Plan {
 /// Those of the base's answers, and of the requests' that are on, that no case
 /// has met.
 fn unmet(tally: &Tally, base: Range<usize>) -> Vec<usize> {
-    let later = LABELS_JUDGED.then_some(24);
-    let numbers = base.chain(later);
+    let later = [LABELS_JUDGED.then_some(24), PARTS_LISTED.then_some(23)];
+    let numbers = base.chain(later.into_iter().flatten());
     numbers.filter(|number| tally[*number] == 0).collect()
 }
 
@@ -53,7 +53,7 @@ fn readers_that_agree_agree() {
 
 #[test]
 fn every_seeded_error_is_seen() {
-    let unseen = unseen(ERRORS, |pair| grown(plan(6_000), pair).is_ok());
+    let unseen = unseen(ERRORS, |pair| grown(plan(10_000), pair).is_ok());
     assert!(unseen.is_empty(), "not seen: {unseen:?}");
 }
 

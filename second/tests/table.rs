@@ -1,7 +1,7 @@
 //! The table against the paper's own words: the rows are read out of its
 //! text, and every identifier is compared.
 
-use second::{place, row, Own};
+use second::{place, row, Own, PARTS_LISTED};
 
 /// The paper's table, as it stands there.
 const PAPER: &str = "\
@@ -32,6 +32,13 @@ const PAPER: &str = "\
 | 4651 / 4653 / 4656 | 4610 | 0 / name / 4 |
 | 4700 | 4000 | 32 + |";
 
+/// What Q-7 adds to it.
+const KEYFRAMER: &str = "\
+| B000 | 4D4D | 0 + |
+| B008 | B000 | 8 |
+| B002 | B000 | 0 + |
+| B010 | B002 | name, two words, and a word that is the father |";
+
 /// A row of the paper: identifier, parents, own data, whether "+".
 type Line = (u16, Vec<u16>, Own, bool);
 
@@ -47,13 +54,15 @@ fn own(text: &str) -> Own {
         _ if text.starts_with("2 + 8f") => Own::Faces,
         _ if text.starts_with("2 + 8m") => Own::Mapping,
         _ if text.starts_with("name, word k") => Own::Group,
+        _ if text.starts_with("name, two words") => Own::Part,
         _ => Own::Bytes(text.parse().unwrap()),
     }
 }
 
 fn lines() -> Vec<Line> {
     let mut lines = Vec::new();
-    for line in PAPER.lines() {
+    let later = if PARTS_LISTED { KEYFRAMER } else { "" };
+    for line in PAPER.lines().chain(later.lines()) {
         let cells: Vec<&str> = line.trim_matches(['|', ' ']).split(" | ").collect();
         let parents = match cells[1] {
             "the file" => vec![],
@@ -75,7 +84,7 @@ fn lines() -> Vec<Line> {
 #[test]
 fn every_identifier_has_the_papers_row() {
     let lines = lines();
-    assert_eq!(lines.len(), 43);
+    assert_eq!(lines.len(), if PARTS_LISTED { 47 } else { 43 });
     let holds = |identifier: u16| row(identifier).map_or(0, |row| row.holds);
     for identifier in 0..=u16::MAX {
         let line = lines.iter().find(|line| line.0 == identifier);
@@ -101,16 +110,19 @@ fn every_identifier_has_the_papers_row() {
 
 #[test]
 fn at_most_one_and_at_least_one() {
-    let once = [
+    let mut once = vec![
         0x0002, 0x3D3D, 0xA000, 0x4100, 0x4600, 0x4700, 0x4110, 0x4120, 0x4140, 0x4160, 0x4165,
         0x4150, 0x4610,
     ];
+    if PARTS_LISTED {
+        once.extend([0xB000, 0xB008, 0xB010]);
+    }
     let together = [0x4100, 0x4600, 0x4700];
     for a in 0..=u16::MAX {
         let Some(row_a) = row(a) else { continue };
         assert_eq!(row_a.once != 0, once.contains(&a));
         assert!(row_a.once.count_ones() <= 1);
-        for b in once {
+        for &b in &once {
             let row_b = row(b).unwrap();
             let same = row_a.once == row_b.once && row_a.under == row_b.under;
             let taken_together = together.contains(&a) && together.contains(&b);
@@ -119,6 +131,7 @@ fn at_most_one_and_at_least_one() {
         let needed = match a {
             0x4D4D => row(0x3D3D).unwrap().once,
             0xAFFF => row(0xA000).unwrap().once,
+            0xB002 => row(0xB010).unwrap().once,
             _ => 0,
         };
         assert_eq!(row_a.needs, needed);

@@ -91,12 +91,12 @@ mkdir "$F/more"
 head -c 3000000 /dev/zero >"$F/more/film.bin"
 echo read me >"$F/README.TXT"
 : >"$F/empty"
-echo Caligari >"$F/a.cob"
+caligari >"$F/a.cob"
 triangle >"$F/t.3ds"
 cp -R "$F" "$T/copy"
 stick --against "$F" "$T/copy"
 status_is 0
-last "PASS: 1 figure checked, 0 refused, $seconds"
+last "PASS: 2 figures checked, 0 refused, $seconds"
 turn "$T/copy/more/film.bin" 2999999
 stick --verbose --against "$F" "$T/copy"
 status_is 1

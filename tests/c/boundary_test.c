@@ -7,8 +7,12 @@
 #include <string.h>
 #include <sys/mman.h>
 
+#include "c4d_cases.h"
 #include "cases.h"
+#include "cob_cases.h"
+#include "mapping_cases.h"
 #include "mesh_cases.h"
+#include "parts_cases.h"
 #include "slices.h"
 #include "slip_cases.h"
 #include "tds.h"
@@ -336,7 +340,11 @@ int main(void) {
     each_case(try_case);
     each_case(try_huge_file);
     try_meshes();
+    try_mappings();
+    try_parts();
     try_writer();
     try_slips();
+    try_cobs();
+    try_c4ds();
     return finish("boundary_test");
 }

@@ -78,7 +78,9 @@ static const struct change {
     {"4110 made 4130", 26, "\x30", 1, 0, REFUSAL(7, 26)},
     {"an infinite coordinate", 49, "\x7F", 1, 0, REFUSAL(11, 26)},
     {"a coordinate that is no number", 48, "\xC0\xFF", 2, 0, REFUSAL(11, 26)},
-    {"mapping without entries", 86, "\x40\x41\x08\0\0\0\0\0", 8, 4, REFUSAL(13, 86)},
+    {"more mapping pairs than vertices", 86,
+     "\x40\x41\x28\0\0\0\4\0\0\0\0\0\0\0\0\0\0\0\0\0\0\0\0\0\0\0\0\0\0\0\0\0\0\0\0\0\0\0\0\0", 40,
+     4, REFUSAL(13, 86)},
     {"a second mesh with a face and no vertices", 86,
      "\0@\x1D\0\0\0\0\0A\x16\0\0\0\x20\x41\x10\0\0\0\1\0\0\0\0\0\0\0\0\0", 29, 2, REFUSAL(12, 99)},
 };

@@ -75,6 +75,17 @@ finish() {
     [ "$failed" -eq 0 ]
 }
 
+# A Caligari figure with nothing in it: the file's header, and END.
+caligari() {
+    printf 'Caligari V00.01BLH             \n'
+    printf 'END \001\0\0\0\0\0\0\0\0\0\0\0\377\377\377\377'
+}
+
+# A Cinema 4D figure with nothing in it.
+cinema() {
+    printf 'FORM\0\0\0\004MC4D'
+}
+
 # The triangle of docs/FORMAT.md.
 triangle() {
     printf 'MM\126\0\0\0==\120\0\0\0\0@\112\0\0\0A\0\0A\102\0\0\0\020A\054\0\0\0\003\0'

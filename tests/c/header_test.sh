@@ -22,7 +22,8 @@ int main(void) {
     answer = tds_records(NULL, 0, row, TDS_RECORD_NUMBERS, table, 1);
     return number > 0 || TDS_VERTICES(answer) + TDS_FACES(answer) > 0 || tds_get2(slice) > 0 ||
            *tds_refusal_words(TDS_REFUSAL(answer)) > 0 || *tds_refusal_name(0) > 0 ||
-           tds_get_record(slice, 0, TDS_RECORD_OWN) > 0;
+           tds_get_record(slice, 0, TDS_RECORD_OWN) > 0 ||
+           tds_get_part(slice, 0, TDS_PART_DEPTH) == TDS_NO_FATHER;
 }
 END
 cp "$T/use.c" "$T/use.cpp"
@@ -54,7 +55,7 @@ IS(1, TDS_TOO_LONG) IS(2, TDS_NOT_A_FIGURE) IS(3, TDS_TRAILING) IS(4, TDS_SHORT)
 IS(5, TDS_OVERRUN) IS(6, TDS_STRAY) IS(7, TDS_MISPLACED) IS(8, TDS_TWICE) IS(9, TDS_NAME)
 IS(10, TDS_LENGTH) IS(11, TDS_NUMBER) IS(12, TDS_INDEX) IS(13, TDS_COUNT) IS(14, TDS_MISSING)
 IS(15, TDS_NO_ROOM) IS(16, TDS_NO_SUCH_MESH) IS(17, TDS_EMPTY)
-IS(18, TDS_SLIP) IS(19, TDS_DIFFERS) IS(24, TDS_TEXT)
+IS(18, TDS_SLIP) IS(19, TDS_DIFFERS) IS(23, TDS_FATHER) IS(24, TDS_TEXT)
 #define R(number, place) ((uint64_t)(number) * 65536 * 65536 + (place))
 IS(118, TDS_REFUSAL(R(118, 5))) IS(119, TDS_PLACE(R(5, 119))) IS(120, TDS_PLACE(R(5, 0xFFFFFFFFu)) / 35791394)
 IS(121, 121 * TDS_REFUSED(R(1, 0))) IS(0, TDS_REFUSED(0xFFFFFFFFu))
@@ -101,7 +102,7 @@ END
     sed -n '/^enum tds_refusal/,/^};/s/^ *TDS_\([A-Z_]*\) = \([1-9][0-9]*\).*/is(\2, "\1");/p' include/tds.h | tr _ ' '
     echo 'return bad; }'
 } >"$T/words.c"
-if [ "$(grep -c '^is(' "$T/words.c")" -ge 20 ]; then pass; else fail 'the numbers are not found in the header'; fi
+if [ "$(grep -c '^is(' "$T/words.c")" -ge 21 ]; then pass; else fail 'the numbers are not found in the header'; fi
 if "$CC" -std=c99 -Wall -Wextra -Werror -Iinclude "$T/words.c" -o "$T/words" >"$T/out" 2>"$T/err"
 then pass; else fail 'does not compile'; fi
 if "$T/words" >"$T/out" 2>"$T/err"; then pass; else fail 'other names, or words that are there twice'; fi
@@ -121,7 +122,7 @@ then pass; else fail 'they stand elsewhere'; fi
 try 'the manual page has every call and every refusal of the header'
 sed -n 's/^\(TDS_INLINE \)\{0,1\}[a-z].*[ *]\(tds_[a-z0-9_]*\)(.*/\2/p' include/tds.h include/tds_words.h | grep -v texts >"$T/calls"
 sed -n '/^enum tds_refusal/,/^};/s/^ *\(TDS_[A-Z_]*\) = [1-9].*/\1/p' include/tds.h >>"$T/calls"
-if [ "$(wc -l <"$T/calls")" -ge 42 ]; then pass; else fail 'the calls are not found in the header'; fi
+if [ "$(wc -l <"$T/calls")" -ge 45 ]; then pass; else fail 'the calls are not found in the header'; fi
 while read -r call; do
     if grep -qw -e "$call" include/tds.3; then pass; else fail "not $call"; fi
 done <"$T/calls"

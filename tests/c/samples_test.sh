@@ -8,7 +8,7 @@ try 'the generator makes what is kept'
 mkdir "$T/again"
 run "$BUILD/make_samples" "$T/again"
 status_is 0
-for folder in edition damaged; do
+for folder in edition old damaged caligari c4d; do
     (cd samples/$folder && ls) >"$T/kept"
     (cd "$T/again/$folder" && ls) >"$T/made"
     same "the names in $folder" "$T/kept" "$T/made"
@@ -21,9 +21,23 @@ try 'the edition is accepted'
 run "$BUILD/stick" samples/edition
 status_is 0
 
-try 'there is a damaged sample for each refusal from 2 to 14, and for 24'
-for number in 2 3 4 5 6 7 8 9 10 11 12 13 14 24; do
+try 'the older figure is accepted, and refused where it says that it is of version 3'
+run "$BUILD/stick" samples/old
+status_is 0
+mkdir "$T/newer"
+{ head -c 12 samples/old/gouge.3ds; printf '\003'; tail -c +14 samples/old/gouge.3ds; } >"$T/newer/gouge.3ds"
+run "$BUILD/stick" "$T/newer"
+has out 'gouge.3ds: refused: COUNT (13)'
+status_is 1
+
+try 'there is a damaged sample for each refusal from 2 to 14, and for 23 and 24'
+for number in 2 3 4 5 6 7 8 9 10 11 12 13 14 23 24; do
     if grep -q " $number " samples/damaged/expected.txt; then pass; else fail "none for $number"; fi
+done
+
+try 'there is a damaged Cinema 4D sample for each of its refusals'
+for number in 0 5 10 25 26 27 28; do
+    if grep -q " $number " samples/c4d/expected.txt; then pass; else fail "none for $number"; fi
 done
 
 try 'every damaged sample has its refusal'
@@ -36,9 +50,10 @@ done <samples/damaged/expected.txt
 lines out $(($(wc -l <samples/damaged/expected.txt) + 2))
 
 try 'the one that is too long'
-run "$BUILD/make_samples" --too-long "$T/too-long.3ds"
+mkdir "$T/long"
+run "$BUILD/make_samples" --too-long "$T/long/too-long.3ds"
 status_is 0
-run "$BUILD/stick" "$T"
+run "$BUILD/stick" "$T/long"
 has out 'too-long.3ds: refused: TOO LONG (1): the file is longer than a figure may be'
 status_is 1
 

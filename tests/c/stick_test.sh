@@ -24,7 +24,7 @@ lines err 0
 try 'several folders'
 stick samples/edition samples/damaged
 status_is 1
-unsealed 25 19 0
+unsealed 26 20 0
 
 try 'endings of any case, in folders below, and no others'
 folder case
@@ -61,16 +61,36 @@ stick --quiet "$F"
 status_is 2
 lines out 1
 
-try 'figures of kinds that have no reader yet'
-folder kinds
+try 'Caligari figures'
+folder caligari
 triangle >"$F/t.3ds"
-echo Caligari >"$F/a.cob"
-echo FORM >"$F/b.C4D"
+caligari >"$F/a.COB"
+stick --list "$F"
+status_is 0
+matches out "$F/a.COB: accepted: 1 chunk"
+passes 2
+turn "$F/a.COB" 0
 stick "$F"
-status_is 2
-matches err "stick: $F/a.cob: not checked: there is no reader for this kind of figure yet: compare it with the master \(--against\)"
-has err "$F/b.C4D: not checked: there is no reader for this kind of figure yet"
-unsealed 1 0 2
+status_is 1
+matches out "$F/a.COB: refused: HEADER \(20\): the file does not begin as a Caligari figure does, at byte 0: copy this figure again"
+unsealed 2 1 0
+caligari >"$T/one.cob"
+stick "$T/one.cob"
+status_is 0
+
+try 'Cinema 4D figures'
+folder cinema
+triangle >"$F/t.3ds"
+cinema >"$F/b.C4D"
+stick --list "$F"
+status_is 0
+matches out "$F/b.C4D: accepted: 0 objects"
+passes 2
+printf x >>"$F/b.C4D"
+stick "$F"
+status_is 1
+matches out "$F/b.C4D: refused: FORM \(25\): the file does not begin as a Cinema 4D figure does, at byte 0: copy this figure again"
+unsealed 2 1 0
 
 try 'what another computer left is to be deleted, and is not taken for a figure'
 folder left
@@ -173,7 +193,7 @@ matches err "stick: '': not checked: the name is empty: give a folder, for examp
 try 'status 2 wins over 1'
 stick "$T/nowhere" samples/damaged
 status_is 2
-unsealed 19 19 1
+unsealed 20 20 1
 
 try 'a folder with no figure in it'
 folder none

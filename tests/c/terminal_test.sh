@@ -112,7 +112,7 @@ try 'the last line is green or red on a terminal'
 terminal both samples/edition
 has terminal "$green  PASS  $plain: 6 figures checked"
 terminal both samples/damaged
-has terminal "$red  DO NOT SEAL  $plain: 19 figures checked"
+has terminal "$red  DO NOT SEAL  $plain: 20 figures checked"
 try 'no colour where it is not wanted'
 NO_COLOR=1 terminal both samples/edition
 lacks terminal "$green"

@@ -18,6 +18,15 @@ matches out 'mesh 0 "head": vertices 32, faces 48, box \(-150, -35, -34\) \(24, 
 matches out 'mesh 1 "handle": vertices 60, faces 116, box \(-20, -20, -660\) \(20, 20, 40\)'
 lines out 3
 
+try 'the vice, and who hangs on whom'
+run "$V" samples/edition/vice.3ds
+status_is 0
+matches out 'part 0 "fixed jaw"'
+matches out '  part 1 "moving jaw" on part 0'
+matches out '    part 2 "screw" on part 1'
+matches out '      part 3 "bar" on part 2'
+lines out 9
+
 try 'every figure of the edition'
 for file in samples/edition/*.3ds; do
     run "$V" "$file"

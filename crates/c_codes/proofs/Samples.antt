@@ -14,6 +14,7 @@ worked = record {
   p11 = refl;
   three-and-one = refl;
   most = refl;
+  six-numbers = refl;
   written = refl;
   no-room-to-write = refl;
 }

@@ -21,6 +21,11 @@ abbrev pub sizesOr : Tabled → ℕ
 sizesOr (Tabled.Filled n) = n .vertices + 65_536 * n .faces
 sizesOr (Tabled.Refused r) = refusalCode r
 
+-- for the mapping how many numbers it has, two a pair
+abbrev pub numbersOr : Tabled → ℕ
+numbersOr (Tabled.Filled n) = 2 * n .pairs
+numbersOr (Tabled.Refused r) = refusalCode r
+
 -- for the writer the size
 abbrev pub sizeOr : Written → ℕ
 sizeOr (Written.Size n) = n

@@ -4,7 +4,7 @@ use Rattle.shared_words.specs.declared.Refusal.the-variants.{TooLong, Trailing,
 use Rattle.studio_rules.specs.declared.Checked.{Checked}
 use Rattle.studio_rules.specs.declared.Tabled.{Tabled}
 use Rattle.shared_words.specs.declared.Written.{Written}
-use Rattle.c_codes.specs.Codes.{refusalCode, recordsOr, sizesOr, sizeOr}
+use Rattle.c_codes.specs.Codes.{refusalCode, recordsOr, sizesOr, numbersOr, sizeOr}
 
 pub record Worked : Type 0 where
   -- refusals of the table's first and last line, of P5, and of a place in the last byte that a file can have
@@ -18,7 +18,9 @@ pub record Worked : Type 0 where
   -- the triangle: six records; three vertices and one face; the bytes written
   pub six-records : recordsOr (Checked.Accepted record { records = 6; headers = 36; own = 50; skipped = 0 }) ≡ 6
   pub p11 : recordsOr (Checked.Refused (NoRoom 6)) ≡ 0xF_0000_0006
-  pub three-and-one : sizesOr (Tabled.Filled record { vertices = 3; faces = 1 }) ≡ 0x1_0003
-  pub most : sizesOr (Tabled.Filled record { vertices = 0xFFFF; faces = 0xFFFE }) ≡ 0xFFFE_FFFF
+  pub three-and-one : sizesOr (Tabled.Filled record { vertices = 3; faces = 1; pairs = 0 }) ≡ 0x1_0003
+  pub most : sizesOr (Tabled.Filled record { vertices = 0xFFFF; faces = 0xFFFE; pairs = 0xFFFF }) ≡ 0xFFFE_FFFF
+  -- a mapping of three pairs
+  pub six-numbers : numbersOr (Tabled.Filled record { vertices = 3; faces = 1; pairs = 3 }) ≡ 6
   pub written : sizeOr (Written.Size 86) ≡ 86
   pub no-room-to-write : sizeOr (Written.Refused (NoRoom 86)) ≡ 0xF_0000_0056

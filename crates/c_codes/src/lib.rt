@@ -5,7 +5,7 @@ use studio_rules::Checked;
 use studio_rules::Tabled;
 ghost use mathlib.Core.Path.{_≡_};
 ghost use Rattle.studio_rules.specs.Within.{SizesWithin};
-ghost use Rattle.c_codes.specs.Codes.{refusalCode, recordsOr, sizesOr, sizeOr};
+ghost use Rattle.c_codes.specs.Codes.{refusalCode, recordsOr, sizesOr, numbersOr, sizeOr};
 
 // A refusal. Only the writer can have a place beyond 32 bits; it is answered as the largest.
 pub fn refusal_code(r: Refusal) -> u64
@@ -37,6 +37,17 @@ pub fn tabled_code(tabled: Tabled) -> u64
 {
     match tabled {
         Tabled::Filled(sizes) => sizes.vertices as u64 + 65536 * (sizes.faces as u64),
+        Tabled::Refused(r) => refusal_code(r),
+    }
+}
+
+// How many numbers a mapping has, or a refusal.
+pub fn mapped_code(tabled: Tabled) -> u64
+    requires { ⌜ SizesWithin tabled ⌝ }
+    ensures { λ n. ⌜ n ≡ numbersOr tabled ⌝ }
+{
+    match tabled {
+        Tabled::Filled(sizes) => 2 * (sizes.pairs as u64),
         Tabled::Refused(r) => refusal_code(r),
     }
 }

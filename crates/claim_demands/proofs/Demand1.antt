@@ -13,15 +13,16 @@ use Rattle.shared_words.specs.declared.Refusal.{Refusal}
 use Rattle.shared_words.specs.declared.Refusal.the-variants.{NoRoom, NoSuchMesh, Empty}
 use Rattle.studio_rules.specs.declared.Checked.{Checked}
 use Rattle.studio_rules.specs.declared.Tabled.{Tabled}
+use Rattle.studio_rules.specs.declared.Counted.{Counted}
 use Rattle.studio_rules.specs.declared.Named.{Named}
 use Rattle.studio_rules.specs.declared.Boxed.{Boxed}
 use Rattle.studio_rules.specs.Layout.{Run, figure}
 use Rattle.shared_words.specs.Conditions.{Answer, refused, accepted}
 use Rattle.studio_rules.specs.Walk.{verdict}
-use Rattle.studio_rules.specs.Gives.{recordCount, Mesh, meshes}
+use Rattle.studio_rules.specs.Gives.{recordCount, Mesh, meshes, Part, parts}
 use Rattle.shared_words.specs.Encodings.{Encoding}
 use Rattle.shared_words.specs.Effects.{leaving}
-use Rattle.studio_rules.specs.Calls.{countsOf, checkOf, checkCall, listOf, listCall, pickMesh, ofMesh, Rows, tablesOf, tablesCall, nameOf, nameCall, aroundOf, boxCall}
+use Rattle.studio_rules.specs.Calls.{countsOf, checkOf, checkCall, listOf, listCall, pickMesh, ofMesh, Rows, Tables, fits, sizesOf, tablesOf, tablesCall, nameOf, nameCall, aroundOf, boxCall, partsOf, partsCall}
 use Rattle.shared_words.proofs.Refusals.{numbered}
 use Rattle.shared_words.specs.declared.Written.{Written}
 use Rattle.shared_words.specs.declared.Written.the-variants.{Size, Refused}
@@ -52,6 +53,9 @@ check-apart r q e = cc
 
 tables-apart : Apart Tabled.Refused
 tables-apart r q e = cc
+
+counted-apart : Apart Counted.Refused
+counted-apart r q e = cc
 
 name-apart : Apart Named.Refused
 name-apart r q e = cc
@@ -89,14 +93,21 @@ listed e row (accepted kids) =
     by-test (AnsweredOn Checked.Accepted Checked.Refused row) (leb (recordCount (figure kids)) (e .room (length row)))
     (inl (countsOf kids, refl)) (leaves Checked.Accepted Checked.Refused check-apart row (NoRoom (recordCount (figure kids))))
 
-tabled : {A B : Type 0} (e : Encoding ℕ A) (f : Encoding ℕ B) (rows : Rows A B) (m : Mesh) →
-    AnsweredOn Tabled.Filled Tabled.Refused rows (tablesOf e f rows m)
-tabled e f rows m =
-    by-test (AnsweredOn Tabled.Filled Tabled.Refused rows) (leb (length (m .vertices)) (e .room (length (rows .vertices))))
-    (by-test (AnsweredOn Tabled.Filled Tabled.Refused rows) (leb (length (m .corners)) (f .room (length (rows .corners))))
-    (inl (record { vertices = m .vertexCount; faces = m .faceCount }, refl))
+tabled : {A B C : Type 0} (t : Tables A B C) (rows : Rows A B C) (m : Mesh) → AnsweredOn Tabled.Filled Tabled.Refused rows (tablesOf t rows m)
+tabled t rows m =
+    by-test (AnsweredOn Tabled.Filled Tabled.Refused rows) (fits (t .vertices) (m .vertices) (rows .vertices))
+    (by-test (AnsweredOn Tabled.Filled Tabled.Refused rows) (fits (t .corners) (m .corners) (rows .corners))
+    (by-test (AnsweredOn Tabled.Filled Tabled.Refused rows) (fits (t .mapping) (m .mapping) (rows .mapping))
+    (inl (sizesOf m, refl))
+    (leaves Tabled.Filled Tabled.Refused tables-apart rows (NoRoom (length (m .mapping)))))
     (leaves Tabled.Filled Tabled.Refused tables-apart rows (NoRoom (length (m .corners)))))
     (leaves Tabled.Filled Tabled.Refused tables-apart rows (NoRoom (length (m .vertices))))
+
+hung : {A : Type 0} (e : Encoding Part A) (row : List A) (a : Answer Run) → AnsweredOn Counted.Filled Counted.Refused row (partsOf e row a)
+hung e row (refused r) = leaves Counted.Filled Counted.Refused counted-apart row r
+hung e row (accepted kids) =
+    by-test (AnsweredOn Counted.Filled Counted.Refused row) (leb (length (parts kids)) (e .room (length row)))
+    (inl (length (parts kids), refl)) (leaves Counted.Filled Counted.Refused counted-apart row (NoRoom (length (parts kids))))
 
 boxed : (m : Mesh) → Answered around Boxed.Refused (aroundOf m)
 boxed m = by-test (Answered around Boxed.Refused) (eqb (m .vertexCount) 0) (refuses around Boxed.Refused box-apart Empty) (inl (_, refl))
@@ -108,13 +119,14 @@ written file out (Size size) = inl (size, refl)
 -- ---- the demand
 
 pub demand1 : Demand1
-unfolding checkCall listCall tablesCall nameCall boxCall writeCall
+unfolding checkCall listCall tablesCall nameCall boxCall partsCall writeCall
 demand1 = record {
   check = λ s. checked (verdict s);
   list = λ e s row. listed e row (verdict s);
-  tables = λ e f s mesh rows.
-      by-mesh (AnsweredOn Tabled.Filled Tabled.Refused rows) (λ r. leaving (Tabled.Refused r) rows) (tablesOf e f rows)
-      (leaves Tabled.Filled Tabled.Refused tables-apart rows) (tabled e f rows) mesh (verdict s);
+  tables = λ t s mesh rows.
+      by-mesh (AnsweredOn Tabled.Filled Tabled.Refused rows) (λ r. leaving (Tabled.Refused r) rows) (tablesOf t rows)
+      (leaves Tabled.Filled Tabled.Refused tables-apart rows) (tabled t rows) mesh (verdict s);
+  parts = λ e s row. hung e row (verdict s);
   name = λ s mesh.
       by-mesh (Answered Named.At Named.Refused) Named.Refused nameOf (refuses Named.At Named.Refused name-apart) (λ m. inl (_, refl)) mesh (verdict s);
   box = λ s mesh.

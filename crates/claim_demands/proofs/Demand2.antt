@@ -4,7 +4,7 @@ use mathlib.Core.Path.{_≡_, refl}
 use mathlib.Core.Bool.{Bool, true, false, cond}
 use mathlib.Core.List.{List}
 use mathlib.Core.Option.{Option, none, some}
-use Prim.Native.Nat.{ℕ, _≤_}
+use Prim.Native.Nat.{ℕ}
 use native.Mathlib.Omega.{arith}
 use lib.Dec.{leb}
 use lib.ListN.{length, getElem?}
@@ -15,19 +15,20 @@ use Rattle.studio_rules.specs.declared.Counts.{Counts}
 use Rattle.studio_rules.specs.declared.Checked.{Checked}
 use Rattle.studio_rules.specs.declared.Sizes.{Sizes}
 use Rattle.studio_rules.specs.declared.Tabled.{Tabled}
+use Rattle.studio_rules.specs.declared.Counted.{Counted}
 use Rattle.shared_words.specs.Bytes.{Bytes}
 use Rattle.studio_rules.specs.Layout.{Run, figure}
 use Rattle.studio_rules.specs.Rules.{Meets}
 use Rattle.shared_words.specs.Conditions.{Answer, refused, accepted}
 use Rattle.studio_rules.specs.Walk.{verdict}
-use Rattle.studio_rules.specs.Gives.{recordCount, Mesh, meshes}
+use Rattle.studio_rules.specs.Gives.{recordCount, Mesh, meshes, parts}
 use Rattle.shared_words.specs.Encodings.{Encoding}
 use Rattle.shared_words.specs.Effects.{Effect, leaving}
-use Rattle.studio_rules.specs.Calls.{checkOf, checkCall, listOf, listCall, pickMesh, ofMesh, Rows, tablesOf, tablesCall, nameCall, boxCall}
+use Rattle.studio_rules.specs.Calls.{checkOf, checkCall, listOf, listCall, pickMesh, ofMesh, Rows, Tables, fits, sizesOf, tablesOf, tablesCall, nameCall, boxCall, partsOf, partsCall}
 use Rattle.studio_rules.proofs.Verdict.{accepted-exactly, verdict-good}
 use Rattle.studio_rules.proofs.Theorems.{counts-add}
 use Rattle.studio_write.proofs.ReadsBack.{written-reads-back}
-use Rattle.claim_demands.specs.Demand2.{RoomFor, Given, Demand2}
+use Rattle.claim_demands.specs.Demand2.{RoomForTables, Given, Demand2}
 
 -- ---- answers: no refusal is an acceptance, and an acceptance has one value
 
@@ -37,11 +38,17 @@ not-accepted counts r e = let z : _≡_ {A = ℕ} 0 1 = cc in omega arith
 not-filled : (sizes : Sizes) (r : Refusal) → Tabled.Refused r ≡ Tabled.Filled sizes → ⊥
 not-filled sizes r e = let z : _≡_ {A = ℕ} 0 1 = cc in omega arith
 
+not-counted : (n : ℕ) (r : Refusal) → Counted.Refused r ≡ Counted.Filled n → ⊥
+not-counted n r e = let z : _≡_ {A = ℕ} 0 1 = cc in omega arith
+
 counts-are : {x y : Counts} → Checked.Accepted x ≡ Checked.Accepted y → y ≡ x
 counts-are e = cc
 
 sizes-are : {x y : Sizes} → Tabled.Filled x ≡ Tabled.Filled y → y ≡ x
 sizes-are e = cc
+
+counted-is : {x y : ℕ} → Counted.Filled x ≡ Counted.Filled y → y ≡ x
+counted-is e = cc
 
 -- ---- an answer z that no refusal gives: what was found on the way to it
 
@@ -62,35 +69,31 @@ module _ {A R : Type 0} {z : A} where
   found-mesh refuse use-it n never none e = absurd (never (NoSuchMesh n) e)
   found-mesh refuse use-it n never (some m) e = (m, refl, e)
 
-  -- room for n
-  found-room : (n room : ℕ) (x y : Effect A R) → (y .answer ≡ z → ⊥) →
-      cond (leb n room) x y .answer ≡ z → (n ≤ room) × (x .answer ≡ z)
-  found-room n room x y never = go (leb n room) refl
-    where
-      go : (t : Bool) → leb n room ≡ t → cond t x y .answer ≡ z → (n ≤ room) × (x .answer ≡ z)
-      go true h e = (leb-true n room h, e)
-      go false h e = absurd (never e)
+  -- room
+  found-room : (fits : Bool) (x y : Effect A R) → (y .answer ≡ z → ⊥) → cond fits x y .answer ≡ z → (fits ≡ true) × (x .answer ≡ z)
+  found-room true x y never e = (refl, e)
+  found-room false x y never e = absurd (never e)
 
--- room for both tables
-found-tables : {A B : Type 0} (e : Encoding ℕ A) (f : Encoding ℕ B) (rows : Rows A B) (m : Mesh) (sizes : Sizes) →
-    tablesOf e f rows m .answer ≡ Tabled.Filled sizes →
-    (sizes ≡ record { vertices = m .vertexCount; faces = m .faceCount }) ×
-    RoomFor e (length (m .vertices)) (rows .vertices) × RoomFor f (length (m .corners)) (rows .corners)
-found-tables e f rows m sizes h =
-    let v = found-room _ _ _ _ (not-filled sizes _) h in
-    let c = found-room _ _ _ _ (not-filled sizes _) (v .1) in
-    (sizes-are (c .1), v .0, c .0)
+-- room for all tables
+found-tables : {A B C : Type 0} (t : Tables A B C) (rows : Rows A B C) (m : Mesh) (sizes : Sizes) → tablesOf t rows m .answer ≡ Tabled.Filled sizes →
+    (sizes ≡ sizesOf m) × RoomForTables t rows m
+found-tables t rows m sizes h =
+    let v = found-room (fits (t .vertices) (m .vertices) (rows .vertices)) _ _ (not-filled sizes _) h in
+    let c = found-room (fits (t .corners) (m .corners) (rows .corners)) _ _ (not-filled sizes _) (v .1) in
+    let p = found-room (fits (t .mapping) (m .mapping) (rows .mapping)) _ _ (not-filled sizes _) (c .1) in
+    (sizes-are (p .1), record { vertices = v .0; corners = c .0; mapping = p .0 })
 
 -- ---- what the calls give of a file that meets the rules
 
 given : (s : List ℕ) (kids : Run) → Meets s kids → Given s kids
-unfolding listCall tablesCall nameCall boxCall
+unfolding listCall tablesCall nameCall boxCall partsCall
 given s kids m =
     let v = verdict-good s kids m in
     record {
       counts-add = counts-add s kids m;
       list-is = λ e row h. rw (v, le-leb (recordCount (figure kids)) (e .room (length row)) h);
-      tables-are = λ e f mesh x g rows h k. rw (v, g, le-leb _ _ h, le-leb _ _ k);
+      tables-are = λ t mesh x g rows h. rw (v, g, h .vertices, h .corners, h .mapping);
+      parts-are = λ e row h. rw (v, le-leb (length (parts kids)) (e .room (length row)) h);
       name-is = λ mesh x g. rw (v, g);
       box-is = λ mesh x g p. rw (v, g, ne-eqb (x .vertexCount) 0 (λ z. omega arith));
     }
@@ -98,7 +101,7 @@ given s kids m =
 -- ---- the demand
 
 pub demand2 : Demand2
-unfolding checkCall listCall tablesCall
+unfolding checkCall listCall tablesCall partsCall
 demand2 = record {
   accepted = λ s b counts. (
     λ h. let l = found-layout checkOf (not-accepted counts) s b h in (l .0, l .1, counts-are (l .2)),
@@ -107,19 +110,26 @@ demand2 = record {
   listed = λ e s b row counts. (
     λ h.
         let l = found-layout (λ a. listOf e row a .answer) (not-accepted counts) s b h in
-        let r = found-room _ _ _ _ (not-accepted counts _) (l .2) in
-        (l .0, l .1, counts-are (r .1), r .0),
+        let r = found-room (leb (recordCount (figure (l .0))) (e .room (length row))) _ _ (not-accepted counts _) (l .2) in
+        (l .0, l .1, counts-are (r .1), leb-true _ _ (r .0)),
     λ l. rw (given s (l .0) (l .1) .list-is e row (l .3), l .2),
   );
-  tabled = λ e f s b mesh rows sizes. (
+  tabled = λ t s b mesh rows sizes. (
     λ h.
-        let l = found-layout (λ a. ofMesh (λ r. leaving (Tabled.Refused r) rows) (tablesOf e f rows) mesh a .answer) (not-filled sizes) s b h in
+        let l = found-layout (λ a. ofMesh (λ r. leaving (Tabled.Refused r) rows) (tablesOf t rows) mesh a .answer) (not-filled sizes) s b h in
         let m = found-mesh _ _ _ (not-filled sizes) (getElem? (meshes (l .0)) mesh) (l .2) in
-        let t = found-tables e f rows (m .0) sizes (m .2) in
-        (l .0, l .1, (m .0, m .1, t .0, t .1, t .2)),
+        let f = found-tables t rows (m .0) sizes (m .2) in
+        (l .0, l .1, (m .0, m .1, f .0, f .1)),
     λ l.
         let m = l .2 in
-        rw (given s (l .0) (l .1) .tables-are e f mesh (m .0) (m .1) rows (m .3) (m .4), m .2),
+        rw (given s (l .0) (l .1) .tables-are t mesh (m .0) (m .1) rows (m .3), m .2),
+  );
+  hung = λ e s b row n. (
+    λ h.
+        let l = found-layout (λ a. partsOf e row a .answer) (not-counted n) s b h in
+        let r = found-room (leb (length (parts (l .0))) (e .room (length row))) _ _ (not-counted n _) (l .2) in
+        (l .0, l .1, counted-is (r .1), leb-true _ _ (r .0)),
+    λ l. rw (given s (l .0) (l .1) .parts-are e row (l .3), l .2),
   );
   given = given;
   written-reads-back = written-reads-back;

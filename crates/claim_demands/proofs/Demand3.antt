@@ -18,7 +18,7 @@ use Rattle.studio_rules.specs.Gives.{list, Mesh, meshes}
 use Rattle.studio_rules.specs.Gaps.{Marked, figureOf, without, with, SameMesh, Pairwise}
 use Rattle.studio_rules.specs.Theorems.{putIn, allPut}
 use Rattle.shared_words.specs.Effects.{leaving}
-use Rattle.studio_rules.specs.Calls.{countsOf, checkCall, listCall, pickMesh, ofMesh, tablesOf, tablesCall, nameOf, nameCall, aroundOf, boxCall}
+use Rattle.studio_rules.specs.Calls.{countsOf, checkCall, listCall, pickMesh, ofMesh, tablesOf, tablesCall, nameOf, nameCall, aroundOf, boxCall, partsCall}
 use Rattle.studio_rules.proofs.Verdict.{verdict-good}
 use Rattle.studio_rules.proofs.Gaps.{record-count-same}
 use Rattle.studio_rules.proofs.Theorems.{put-in-or-taken-out}
@@ -65,7 +65,7 @@ module _ (m : Marked) (s s′ : List ℕ) (v : verdict s ≡ accepted (without m
       go (some x) (some y) h = same-mesh x y h
 
   same-answers : SameAnswers (putIn m) (allPut m) s s′
-  unfolding checkCall listCall tablesCall nameCall boxCall
+  unfolding checkCall listCall tablesCall nameCall boxCall partsCall
   same-answers =
       let d = put-in-or-taken-out m in
       let n = record-count-same (figureOf m) in
@@ -83,9 +83,10 @@ module _ (m : Marked) (s s′ : List ℕ) (v : verdict s ≡ accepted (without m
         moved = d .list-moved;
         list-given = λ e row h. (rw (v, le-leb _ _ h), rw (v′, n, le-leb _ _ h));
         list-refused = λ e row h. (rw (v, lt-leb _ _ h), rw (v′, n, lt-leb _ _ h));
-        tables-same = λ e f mesh rows.
-            of-one-mesh (λ r. leaving (Tabled.Refused r) rows) (tablesOf e f rows) (λ old new. new ≡ old) (λ r. refl)
-            (λ old new h. rw (h .vertices-same, h .corners-same, h .vertex-count-same, h .face-count-same)) mesh;
+        tables-same = λ t mesh rows.
+            of-one-mesh (λ r. leaving (Tabled.Refused r) rows) (tablesOf t rows) (λ old new. new ≡ old) (λ r. refl)
+            (λ old new h. rw (h .vertices-same, h .corners-same, h .mapping-same, h .vertex-count-same, h .face-count-same, h .pair-count-same)) mesh;
+        parts-same = λ e row. rw (v, v′, d .parts-same);
         box-same =
             of-one-mesh Boxed.Refused aroundOf (λ old new. new ≡ old) (λ r. refl) (λ old new h. rw (h .vertex-count-same, h .vertices-same));
         name-moved =

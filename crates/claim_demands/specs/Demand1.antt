@@ -10,6 +10,7 @@ use Rattle.studio_rules.specs.declared.Record.{Record}
 use Rattle.shared_words.specs.declared.Refusal.{Refusal}
 use Rattle.studio_rules.specs.declared.Checked.{Checked}
 use Rattle.studio_rules.specs.declared.Tabled.{Tabled}
+use Rattle.studio_rules.specs.declared.Counted.{Counted}
 use Rattle.studio_rules.specs.declared.Named.{Named}
 use Rattle.studio_rules.specs.declared.Boxed.{Boxed}
 use Rattle.studio_rules.specs.declared.Corner.{Corner}
@@ -17,7 +18,8 @@ use Rattle.studio_rules.specs.declared.BoundingBox.{BoundingBox}
 use Rattle.shared_words.specs.Refusals.{Code, codeOf, Numbered}
 use Rattle.shared_words.specs.Encodings.{Encoding}
 use Rattle.shared_words.specs.Effects.{Effect}
-use Rattle.studio_rules.specs.Calls.{checkCall, listCall, Rows, tablesCall, nameCall, boxCall}
+use Rattle.studio_rules.specs.Gives.{Part}
+use Rattle.studio_rules.specs.Calls.{checkCall, listCall, Rows, Tables, tablesCall, nameCall, boxCall, partsCall}
 use Rattle.shared_words.specs.declared.Written.{Written}
 use Rattle.studio_write.specs.Write.{writeCall}
 
@@ -47,8 +49,10 @@ pub record Demand1 : Type 1 where
   pub check : (s : List ℕ) → Answered Checked.Accepted Checked.Refused (checkCall s)
   pub list : {A : Type 0} (e : Encoding Record A) (s : List ℕ) (row : List A) →
       AnsweredOn Checked.Accepted Checked.Refused row (listCall e s row)
-  pub tables : {A B : Type 0} (e : Encoding ℕ A) (f : Encoding ℕ B) (s : List ℕ) (mesh : ℕ) (rows : Rows A B) →
-      AnsweredOn Tabled.Filled Tabled.Refused rows (tablesCall e f s mesh rows)
+  pub tables : {A B C : Type 0} (t : Tables A B C) (s : List ℕ) (mesh : ℕ) (rows : Rows A B C) →
+      AnsweredOn Tabled.Filled Tabled.Refused rows (tablesCall t s mesh rows)
+  pub parts : {A : Type 0} (e : Encoding Part A) (s : List ℕ) (row : List A) →
+      AnsweredOn Counted.Filled Counted.Refused row (partsCall e s row)
   pub name : (s : List ℕ) (mesh : ℕ) → Answered Named.At Named.Refused (nameCall s mesh)
   pub box : (s : List ℕ) (mesh : ℕ) → Answered around Boxed.Refused (boxCall s mesh)
   pub write : (name : List ℕ) (vertices : List Float) (corners out : List ℕ) →

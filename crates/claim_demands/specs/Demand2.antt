@@ -5,6 +5,7 @@ use mathlib.Core.Path.{_≡_}
 use mathlib.Core.Logic.{_↔_}
 use mathlib.Core.List.{List}
 use mathlib.Core.Option.{some}
+use mathlib.Core.Bool.{true}
 use Prim.Native.Nat.{ℕ, _+_, _≤_, _<_}
 use lib.ListN.{length, getElem?}
 use Rattle.studio_rules.specs.declared.Record.{Record}
@@ -12,22 +13,29 @@ use Rattle.studio_rules.specs.declared.Counts.{Counts}
 use Rattle.studio_rules.specs.declared.Checked.{Checked}
 use Rattle.studio_rules.specs.declared.Sizes.{Sizes}
 use Rattle.studio_rules.specs.declared.Tabled.{Tabled}
+use Rattle.studio_rules.specs.declared.Counted.{Counted}
 use Rattle.studio_rules.specs.declared.Named.{Named}
 use Rattle.studio_rules.specs.declared.Boxed.{Boxed}
 use Rattle.shared_words.specs.Bytes.{Bytes}
 use Rattle.studio_rules.specs.Layout.{Run, figure}
 use Rattle.studio_rules.specs.Rules.{Meets}
-use Rattle.studio_rules.specs.Gives.{recordCount, list, Mesh, meshes}
+use Rattle.studio_rules.specs.Gives.{recordCount, list, Mesh, meshes, Part, parts}
 use Rattle.studio_rules.specs.Box.{boxOf, centreOf}
 use Rattle.shared_words.specs.Encodings.{Encoding}
 use Rattle.shared_words.specs.Effects.{leaving, filled}
-use Rattle.studio_rules.specs.Calls.{countsOf, checkCall, listCall, Rows, tablesCall, nameCall, boxCall}
+use Rattle.studio_rules.specs.Calls.{countsOf, checkCall, listCall, Rows, Tables, fits, sizesOf, rowsWith, tablesCall, nameCall, boxCall, partsCall}
 use Rattle.studio_write.specs.ReadsBack.{WrittenReadsBack}
 
 -- ---- room, in whole records or numbers
 
 abbrev pub RoomFor : {X A : Type 0} → Encoding X A → ℕ → List A → Type 0
 RoomFor e n row = n ≤ e .room (length row)
+
+-- for those tables of a mesh that are asked for
+pub record RoomForTables {A B C : Type 0} (t : Tables A B C) (rows : Rows A B C) (m : Mesh) : Type 0 where
+  pub vertices : fits (t .vertices) (m .vertices) (rows .vertices) ≡ true
+  pub corners : fits (t .corners) (m .corners) (rows .corners) ≡ true
+  pub mapping : fits (t .mapping) (m .mapping) (rows .mapping) ≡ true
 
 -- ---- what the calls give of a file s that meets the rules with a layout
 
@@ -36,11 +44,10 @@ pub record Given (s : List ℕ) (kids : Run) : Type 1 where
   pub list-is : {A : Type 0} (e : Encoding Record A) (row : List A) → RoomFor e (recordCount (figure kids)) row →
       listCall e s row ≡ leaving (Checked.Accepted (countsOf kids)) (filled (e .encode (list kids)) row)
   -- of each mesh: m has the number `mesh`
-  pub tables-are : {A B : Type 0} (e : Encoding ℕ A) (f : Encoding ℕ B) (mesh : ℕ) (m : Mesh) → getElem? (meshes kids) mesh ≡ some m →
-      (rows : Rows A B) → RoomFor e (length (m .vertices)) (rows .vertices) → RoomFor f (length (m .corners)) (rows .corners) →
-      tablesCall e f s mesh rows ≡
-      leaving (Tabled.Filled record { vertices = m .vertexCount; faces = m .faceCount })
-      record { vertices = filled (e .encode (m .vertices)) (rows .vertices); corners = filled (f .encode (m .corners)) (rows .corners) }
+  pub tables-are : {A B C : Type 0} (t : Tables A B C) (mesh : ℕ) (m : Mesh) → getElem? (meshes kids) mesh ≡ some m →
+      (rows : Rows A B C) → RoomForTables t rows m → tablesCall t s mesh rows ≡ leaving (Tabled.Filled (sizesOf m)) (rowsWith t rows m)
+  pub parts-are : {A : Type 0} (e : Encoding Part A) (row : List A) → RoomFor e (length (parts kids)) row →
+      partsCall e s row ≡ leaving (Counted.Filled (length (parts kids))) (filled (e .encode (parts kids)) row)
   pub name-is : (mesh : ℕ) (m : Mesh) → getElem? (meshes kids) mesh ≡ some m →
       nameCall s mesh ≡ Named.At record { offset = m .nameAt; size = m .nameLength }
   pub box-is : (mesh : ℕ) (m : Mesh) → getElem? (meshes kids) mesh ≡ some m → 0 < m .vertexCount →
@@ -52,15 +59,15 @@ pub record Demand2 : Type 1 where
   -- accepted exactly when the rules are met, and then with the counts of the layout
   pub accepted : (s : List ℕ) → Bytes s → (counts : Counts) →
       (checkCall s ≡ Checked.Accepted counts) ↔ ((kids : Run) × Meets s kids × (counts ≡ countsOf kids))
-  -- the list and the tables likewise, given room
+  -- the list, the tables and the parts likewise, given room
   pub listed : {A : Type 0} (e : Encoding Record A) (s : List ℕ) → Bytes s → (row : List A) (counts : Counts) →
       (listCall e s row .answer ≡ Checked.Accepted counts) ↔
       ((kids : Run) × Meets s kids × (counts ≡ countsOf kids) × RoomFor e (recordCount (figure kids)) row)
-  pub tabled : {A B : Type 0} (e : Encoding ℕ A) (f : Encoding ℕ B) (s : List ℕ) → Bytes s → (mesh : ℕ) (rows : Rows A B) (sizes : Sizes) →
-      (tablesCall e f s mesh rows .answer ≡ Tabled.Filled sizes) ↔
-      ((kids : Run) × Meets s kids × ((m : Mesh) × (getElem? (meshes kids) mesh ≡ some m) ×
-      (sizes ≡ record { vertices = m .vertexCount; faces = m .faceCount }) ×
-      RoomFor e (length (m .vertices)) (rows .vertices) × RoomFor f (length (m .corners)) (rows .corners)))
+  pub tabled : {A B C : Type 0} (t : Tables A B C) (s : List ℕ) → Bytes s → (mesh : ℕ) (rows : Rows A B C) (sizes : Sizes) →
+      (tablesCall t s mesh rows .answer ≡ Tabled.Filled sizes) ↔
+      ((kids : Run) × Meets s kids × ((m : Mesh) × (getElem? (meshes kids) mesh ≡ some m) × (sizes ≡ sizesOf m) × RoomForTables t rows m))
+  pub hung : {A : Type 0} (e : Encoding Part A) (s : List ℕ) → Bytes s → (row : List A) (n : ℕ) →
+      (partsCall e s row .answer ≡ Counted.Filled n) ↔ ((kids : Run) × Meets s kids × (n ≡ length (parts kids)) × RoomFor e (length (parts kids)) row)
   -- and what they give is that of the layout
   pub given : (s : List ℕ) (kids : Run) → Meets s kids → Given s kids
   -- a figure we write is accepted and reads back

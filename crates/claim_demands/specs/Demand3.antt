@@ -19,7 +19,8 @@ use Rattle.studio_rules.specs.Gaps.{Marked, without, with, InGaps, Piece, befor
 use Rattle.studio_rules.specs.Theorems.{putIn, allPut}
 use Rattle.shared_words.specs.Encodings.{Encoding}
 use Rattle.shared_words.specs.Effects.{leaving, filled}
-use Rattle.studio_rules.specs.Calls.{checkCall, listCall, Rows, tablesCall, nameCall, boxCall}
+use Rattle.studio_rules.specs.Gives.{Part}
+use Rattle.studio_rules.specs.Calls.{checkCall, listCall, Rows, Tables, tablesCall, nameCall, boxCall, partsCall}
 
 -- a name keeps its length, and its offset grows like the others; a refusal is the same
 abbrev pub NameMoved : List Piece → Named → Named → Type 0
@@ -49,10 +50,12 @@ pub record SameAnswers (ps : List Piece) (all : ℕ) (s s′ : List ℕ) : Type 
       (listCall e s row ≡ leaving (Checked.Refused (NoRoom (counts .records))) row) ×
       (listCall e s′ row ≡ leaving (Checked.Refused (NoRoom (counts .records))) row)
   -- every mesh has the same tables bit for bit, the same box, and its name
-  pub tables-same : {A B : Type 0} (e : Encoding ℕ A) (f : Encoding ℕ B) (mesh : ℕ) (rows : Rows A B) →
-      tablesCall e f s′ mesh rows ≡ tablesCall e f s mesh rows
+  pub tables-same : {A B C : Type 0} (t : Tables A B C) (mesh : ℕ) (rows : Rows A B C) →
+      tablesCall t s′ mesh rows ≡ tablesCall t s mesh rows
   pub box-same : (mesh : ℕ) → boxCall s′ mesh ≡ boxCall s mesh
   pub name-moved : (mesh : ℕ) → NameMoved ps (nameCall s mesh) (nameCall s′ mesh)
+  -- the same parts hang on the same ones
+  pub parts-same : {A : Type 0} (e : Encoding Part A) (row : List A) → partsCall e s′ row ≡ partsCall e s row
 
 pub record Demand3 : Type 1 where
   -- chunks put into an accepted file, the result within the length limit

@@ -1,3 +1,4 @@
 pub mod Places
 pub mod Meshes
+pub mod Parts
 pub mod Told

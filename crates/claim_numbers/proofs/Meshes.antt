@@ -6,14 +6,16 @@ use mathlib.Core.Bool.{Bool, true, false, cond}
 use mathlib.Core.List.{List, [], _∷_, _++_}
 use mathlib.Core.Option.{Option, none, some}
 use lib.Dec.{eqb}
-use lib.ListN.{length, length-append, drop, getElem?}
+use mathlib.Core.Logic.{⊎-elim}
+use lib.ListN.{length, length-append, length-replicate, drop, replicate, getElem?}
 use Rattle.shared_words.specs.Bytes.{Bytes}
 use Rattle.shared_words.proofs.Bytes.{word-small}
 use Rattle.shared_words.proofs.Numbers.{length-numbers}
 use Rattle.studio_rules.specs.Layout.{Run, end, skip, known, size, header, bytes, child}
-use Rattle.studio_rules.specs.OwnData.{count}
-use Rattle.studio_rules.specs.Gives.{recordCount, Mesh, meshOf, oneMesh, meshesOf}
+use Rattle.studio_rules.specs.OwnData.{count, mappingNumbers}
+use Rattle.studio_rules.specs.Gives.{recordCount, Mesh, pairsOf, mappingTable, meshOf, oneMesh, meshesOf}
 use Rattle.studio_rules.proofs.Corners.{length-corners}
+use Rattle.studio_rules.proofs.Mapping.{pairs-all-or-none}
 
 -- ---- how many
 
@@ -49,6 +51,8 @@ pub record Small (m : Mesh) : Type 0 where
   pub faces : m .faceCount < 65_536
   pub vertex-numbers : length (m .vertices) ≡ 3 * m .vertexCount
   pub corner-numbers : length (m .corners) ≡ 3 * m .faceCount
+  pub pairs : m .pairCount < 65_536
+  pub mapping-numbers : length (m .mapping) < 131_072
 
 abbrev pub AllSmall : List Mesh → Type 0
 AllSmall [] = Unit
@@ -97,6 +101,19 @@ child-bytes x (known id own kids rest) b = go (eqb id x) own (child x rest) (par
     go true xs ys h k = h
     go false xs ys h k = k
 
+-- a mapping has as many pairs as vertices or none, and no fewer numbers than its 4140
+pairs-small : (kids : Run) → Bytes (bytes kids) → pairsOf kids < 65_536
+pairs-small kids b =
+    let n = word-small (child 0x4110 kids) (child-bytes 0x4110 kids b) in
+    ⊎-elim (λ e. omega (arith, e, n)) (λ e. omega (arith, e)) (pairs-all-or-none kids)
+
+mapping-small : (kids : Run) → Bytes (bytes kids) → length (mappingTable kids) < 131_072
+mapping-small kids b =
+    let own = child 0x4140 kids in
+    let given = length-numbers 4 (2 * count (child 0x4140 kids)) (drop 2 (child 0x4140 kids)) in
+    let zeros = 2 * pairsOf kids - length (mappingNumbers (child 0x4140 kids)) in
+    omega (arith, length-append (mappingNumbers own) (replicate zeros 0), length-replicate {A = ℕ} zeros 0, given, pairs-small kids b, word-small own (child-bytes 0x4140 kids b))
+
 mesh-small : (at l : ℕ) (kids : Run) → Bytes (bytes kids) → Small (meshOf at l kids)
 mesh-small at l kids b =
     record {
@@ -104,6 +121,8 @@ mesh-small at l kids b =
       faces = word-small (child 0x4120 kids) (child-bytes 0x4120 kids b);
       vertex-numbers = length-numbers 4 (3 * count (child 0x4110 kids)) (drop 2 (child 0x4110 kids));
       corner-numbers = length-corners (count (child 0x4120 kids)) (drop 2 (child 0x4120 kids));
+      pairs = pairs-small kids b;
+      mapping-numbers = mapping-small kids b;
     }
 
 one-small : (b : Bool) (m : Mesh) → Small m → AllSmall (oneMesh b m)

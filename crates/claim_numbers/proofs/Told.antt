@@ -23,20 +23,23 @@ use Rattle.studio_rules.specs.declared.Checked.{Checked}
 use Rattle.studio_rules.specs.declared.Tabled.{Tabled}
 use Rattle.studio_rules.specs.declared.Named.{Named}
 use Rattle.studio_rules.specs.declared.Boxed.{Boxed}
+use Rattle.studio_rules.specs.declared.Counted.{Counted}
 use Rattle.studio_rules.specs.Layout.{Run, figure}
 use Rattle.studio_rules.specs.Rules.{limit}
 use Rattle.studio_rules.specs.Walk.{verdict}
-use Rattle.studio_rules.specs.Gives.{recordCount, headers, owned, skipped, Mesh, meshes}
+use Rattle.studio_rules.specs.Gives.{recordCount, headers, owned, skipped, Mesh, meshes, Part, parts}
 use Rattle.studio_rules.specs.Box.{boxOf, centreOf}
-use Rattle.studio_rules.specs.Calls.{checkOf, checkCall, listOf, listCall, pickMesh, ofMesh, Rows, tablesOf, tablesCall, nameOf, nameCall, aroundOf, boxCall}
+use Rattle.studio_rules.specs.Calls.{checkOf, checkCall, listOf, listCall, pickMesh, ofMesh, Rows, Tables, fits, sizesOf, tablesOf, tablesCall, nameOf, nameCall, aroundOf, boxCall, partsOf, partsCall}
 use Rattle.studio_rules.proofs.Verdict.{accepted-exactly}
 use Rattle.shared_words.specs.declared.Written.{Written}
 use Rattle.studio_write_judge.specs.Judged.{figureSize, writeConditions, answerOf, judged}
 use Rattle.studio_write.specs.Write.{writing, writeCall}
-use Rattle.c_codes.specs.Codes.{refusalCode, recordsOr, sizesOr, sizeOr}
+use Rattle.c_codes.specs.Codes.{refusalCode, recordsOr, sizesOr, numbersOr, sizeOr}
 use Rattle.c_answers.specs.Given.{given, nine, countsGiven, nameGiven, boxGiven}
-use Rattle.claim_numbers.specs.Told.{Proper, Tells, TellsCapped, CheckTold, TablesTold, WriteTold, Gives, CountsTold, NameTold, BoxTold, Told}
+use Rattle.c_parts.specs.Codes.{partsOr}
+use Rattle.claim_numbers.specs.Told.{Proper, Tells, TellsCapped, CheckTold, TablesTold, PartsTold, WriteTold, Gives, CountsTold, NameTold, BoxTold, Told}
 use Rattle.claim_numbers.proofs.Places.{Within, verdict-within}
+use Rattle.claim_numbers.proofs.Parts.{parts-few}
 use Rattle.claim_numbers.proofs.Meshes.{records-few, meshes-few, Small, SmallAt, small-at, meshes-small}
 
 -- ---- a refusal
@@ -78,6 +81,16 @@ list-told {A} e row (accepted kids) h =
     by-test (λ (x : Effect Checked (List A)). CheckTold (x .answer) (recordsOr (x .answer))) (leb (recordCount (figure kids)) (e .room (length row)))
     (omega (arith, records-few (figure kids))) (tells (NoRoom (recordCount (figure kids))) (omega (arith, records-few (figure kids))))
 
+-- ---- the parts
+
+parts-told : {A : Type 0} (e : Encoding Part A) (row : List A) (a : Answer Run) → Within a →
+    PartsTold (partsOf e row a .answer) (partsOr (partsOf e row a .answer))
+parts-told e row (refused r) h = tells r h
+parts-told {A} e row (accepted kids) h =
+    let few : length (parts kids) ≤ limit = omega (arith, parts-few kids, records-few (figure kids)) in
+    by-test (λ (x : Effect Counted (List A)). PartsTold (x .answer) (partsOr (x .answer))) (leb (length (parts kids)) (e .room (length row)))
+    (omega arith) (tells (NoRoom (length (parts kids))) few)
+
 -- ---- one mesh
 
 -- the mesh that is asked for, or its number refused
@@ -97,15 +110,20 @@ small-mesh s b mesh kids v m e =
     let all = small-at (meshes kids) mesh (meshes-small 0 0 0 (figure kids) (subst Bytes (sym (w .is)) b)) in
     rw e at all
 
-tables-told : {A B : Type 0} (e : Encoding ℕ A) (f : Encoding ℕ B) (rows : Rows A B) (m : Mesh) → Small m →
-    TablesTold (tablesOf e f rows m .answer) (sizesOr (tablesOf e f rows m .answer))
-tables-told {A} {B} e f rows m h =
+-- the tables, by a number that is proper where they are filled
+tables-told : {A B C : Type 0} (t : Tables A B C) (rows : Rows A B C) (code : Tabled → ℕ) → ((r : Refusal) → code (Tabled.Refused r) ≡ refusalCode r) → (m : Mesh) → Small m → code (Tabled.Filled (sizesOf m)) < 2 ^ 32 →
+    TablesTold (tablesOf t rows m .answer) (code (tablesOf t rows m .answer))
+tables-told {A} {B} {C} t rows code same m h proper =
     let v = h .vertex-numbers in
     let c = h .corner-numbers in
-    by-test (λ (x : Effect Tabled (Rows A B)). TablesTold (x .answer) (sizesOr (x .answer))) (leb (length (m .vertices)) (e .room (length (rows .vertices))))
-    (by-test (λ (x : Effect Tabled (Rows A B)). TablesTold (x .answer) (sizesOr (x .answer))) (leb (length (m .corners)) (f .room (length (rows .corners))))
-    (omega arith) (tells (NoRoom (length (m .corners))) (omega arith)))
-    (tells (NoRoom (length (m .vertices))) (omega arith))
+    let p = h .mapping-numbers in
+    let T : Effect Tabled (Rows A B C) → Type 0 = λ x. TablesTold (x .answer) (code (x .answer)) in
+    by-test T (fits (t .vertices) (m .vertices) (rows .vertices))
+    (by-test T (fits (t .corners) (m .corners) (rows .corners))
+    (by-test T (fits (t .mapping) (m .mapping) (rows .mapping))
+    proper (rw (same (NoRoom (length (m .mapping)))) (tells (NoRoom (length (m .mapping))) (omega arith))))
+    (rw (same (NoRoom (length (m .corners)))) (tells (NoRoom (length (m .corners))) (omega arith))))
+    (rw (same (NoRoom (length (m .vertices)))) (tells (NoRoom (length (m .vertices))) (omega arith)))
 
 -- ---- a few numbers given out
 
@@ -142,13 +160,16 @@ write-told name vertices corners out file = go (broken (writeConditions name ver
 -- ---- THE THEOREM
 
 pub told : Told
-unfolding checkCall listCall tablesCall nameCall boxCall writeCall
+unfolding checkCall listCall tablesCall nameCall boxCall partsCall writeCall
 told = record {
   check = λ s. records-told (verdict s) (verdict-within s);
   list = λ e s row. list-told e row (verdict s) (verdict-within s);
-  tables = λ {A} {B} e f s b mesh rows.
-      mesh-told (λ (x : Effect Tabled (Rows A B)). TablesTold (x .answer) (sizesOr (x .answer))) (λ r. leaving (Tabled.Refused r) rows) (tablesOf e f rows) tells mesh (verdict s) (verdict-within s)
-      (λ kids v m g. tables-told e f rows m (small-mesh s b mesh kids v m g));
+  tables = λ {A} {B} {C} t s b mesh rows.
+      mesh-told (λ (x : Effect Tabled (Rows A B C)). TablesTold (x .answer) (sizesOr (x .answer))) (λ r. leaving (Tabled.Refused r) rows) (tablesOf t rows) tells mesh (verdict s) (verdict-within s)
+      (λ kids v m g. let h = small-mesh s b mesh kids v m g in tables-told t rows sizesOr (λ r. refl) m h (omega (arith, h .vertices, h .faces)));
+  mapping = λ {A} {B} {C} t s b mesh rows.
+      mesh-told (λ (x : Effect Tabled (Rows A B C)). TablesTold (x .answer) (numbersOr (x .answer))) (λ r. leaving (Tabled.Refused r) rows) (tablesOf t rows) tells mesh (verdict s) (verdict-within s)
+      (λ kids v m g. let h = small-mesh s b mesh kids v m g in tables-told t rows numbersOr (λ r. refl) m h (omega (arith, h .pairs)));
   counts = λ s out. counts-told out (verdict s) (verdict-within s);
   name = λ s mesh out.
       mesh-told (λ (x : Named). NameTold x (nameGiven out x .answer)) Named.Refused nameOf tells mesh (verdict s) (verdict-within s)
@@ -156,5 +177,6 @@ told = record {
   box = λ s mesh out.
       mesh-told (λ (x : Boxed). BoxTold x (boxGiven out x .answer)) Boxed.Refused aroundOf tells mesh (verdict s) (verdict-within s)
       (λ kids v m g. box-told out m);
+  parts = λ e s row. parts-told e row (verdict s) (verdict-within s);
   write = λ name vertices corners out. write-told name vertices corners out _;
 }

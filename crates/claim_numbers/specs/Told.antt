@@ -16,11 +16,14 @@ use Rattle.studio_rules.specs.declared.Checked.{Checked}
 use Rattle.studio_rules.specs.declared.Tabled.{Tabled}
 use Rattle.studio_rules.specs.declared.Named.{Named}
 use Rattle.studio_rules.specs.declared.Boxed.{Boxed}
-use Rattle.studio_rules.specs.Calls.{checkCall, listCall, Rows, tablesCall, nameCall, boxCall}
+use Rattle.studio_rules.specs.declared.Counted.{Counted}
+use Rattle.studio_rules.specs.Gives.{Part}
+use Rattle.studio_rules.specs.Calls.{checkCall, listCall, Rows, Tables, tablesCall, nameCall, boxCall, partsCall}
 use Rattle.shared_words.specs.declared.Written.{Written}
 use Rattle.studio_write.specs.Write.{writeCall}
-use Rattle.c_codes.specs.Codes.{recordsOr, sizesOr, sizeOr}
+use Rattle.c_codes.specs.Codes.{recordsOr, sizesOr, numbersOr, sizeOr}
 use Rattle.c_answers.specs.Given.{countsGiven, nameGiven, boxGiven}
+use Rattle.c_parts.specs.Codes.{partsOr}
 
 -- n is an answer proper
 abbrev pub Proper : ℕ → Type 0
@@ -45,6 +48,10 @@ CheckTold (Checked.Refused r) n = Tells r n
 abbrev pub TablesTold : Tabled → ℕ → Type 0
 TablesTold (Tabled.Filled sizes) n = Proper n
 TablesTold (Tabled.Refused r) n = Tells r n
+
+abbrev pub PartsTold : Counted → ℕ → Type 0
+PartsTold (Counted.Filled count) n = Proper n
+PartsTold (Counted.Refused r) n = Tells r n
 
 abbrev pub WriteTold : Written → ℕ → Type 0
 WriteTold (Written.Size size) n = Proper n
@@ -71,10 +78,13 @@ BoxTold (Boxed.Refused r) n = Tells r n
 pub record Told : Type 1 where
   pub check : (s : List ℕ) → CheckTold (checkCall s) (recordsOr (checkCall s))
   pub list : {A : Type 0} (e : Encoding Record A) (s : List ℕ) (row : List A) → CheckTold (listCall e s row .answer) (recordsOr (listCall e s row .answer))
-  pub tables : {A B : Type 0} (e : Encoding ℕ A) (f : Encoding ℕ B) (s : List ℕ) → Bytes s → (mesh : ℕ) (rows : Rows A B) →
-      TablesTold (tablesCall e f s mesh rows .answer) (sizesOr (tablesCall e f s mesh rows .answer))
+  pub tables : {A B C : Type 0} (t : Tables A B C) (s : List ℕ) → Bytes s → (mesh : ℕ) (rows : Rows A B C) →
+      TablesTold (tablesCall t s mesh rows .answer) (sizesOr (tablesCall t s mesh rows .answer))
+  pub mapping : {A B C : Type 0} (t : Tables A B C) (s : List ℕ) → Bytes s → (mesh : ℕ) (rows : Rows A B C) →
+      TablesTold (tablesCall t s mesh rows .answer) (numbersOr (tablesCall t s mesh rows .answer))
   pub counts : (s out : List ℕ) → CountsTold (checkCall s) (countsGiven out (checkCall s) .answer)
   pub name : (s : List ℕ) (mesh : ℕ) (out : List ℕ) → NameTold (nameCall s mesh) (nameGiven out (nameCall s mesh) .answer)
   pub box : (s : List ℕ) (mesh : ℕ) (out : List ℕ) → BoxTold (boxCall s mesh) (boxGiven out (boxCall s mesh) .answer)
+  pub parts : {A : Type 0} (e : Encoding Part A) (s : List ℕ) (row : List A) → PartsTold (partsCall e s row .answer) (partsOr (partsCall e s row .answer))
   pub write : (name : List ℕ) (vertices : List Float) (corners out : List ℕ) →
       WriteTold (writeCall name vertices corners out .answer) (sizeOr (writeCall name vertices corners out .answer))

@@ -8,9 +8,9 @@ use mathlib.Core.List.{List, _++_, append-nil}
 use lib.ListN.{length}
 use Rattle.studio_rules.specs.declared.Record.{Record}
 use Rattle.studio_rules.specs.Layout.{Run, known, size, child}
-use Rattle.studio_rules.specs.Gives.{recordCount, recordsOf, meshOf, meshesOf}
+use Rattle.studio_rules.specs.Gives.{recordCount, recordsOf, pairsOf, mappingTable, meshOf, meshesOf}
 use Rattle.studio_rules.specs.Readings.{_then_}
-use Rattle.studio_rules.proofs.Gaps.{child-same, record-count-same}
+use Rattle.studio_rules.proofs.Gaps.{child-same, pairs-same, mapping-same, record-count-same}
 use Rattle.claim_turned.proofs.Then.{size-then, records-then, meshes-then, no-records, no-meshes}
 use Rattle.claim_turned.proofs.Bare.{bare, same-of-bare, bare-then-none, bare-none-then}
 use Rattle.claim_turned.proofs.TwoWays.{Takes}
@@ -22,7 +22,8 @@ later o depth parent next own kids rest =
 
 -- the tables of a mesh come from its known children
 pub mesh-same : (at l : ℕ) (kids kids′ : Run) → bare kids′ ≡ bare kids → meshOf at l kids′ ≡ meshOf at l kids
-mesh-same at l kids kids′ e = rw (same-of-bare (child 0x4110) (child-same 0x4110) kids kids′ e, same-of-bare (child 0x4120) (child-same 0x4120) kids kids′ e)
+mesh-same at l kids kids′ e =
+    rw (same-of-bare mappingTable mapping-same kids kids′ e, same-of-bare pairsOf pairs-same kids kids′ e, same-of-bare (child 0x4110) (child-same 0x4110) kids kids′ e, same-of-bare (child 0x4120) (child-same 0x4120) kids kids′ e)
 
 -- a chunk with the children `kids`, which `rest` follows; and with kids′, which rest′ follows
 pub record Same (id : ℕ) (own : List ℕ) (kids rest kids′ rest′ : Run) : Type 0 where

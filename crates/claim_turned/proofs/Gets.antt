@@ -3,14 +3,15 @@
 use mathlib.Core.Path.{_≡_, ap, _∙_}
 use Prim.Native.Nat.{ℕ, _+_}
 use native.Mathlib.Omega.{arith}
+use mathlib.Core.List.{[]}
 use mathlib.Core.Option.{some}
 use lib.ListN.{length, getElem?}
 use Rattle.studio_rules.specs.declared.Record.{Record}
 use Rattle.studio_rules.specs.Layout.{Run, known, figure, size}
-use Rattle.studio_rules.specs.Gives.{recordCount, list, headers, owned, skipped, meshes, meshesOf}
+use Rattle.studio_rules.specs.Gives.{recordCount, list, headers, owned, skipped, meshes, meshesOf, fathers, partsFrom, parts}
 use Rattle.studio_rules.specs.Calls.{countsOf}
 use Rattle.studio_rules.specs.Parses.{inFile}
-use Rattle.studio_rules.proofs.Gaps.{record-count-same, headers-same, owned-same}
+use Rattle.studio_rules.proofs.Gaps.{record-count-same, headers-same, owned-same, fathers-same}
 use Rattle.studio_rules.proofs.Theorems.{counted-once}
 use Rattle.claim_turned.specs.Turned.{SameButLength}
 use Rattle.claim_turned.proofs.Bare.{bare, same-of-bare}
@@ -45,6 +46,9 @@ module _ (kids kids′ : Run) (i n : ℕ) (f : Found i (figure kids)) (q : Rerea
   pub kids-bare : bare kids′ ≡ bare kids
   kids-bare = let b = bare-same in cc
 
+  parts-same : parts kids′ ≡ parts kids
+  parts-same = ap (partsFrom []) (same-of-bare fathers fathers-same kids kids′ kids-bare)
+
   listed : Listed n (6 + length (f .own) + size (f .kids)) i (offsetIn (f .context)) 0 0 0 0 (figure kids) (figure kids′)
   listed =
       let first = listed-first (f .id) (f .own) (f .kids) (f .rest) (q .kids′) (q .rest′) n chunk-same (q .len-is) in
@@ -63,4 +67,4 @@ module _ (kids kids′ : Run) (i n : ℕ) (f : Found i (figure kids)) (q : Rerea
   gets-same r in-list =
       let h = listed .changed .0 in
       let e : listed .r ≡ r = cc in
-      record { one-length = rw (← e) (listed .changed .1); counts-same = counts-same; meshes-same = meshes-same }
+      record { one-length = rw (← e) (listed .changed .1); counts-same = counts-same; meshes-same = meshes-same; parts-same = parts-same }

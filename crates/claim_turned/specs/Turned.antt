@@ -11,7 +11,7 @@ use Rattle.shared_words.specs.Bytes.{le, Bytes}
 use Rattle.studio_rules.specs.Layout.{Run, figure}
 use Rattle.shared_words.specs.Conditions.{accepted, refused}
 use Rattle.studio_rules.specs.Walk.{verdict}
-use Rattle.studio_rules.specs.Gives.{list, skipped, meshes}
+use Rattle.studio_rules.specs.Gives.{list, skipped, meshes, parts}
 use Rattle.studio_rules.specs.Calls.{countsOf}
 
 -- the file s with n in the length field of the chunk at offset o: four bytes, behind the identifier's two
@@ -32,11 +32,12 @@ abbrev pub resized : ℕ → Record → Record
 resized n r = record { identifier = r .identifier; offset = r .offset; len = n; depth = r .depth; parent = r .parent; own = r .own; next = r .next }
 
 -- All that a reader gets of the second layout it gets of the first, but that n is the length in record number i, which
--- is r: the same known chunks in the same order, the same counts of records and bytes, the same tables and names.
+-- is r: the same known chunks in the same order, the same counts of records and bytes, the same tables, names and parts.
 pub record SameButLength (i : ℕ) (r : Record) (n : ℕ) (kids kids′ : Run) : Type 0 where
   pub one-length : list kids′ ≡ set (list kids) i (resized n r)
   pub counts-same : countsOf kids′ ≡ countsOf kids
   pub meshes-same : meshes kids′ ≡ meshes kids
+  pub parts-same : parts kids′ ≡ parts kids
 
 -- ANY OTHER VALUE IN ONE LENGTH FIELD: the result is refused, or accepted with the same but for that length.
 -- (It is accepted where whole unlisted chunks have changed their parent, and nothing else: specs/Exact.)

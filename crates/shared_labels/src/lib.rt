@@ -14,14 +14,14 @@ fn is_printable(b: u8) -> bool
     32 <= b && b <= 126
 }
 
-// Whether the 16 bytes at a position are all printable. The loop branches on nothing that it reads, and becomes vector code.
+// Whether the 8 bytes at a position are all printable. The loop branches on nothing that it reads, and becomes vector code.
 fn all_printable(s: &[u8], at: usize) -> bool
-    requires { ⌜ at + 16 ≤ length (now s) ⌝ }
-    ensures { λ r. ⌜ (r ≡ true → AllPrintable (now (s .entry)) at 16) ⌝ }
+    requires { ⌜ at + 8 ≤ length (now s) ⌝ }
+    ensures { λ r. ⌜ (r ≡ true → AllPrintable (now (s .entry)) at 8) ⌝ }
 {
     let mut good = true;
     let mut i = 0usize;
-    while i < 16 {
+    while i < 8 {
         if !is_printable(s[at + i]) {
             good = false;
         }
@@ -36,11 +36,11 @@ fn skip_blocks(s: &[u8], at: usize, end: usize) -> usize
     ensures { λ r. ⌜ FitsOn (now (s .entry)) at r end ⌝ }
 {
     let mut i = at;
-    while 16 <= end - i {
+    while 8 <= end - i {
         if !all_printable(s, i) {
             return i;
         }
-        i += 16;
+        i += 8;
     }
     i
 }
@@ -61,15 +61,15 @@ fn printable_size(s: &[u8], at: usize, end: usize) -> usize
 }
 
 // How many of the bytes from at to end a label takes: as many as there are just where they fit it. No more than 63 are looked
-// at.
+// at. (The slice is handed on as a part of itself: only so the compiler hands it on in registers.)
 pub fn label_size(s: &[u8], at: usize, end: usize) -> usize
     requires { ⌜ (at ≤ end) × (end ≤ length (now s)) ⌝ }
     ensures { λ r. ⌜ r ≡ labelFault (slice at end (now (s .entry))) ⌝ }
 {
     if end - at <= 63 {
-        return printable_size(s, at, end);
+        return printable_size(&s[0..], at, end);
     }
-    printable_size(s, at, at + 63)
+    printable_size(&s[0..], at, at + 63)
 }
 
 // Whether the bytes from at to end fit a label.

@@ -1,6 +1,6 @@
 -- The whole file: its own conditions, and the answer once the children of 4D4D are read.
 use mathlib.Core.Path.{_≡_, refl, sym, ap, _∙_, subst}
-use mathlib.Core.Bool.{true}
+use mathlib.Core.Bool.{Bool, true}
 use mathlib.Core.List.{List, []}
 use mathlib.Core.Option.{Option, none, some}
 use Prim.Native.Nat.{ℕ, _+_, _*_, _≤_, _<_}
@@ -27,7 +27,7 @@ use Rattle.studio_rules.proofs.Theorems.{counted-once}
 use Rattle.shared_numbers.specs.Numbers.{wordAt, longAt}
 use Rattle.studio_row.specs.Packed.{places, rowOf}
 use Rattle.studio_marks.specs.declared.Shut.{Shut}
-use Rattle.studio_marks.specs.Marks.{noMarks, Kept, ShutIs}
+use Rattle.studio_marks.specs.Marks.{noMarks, ShutIs, RuleIs, EndIs}
 use Rattle.studio_walk.specs.declared.Ran.{Ran}
 use Rattle.studio_head.specs.Contexts.{Context}
 use Rattle.studio_walk.specs.Runs.{RunIs}
@@ -142,10 +142,10 @@ abbrev pub told : List ℕ → Parent
 told s = top (versionIn (drop 6 s))
 
 -- what the code found of the children of 4D4D, said of the walk
-pub top-run : (s : List ℕ) (row : ℕ) → row ≡ rowOf 0x4D4D → (r : Ran) (ms : List ℕ) →
-    ((p : Parent) (seen : List ℕ) → Context p seen row 0 noMarks → RunIs (length s) 0 0 6 noMarks (walk p seen 6 (slice 6 (length s) s)) r ms) →
+pub top-run : (s : List ℕ) (row : ℕ) → row ≡ rowOf 0x4D4D → (asMany : Bool) → RuleIs (told s) asMany → (r : Ran) (ms : List ℕ) →
+    ((p : Parent) (seen : List ℕ) → RuleIs p asMany → Context p seen row 0 noMarks → RunIs (length s) 0 0 6 noMarks (walk p seen 6 (slice 6 (length s) s)) r ms) →
     {r′ : Ran} → r ≡ r′ → RunIs (length s) 0 0 6 noMarks (walk (told s) [] 6 (slice 6 (length s) s)) r′ ms
-top-run s row e r ms h is = subst (λ z. RunIs (length s) 0 0 6 noMarks (walk (told s) [] 6 (slice 6 (length s) s)) z ms) is (h (told s) [] (top-context (versionIn (drop 6 s)) row e))
+top-run s row e asMany rule r ms h is = subst (λ z. RunIs (length s) 0 0 6 noMarks (walk (told s) [] 6 (slice 6 (length s) s)) z ms) is (h (told s) [] rule (top-context (versionIn (drop 6 s)) row e))
 
 abbrev four : ℕ → ℕ → ℕ → ℕ → Counts
 four records headers own skips = record { records = records; headers = headers; own = own; skipped = skips }
@@ -178,9 +178,9 @@ module _ (s : List ℕ) (b : Bytes s) (six : 6 ≤ length s) (short : length s �
     well : Ran-well (file (versionIn (drop 6 s))) [] s 0 0x4D4D 6 (length s) [] b six (omega arith) (omega arith) (omega arith) (walk (told s) [] 6 (slice 6 (length s) s)) n k inner
     well = run-accepted (file (versionIn (drop 6 s))) [] s 0 0x4D4D 6 (length s) [] b six (omega arith) (omega arith) (omega arith) next n k inner h
 
-    module _ (shut : Shut) (ends : (p : Parent) (t : Run) (stop : ℕ) → p .id ≡ 0x4D4D → Kept p t s (0 + (6 + length (p .own))) stop inner → ShutIs (broken (endConditions p 0 t)) shut) where
+    module _ (asMany : Bool) (rule : RuleIs (told s) asMany) (shut : Shut) (ends : EndIs s 0x4D4D 0 asMany inner shut) where
       at-end : ShutIs (broken (endConditions (told s) 0 (well .t))) shut
-      at-end = ends (told s) (well .t) (length s) refl (well .kept)
+      at-end = ends (told s) (well .t) (length s) refl rule (well .kept)
 
       pub figure-shut : (y : Refusal) → shut ≡ Shut.Fault y → Checked.Refused y ≡ checkOf (figureAnswer s)
       figure-shut y e =

@@ -62,15 +62,26 @@ fn check_figure(file: &[u8]) -> Checked
     ensures { λ r. ⌜ r ≡ checkOf (figureAnswer (now (file .entry))) ⌝ }
 {
     let size = file.len();
+    let version = studio_version::version(file);
+    let as_many = 3 <= version;
     let slots = studio_lookup::slots();
-    let mut marks = [0u32; 5];
-    match studio_walk::run(file, &slots, studio_lookup::FIGURE, 0, 6, size, &mut marks) {
+    let mut marks = [0u32; 6];
+    match studio_walk::run(
+        file,
+        &slots,
+        studio_lookup::FIGURE,
+        0,
+        as_many,
+        6,
+        size,
+        &mut marks,
+    ) {
         Ran::Refused(r) => Checked::Refused(r),
         Ran::Done {
             next: _,
             records,
             skipped,
-        } => match studio_marks::at_end(file, 0x4D4D, 0, &marks) {
+        } => match studio_marks::at_end(file, 0x4D4D, 0, as_many, &marks) {
             Shut::Fault(r) => Checked::Refused(r),
             Shut::Fine => Checked::Accepted(counts(records + 1, skipped, size)),
         },

@@ -1,3 +1,4 @@
 pub mod Places
+pub mod Orders
 pub mod Opens
 pub mod Looks

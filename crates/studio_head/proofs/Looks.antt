@@ -4,7 +4,7 @@ use mathlib.Core.Bool.{true, false}
 use mathlib.Core.List.{List, _∷_}
 use Prim.Native.Nat.{ℕ, _+_, _≤_, _<_}
 use native.Mathlib.Omega.{arith}
-use lib.ListN.{length, set}
+use lib.ListN.{length, getD}
 use lib.Seq.{slice}
 use Rattle.shared_words.specs.declared.Refusal.{Refusal}
 use Rattle.shared_words.specs.declared.Refusal.the-variants.{Misplaced, Twice}
@@ -13,31 +13,32 @@ use Rattle.studio_rules.specs.Rules.{Parent, few}
 use Rattle.shared_words.specs.Conditions.{broken}
 use Rattle.studio_rules.specs.Walk.{Step, stop, pass, headerConditions, lengthField, step}
 use Rattle.studio_row.specs.Packed.{rowOf, slotIn, slotOf, mayHoldIn}
-use Rattle.studio_own_size.specs.Own.{CountIs}
-use Rattle.studio_marks.specs.Marks.{free}
+use Rattle.studio_own_data.specs.Bounds.{BoundIs}
+use Rattle.studio_marks.specs.Marks.{free, noted}
 use Rattle.studio_head.specs.declared.Header.{Header}
 use Rattle.studio_head.specs.declared.Head.{Head}
-use Rattle.studio_head.specs.Heads.{HeaderIs, HeaderWithin, HeadIs, MarksAre, openedBy}
+use Rattle.studio_head.specs.Heads.{HeaderIs, HeaderWithin, OrderIs, HeadIs, MarksAre, openedBy}
 use Rattle.studio_head.specs.Contexts.{Context}
 use Rattle.studio_head.proofs.Opens.{step-fault, step-skip, step-misplaced, step-twice, step-opened, head-skip, row-listed, row-unlisted, marks-opened}
 use Rattle.studio_head.proofs.Places.{under-is, few-is}
+use Rattle.studio_head.proofs.Orders.{order-is}
 
 module _ (s : List ℕ) (at end parent word : ℕ) (ms : List ℕ) where
   pub record Tells (ms′ : List ℕ) (h : Head) : Type 0 where
-    pub is : (p : Parent) (seen : List ℕ) → Context p seen parent word ms → HeadIs at (step p seen at (slice at end s)) h
+    pub is : (p : Parent) (seen : List ℕ) → Context p seen parent word ms → HeadIs p seen at (step p seen at (slice at end s)) h
     pub marks : (p : Parent) (seen : List ℕ) → Context p seen parent word ms → MarksAre at (step p seen at (slice at end s)) ms ms′
 
   -- the step that is met, and what it comes to
   record Meets (ms′ : List ℕ) (h : Head) (p : Parent) (seen : List ℕ) : Type 0 where
     met : Step
     here : step p seen at (slice at end s) ≡ met
-    is : HeadIs at met h
+    is : HeadIs p seen at met h
     marks : MarksAre at met ms ms′
 
   tells : {ms′ : List ℕ} {h : Head} → ((p : Parent) (seen : List ℕ) → Context p seen parent word ms → Meets ms′ h p seen) → Tells ms′ h
   tells {ms′} {h} f =
       record {
-        is = λ p seen k. let q = f p seen k in subst (λ (y : Step). HeadIs at y h) (sym (q .here)) (q .is);
+        is = λ p seen k. let q = f p seen k in subst (λ (y : Step). HeadIs p seen at y h) (sym (q .here)) (q .is);
         marks = λ p seen k. let q = f p seen k in subst (λ (y : Step). MarksAre at y ms ms′) (sym (q .here)) (q .marks);
       }
 
@@ -49,7 +50,7 @@ module _ (s : List ℕ) (at end parent word : ℕ) (ms : List ℕ) where
   pub record Looked (id past row : ℕ) : Type 0 where
     pub order : at < end
     pub stays : end ≤ length s
-    pub five : length ms ≡ 5
+    pub six : length ms ≡ 6
     pub header : Header
     pub told : HeaderIs s at (broken (headerConditions at (slice at end s) (lengthField (slice at end s)))) header
     pub fine : header ≡ Header.Is id past
@@ -63,7 +64,7 @@ module _ (s : List ℕ) (at end parent word : ℕ) (ms : List ℕ) where
         record {
           met = pass id (slice (at + 6) past s) (slice past end s);
           here = step-skip p seen s at end (d .order) (d .stays) (d .header) (d .told) id past (d .fine) (row-unlisted id row (d .row-is) z);
-          is = head-skip s at past id (slice past end s) (d .within .0) (omega (arith, d .within .1, d .stays));
+          is = head-skip p seen s at past id (slice past end s) (d .within .0) (omega (arith, d .within .1, d .stays));
           marks = refl;
         }
 
@@ -74,15 +75,15 @@ module _ (s : List ℕ) (at end parent word : ℕ) (ms : List ℕ) where
       pub look-misplaced : mayHoldIn parent row ≡ false → Tells ms (Head.Fault (Misplaced at))
       look-misplaced u =
           tells λ p seen k.
-          let away = sym (under-is p seen parent word ms k (d .five) id row (d .row-is) known) ∙ u in
+          let away = sym (under-is p seen parent word ms k id row (d .row-is) known) ∙ u in
           record { met = stop (Misplaced at); here = step-misplaced p seen s at end (d .order) (d .stays) (d .header) (d .told) id past (d .fine) known away; is = refl; marks = tt }
 
       module _ (u : mayHoldIn parent row ≡ true) where
         placed : (p : Parent) (seen : List ℕ) → Context p seen parent word ms → under (p .id) id ≡ true
-        placed p seen k = sym (under-is p seen parent word ms k (d .five) id row (d .row-is) known) ∙ u
+        placed p seen k = sym (under-is p seen parent word ms k id row (d .row-is) known) ∙ u
 
         few-of : (p : Parent) (seen : List ℕ) (k : Context p seen parent word ms) → free (slotIn row) ms ≡ few (p .id) (id ∷ seen)
-        few-of p seen k = few-is p seen parent word ms k (d .five) id row (d .row-is) known (placed p seen k)
+        few-of p seen k = few-is p seen parent word ms k id row (d .row-is) known (placed p seen k)
 
         pub look-twice : (ms′ : List ℕ) → free (slotIn row) ms ≡ false → Tells ms′ (Head.Fault (Twice at))
         look-twice ms′ f =
@@ -90,15 +91,15 @@ module _ (s : List ℕ) (at end parent word : ℕ) (ms : List ℕ) where
             let h = step-twice p seen s at end (d .order) (d .stays) (d .header) (d .told) id past (d .fine) known (placed p seen k) (sym (few-of p seen k) ∙ f) in
             record { met = stop (Twice at); here = h; is = refl; marks = tt }
 
-        pub look-opened : (ms′ : List ℕ) → free (slotIn row) ms ≡ true → ms′ ≡ set ms (slotOf id) at → (h : Head) →
-            ((p : Parent) (rest : List ℕ) → CountIs (p .own) word → HeadIs at (openedBy p at id (slice (at + 6) past s) rest) h) → Tells ms′ h
-        look-opened ms′ f m h opens =
+        pub look-opened : (ms′ : List ℕ) → free (slotIn row) ms ≡ true → ms′ ≡ noted (slotOf id) at ms → (order : ℕ) → order ≡ getD ms 5 0 → (h : Head) →
+            ((p : Parent) (seen rest : List ℕ) → under (p .id) id ≡ true → BoundIs p word → OrderIs id seen order → HeadIs p seen at (openedBy p at id (slice (at + 6) past s) rest) h) → Tells ms′ h
+        look-opened ms′ f m order o h opens =
             tells λ p seen k.
             let body = slice (at + 6) past s in
             let rest = slice past end s in
             record {
               met = openedBy p at id body rest;
               here = step-opened p seen s at end (d .order) (d .stays) (d .header) (d .told) id past (d .fine) known (placed p seen k) (sym (few-of p seen k) ∙ f);
-              is = opens p rest (k .count-is);
+              is = opens p seen rest (placed p seen k) (k .bound-is) (order-is p seen parent word ms k id (placed p seen k) order o);
               marks = subst (MarksAre at (openedBy p at id body rest) ms) (sym m) (marks-opened p at id body rest ms);
             }

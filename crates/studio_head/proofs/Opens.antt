@@ -6,15 +6,15 @@ use mathlib.Core.Option.{Option, none, some}
 use Prim.Native.Nat.{ℕ, _+_, _-_, _≤_, _<_}
 use native.Mathlib.Omega.{arith}
 use lib.Dec.{leb}
-use lib.ListN.{length, take, drop, set, length-set}
+use lib.ListN.{length, take, drop}
 use lib.Seq.{slice, length-slice}
 use borrow.Author.Tests.{le-leb, lt-leb, leb-true, eqb-false}
 use Rattle.shared_words.specs.declared.Refusal.{Refusal}
 use Rattle.shared_words.specs.declared.Refusal.the-variants.{Stray, Short, Overrun, Misplaced, Twice}
-use Rattle.shared_words.specs.Bytes.{le, value}
+use Rattle.shared_words.specs.Bytes.{value}
 use Rattle.studio_rules.specs.Table.{listed, under, shape, plus}
 use Rattle.studio_rules.specs.OwnData.{ownSize}
-use Rattle.studio_rules.specs.Rules.{Parent, few}
+use Rattle.studio_rules.specs.Rules.{Parent, inside, few}
 use Rattle.shared_words.specs.Conditions.{broken}
 use Rattle.studio_rules.specs.Walk.{stop, pass, enter, headerConditions, ownConditions, opened, sorted, lengthField, step}
 use Rattle.shared_words.proofs.Conditions.{met, unbroken, broken-here, broken-later}
@@ -23,12 +23,14 @@ use Rattle.shared_numbers.proofs.Slices.{drop-slice, take-slice, word-slice, lo
 use Rattle.studio_row.specs.Packed.{rowOf, slotOf}
 use Rattle.studio_row.proofs.Facts.{row-of-listed, row-of-unlisted}
 use Rattle.studio_own_data.specs.declared.Judged.{Judged}
-use Rattle.studio_own_size.specs.Own.{CountIs}
+use Rattle.studio_own_data.specs.Bounds.{BoundIs}
 use Rattle.studio_own_data.specs.Judges.{JudgedIs, Judges}
-use Rattle.studio_own_data.proofs.Conditions.{some-around}
+use Rattle.studio_marks.specs.Marks.{noted}
+use Rattle.studio_marks.proofs.Noted.{noted-length}
 use Rattle.studio_head.specs.declared.Header.{Header}
 use Rattle.studio_head.specs.declared.Head.{Head}
 use Rattle.studio_head.specs.Heads.{HeaderIs, HeadIs, MarksAre, HeadWithin, openedBy}
+use Rattle.studio_head.proofs.Orders.{somewhere}
 
 -- ---- the header
 
@@ -176,17 +178,17 @@ module _ (p : Parent) (at id : ℕ) (body : List ℕ) where
 
 -- own data that was judged fine ends within its chunk
 pub judged-ends : (s : List ℕ) (at id past n : ℕ) → at + 6 ≤ past → past ≤ length s → n < 65536 → (r : Judged) →
-    ((p : Parent) → CountIs (p .own) n → Judges p at id (slice (at + 6) past s) r) → (k : ℕ) → r ≡ Judged.Size k → at + 6 + k ≤ past
-judged-ends s at id past n h l small r j k e =
-    let p : Parent = record { id = 0; own = le 2 n; order = 0; version = 0 } in
-    let w = judged-within p at id (slice (at + 6) past s) k (subst (Judges p at id (slice (at + 6) past s)) e (j p (some-around n small))) in
+    listed id ≡ true → ((p : Parent) → under (p .id) id ≡ true → BoundIs p n → Judges p at id (slice (at + 6) past s) r) → (k : ℕ) → r ≡ Judged.Size k → at + 6 + k ≤ past
+judged-ends s at id past n h l small r m j k e =
+    let x = somewhere id n m small in
+    let w = judged-within (x .p) at id (slice (at + 6) past s) k (subst (Judges (x .p) at id (slice (at + 6) past s)) e (j (x .p) (x .place) (x .bound))) in
     omega (arith, w, length-slice (at + 6) past s l, h)
 
-module _ (p : Parent) (at id : ℕ) (body rest : List ℕ) where
-  pub opened-fault : (y : Refusal) → Judges p at id body (Judged.Fault y) → HeadIs at (openedBy p at id body rest) (Head.Fault y)
+module _ (p : Parent) (seen : List ℕ) (at id : ℕ) (body rest : List ℕ) where
+  pub opened-fault : (y : Refusal) → Judges p at id body (Judged.Fault y) → HeadIs p seen at (openedBy p at id body rest) (Head.Fault y)
   opened-fault y j = go (broken (ownConditions p at id body (ownSize (shape id) (p .own) body))) j
     where
-      go : (x : Option Refusal) → JudgedIs (ownSize (shape id) (p .own) body) x (Judged.Fault y) → HeadIs at (opened id body rest (ownSize (shape id) (p .own) body) x) (Head.Fault y)
+      go : (x : Option Refusal) → JudgedIs (ownSize (shape id) (p .own) body) x (Judged.Fault y) → HeadIs p seen at (opened id body rest (ownSize (shape id) (p .own) body) x) (Head.Fault y)
       go (some x) j = cc
       go none j = let z : _≡_ {A = ℕ} 0 1 = cc in absurd (omega arith)
 
@@ -194,7 +196,7 @@ module _ (p : Parent) (at id : ℕ) (body rest : List ℕ) where
   opened-enters k j = let q = judged-size p at id body k j in rw (q .1, ← (q .0))
 
 -- own data of k bytes, in the body from at + 6 to past
-module _ (s : List ℕ) (at past k id row : ℕ) (rest : List ℕ) (o : at + 6 ≤ past) (l : past ≤ length s) (f : at + 6 + k ≤ past) where
+module _ (p : Parent) (seen s : List ℕ) (at past k id row : ℕ) (rest : List ℕ) (o : at + 6 ≤ past) (l : past ≤ length s) (f : at + 6 + k ≤ past) where
   body-part : length (slice (at + 6) past s) ≡ past - (at + 6)
   body-part = length-slice (at + 6) past s l
 
@@ -213,29 +215,29 @@ module _ (s : List ℕ) (at past k id row : ℕ) (rest : List ℕ) (o : at + 6 �
   past-is : at + (6 + length (take k (slice (at + 6) past s)) + length (drop k (slice (at + 6) past s))) ≡ past
   past-is = omega (arith, own-long, kids-long)
 
-  pub head-enter : plus id ≡ true → row ≡ rowOf id → (word : ℕ) → CountIs (slice (at + 6) (at + 6 + k) s) word →
-      HeadIs at (enter id (take k (slice (at + 6) past s)) (drop k (slice (at + 6) past s)) rest) (Head.Enter id row word (at + 6 + k) past)
+  pub head-enter : plus id ≡ true → row ≡ rowOf id → (word : ℕ) → BoundIs (inside p seen id (slice (at + 6) (at + 6 + k) s)) word →
+      HeadIs p seen at (enter id (take k (slice (at + 6) past s)) (drop k (slice (at + 6) past s)) rest) (Head.Enter id row word (at + 6 + k) past)
   head-enter u e word w = rw (u, from-is, past-is, own-part, e, ← (w .is))
 
-  pub head-leaf : plus id ≡ false → HeadIs at (enter id (take k (slice (at + 6) past s)) (drop k (slice (at + 6) past s)) rest) (Head.Leaf past)
+  pub head-leaf : plus id ≡ false → HeadIs p seen at (enter id (take k (slice (at + 6) past s)) (drop k (slice (at + 6) past s)) rest) (Head.Leaf past)
   head-leaf u = rw (u, past-is)
 
 -- a chunk that is skipped
-pub head-skip : (s : List ℕ) (at past id : ℕ) (rest : List ℕ) → at + 6 ≤ past → past ≤ length s → HeadIs at (pass id (slice (at + 6) past s) rest) (Head.Skip past)
-head-skip s at past id rest o l =
+pub head-skip : (p : Parent) (seen s : List ℕ) (at past id : ℕ) (rest : List ℕ) → at + 6 ≤ past → past ≤ length s → HeadIs p seen at (pass id (slice (at + 6) past s) rest) (Head.Skip past)
+head-skip p seen s at past id rest o l =
     let z : at + (6 + length (slice (at + 6) past s)) ≡ past = omega (arith, length-slice (at + 6) past s l) in
     rw z
 
 -- the marks where own data is judged: they name the chunk, or there is a fault
-pub marks-opened : (p : Parent) (at id : ℕ) (body rest : List ℕ) (ms : List ℕ) → MarksAre at (openedBy p at id body rest) ms (set ms (slotOf id) at)
+pub marks-opened : (p : Parent) (at id : ℕ) (body rest : List ℕ) (ms : List ℕ) → MarksAre at (openedBy p at id body rest) ms (noted (slotOf id) at ms)
 marks-opened p at id body rest ms = go (broken (ownConditions p at id body (ownSize (shape id) (p .own) body)))
   where
-    go : (x : Option Refusal) → MarksAre at (opened id body rest (ownSize (shape id) (p .own) body) x) ms (set ms (slotOf id) at)
+    go : (x : Option Refusal) → MarksAre at (opened id body rest (ownSize (shape id) (p .own) body) x) ms (noted (slotOf id) at ms)
     go (some x) = tt
     go none = refl
 
-pub length-noted : (b : Bool) (ms : List ℕ) (k at : ℕ) → length (cond b (set ms k at) ms) ≡ length ms
-length-noted true ms k at = length-set ms k at
+pub length-noted : (b : Bool) (ms : List ℕ) (k at : ℕ) → length (cond b (noted k at ms) ms) ≡ length ms
+length-noted true ms k at = noted-length k at ms
 length-noted false ms k at = refl
 
 pub within-more : (at past end : ℕ) → past ≤ end → (r : Head) → HeadWithin at past r → HeadWithin at end r

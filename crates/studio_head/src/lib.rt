@@ -9,14 +9,14 @@ ghost use mathlib.Core.List.{List};
 ghost use Prim.Native.Nat.{ℕ, _+_, _≤_, _<_};
 ghost use lib.ListN.{length};
 ghost use lib.Seq.{slice};
-ghost use Rattle.studio_rules.specs.Table.{listed};
-ghost use Rattle.studio_rules.specs.Rules.{Parent};
+ghost use Rattle.studio_rules.specs.Table.{listed, under};
+ghost use Rattle.studio_rules.specs.Rules.{Parent, inside};
 ghost use Rattle.shared_words.specs.Conditions.{broken};
 ghost use Rattle.studio_rules.specs.Walk.{headerConditions, lengthField, step};
 ghost use Rattle.studio_row.specs.Packed.{rowOf};
 ghost use Rattle.studio_lookup.specs.Slots.{slots};
-ghost use Rattle.studio_own_size.specs.Own.{CountIs};
-ghost use Rattle.studio_head.specs.Heads.{HeaderIs, HeaderWithin, HeadIs, openedBy, MarksAre, HeadWithin};
+ghost use Rattle.studio_own_data.specs.Bounds.{BoundIs};
+ghost use Rattle.studio_head.specs.Heads.{HeaderIs, HeaderWithin, OrderIs, HeadIs, openedBy, MarksAre, HeadWithin};
 ghost use Rattle.studio_head.specs.Contexts.{Room, Context};
 
 // The header of a chunk: a fault, or its identifier and where the chunk ends.
@@ -64,10 +64,29 @@ pub enum Head {
     },
 }
 
-// A listed chunk from at to stop, whose place and slot are fine.
-fn look_listed(file: &[u8], id: usize, row: u64, count: u32, at: usize, stop: usize) -> Head
+// The bound for what stands inside a chunk whose own data is from at to stop: of a B002 its order, else its count word.
+fn bound_inside(file: &[u8], id: usize, order: u32, at: usize, stop: usize) -> u32
+    requires { ⌜ (at ≤ stop) × (stop ≤ length (now file)) ⌝ }
+    ensures { λ r. ⌜ ((p : Parent) (seen : List ℕ) → OrderIs id seen order → BoundIs (inside p seen id (slice at stop (now (file .entry)))) r) ⌝ }
+{
+    if id == 0xB002 {
+        return order;
+    }
+    studio_own_size::count_of(file, at, stop)
+}
+
+// A listed chunk from at to stop, whose place and slot are fine; order is that of a B002.
+fn look_listed(
+    file: &[u8],
+    id: usize,
+    row: u64,
+    count: u32,
+    order: u32,
+    at: usize,
+    stop: usize,
+) -> Head
     requires { ⌜ (at + 6 ≤ stop) × (stop ≤ length (now file)) × (count < 65536) × (listed id ≡ true) × (row ≡ rowOf id) ⌝ }
-    ensures is { λ r. ⌜ ((p : Parent) (rest : List ℕ) → CountIs (p .own) count → HeadIs at (openedBy p at id (slice (at + 6) stop (now (file .entry))) rest) r) ⌝ }
+    ensures is { λ r. ⌜ ((p : Parent) (seen rest : List ℕ) → under (p .id) id ≡ true → BoundIs p count → OrderIs id seen order → HeadIs p seen at (openedBy p at id (slice (at + 6) stop (now (file .entry))) rest) r) ⌝ }
     ensures within { λ r. ⌜ HeadWithin at stop r ⌝ }
 {
     match studio_own_data::judge(file, id, row, count, at, stop) {
@@ -78,7 +97,7 @@ fn look_listed(file: &[u8], id: usize, row: u64, count: u32, at: usize, stop: us
                 Head::Enter {
                     id,
                     row,
-                    count: studio_own_size::count_of(file, at + 6, from),
+                    count: bound_inside(file, id, order, at + 6, from),
                     from,
                     stop,
                 }
@@ -89,7 +108,8 @@ fn look_listed(file: &[u8], id: usize, row: u64, count: u32, at: usize, stop: us
     }
 }
 
-// The chunk at at, in a run that ends at end; parent and count are the row and the count word of the chunk around.
+// The chunk at at, in a run that ends at end; parent is the row of the chunk around, and count the bound for what stands in
+// it.
 pub fn look(
     file: &[u8],
     table: &[u64; 128],
@@ -100,9 +120,9 @@ pub fn look(
     marks: &mut [u32],
 ) -> Head
     requires { ⌜ (at < end) × Room end count (now file) (now marks) × (now table ≡ slots) ⌝ }
-    ensures is { λ r. ⌜ ((p : Parent) (seen : List ℕ) → Context p seen parent count (now (marks .entry)) → HeadIs at (step p seen at (slice at end (now (file .entry)))) r) ⌝ }
+    ensures is { λ r. ⌜ ((p : Parent) (seen : List ℕ) → Context p seen parent count (now (marks .entry)) → HeadIs p seen at (step p seen at (slice at end (now (file .entry)))) r) ⌝ }
     ensures marks { λ r. ⌜ ((p : Parent) (seen : List ℕ) → Context p seen parent count (now (marks .entry)) → MarksAre at (step p seen at (slice at end (now (file .entry)))) (now (marks .entry)) (now (marks .exit))) ⌝ }
-    ensures five { λ r. ⌜ length (now (marks .exit)) ≡ 5 ⌝ }
+    ensures six { λ r. ⌜ length (now (marks .exit)) ≡ 6 ⌝ }
     ensures within { λ r. ⌜ HeadWithin at end r ⌝ }
 {
     match read_header(file, at, end) {
@@ -115,10 +135,11 @@ pub fn look(
             if !studio_row::may_hold(parent, row) {
                 return Head::Fault(Refusal::Misplaced(at));
             }
+            let order = marks[5];
             if !studio_marks::note(marks, row, at) {
                 return Head::Fault(Refusal::Twice(at));
             }
-            look_listed(file, id, row, count, at, stop)
+            look_listed(file, id, row, count, order, at, stop)
         }
     }
 }

@@ -1,7 +1,7 @@
 -- A child of an identifier, by its offset in the file: where its own data stands there.
 use mathlib.Core.Path.{_≡_, refl, sym}
-use mathlib.Core.Bool.{Bool, true, false, _||_, cond, true≢false, false≢true}
-use mathlib.Core.List.{List, []}
+use mathlib.Core.Bool.{Bool, true, false, _||_, false≢true}
+use mathlib.Core.List.{List}
 use Prim.Native.Nat.{ℕ, _+_, _≤_}
 use native.Mathlib.Omega.{arith}
 use lib.Dec.{eqb}
@@ -22,15 +22,6 @@ pub record Found (p : Place) (x : ℕ) (t : Run) (s : List ℕ) (o stop : ℕ) :
   pub ends : offsetOf x o t + 6 + length (child x t) ≤ stop
   pub is : child x t ≡ slice (offsetOf x o t + 6) (offsetOf x o t + 6 + length (child x t)) s
   pub exact : ownSize (shape x) (p .own) (child x t) ≡ length (child x t)
-
-pub child-none : (x : ℕ) (t : Run) → among x (identifiers t) ≡ false → child x t ≡ []
-child-none x end h = refl
-child-none x (skip id body rest) h = child-none x rest h
-child-none x (known id own kids rest) h = go (eqb x id) refl h (child-none x rest)
-  where
-    go : (b : Bool) → eqb x id ≡ b → (b || among x (identifiers rest)) ≡ false → (among x (identifiers rest) ≡ false → child x rest ≡ []) → cond (eqb id x) own (child x rest) ≡ []
-    go true e h ih = absurd (true≢false h)
-    go false e h ih = rw (ne-eqb id x (λ q. eqb-false x id e (sym q))) (ih h)
 
 pub child-found : (p : Place) (x : ℕ) (t : Run) (s : List ℕ) (o stop : ℕ) → Stands t s o stop → Parses p t → among x (identifiers t) ≡ true → Found p x t s o stop
 child-found p x end s o stop l h a = absurd (false≢true a)

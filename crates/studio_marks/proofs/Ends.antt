@@ -15,8 +15,9 @@ use Rattle.shared_words.specs.Lists.{every, among}
 use Rattle.studio_rules.specs.Table.{listed, limits, needs, atMostOne, atLeastOne, rows, Shape, shape, counted}
 use Rattle.studio_rules.specs.OwnData.{count, corners, faceCorners, ownSize}
 use Rattle.studio_rules.specs.Layout.{Run, identifiers, child, offsetOf}
-use Rattle.studio_rules.specs.Rules.{Parent, tally, few, allBelow, noneMissing}
+use Rattle.studio_rules.specs.Rules.{Parent, tally, few, allBelow, noneMissing, asManyPairs, pairsFit}
 use Rattle.studio_rules.specs.Parses.{Place, within}
+use Rattle.studio_rules.proofs.Children.{child-none}
 use Rattle.studio_rules.proofs.Parses.{parses}
 use Rattle.studio_rules.proofs.Once.{at-most-one}
 use Rattle.shared_words.specs.Conditions.{Condition, must, broken}
@@ -29,10 +30,10 @@ use Rattle.studio_scan.proofs.Parts.{corners-slice}
 use Rattle.studio_row.specs.Packed.{places, slotOf, rowOf}
 use Rattle.studio_row.proofs.Facts.{SlotTest, same-is}
 use Rattle.studio_marks.specs.declared.Shut.{Shut}
-use Rattle.studio_marks.specs.Marks.{tallySlot, Under, noMarks, Kept, ShutIs, Placed, countAt, cornersAt, pairsAt, MeshPlaced, meshBroken}
+use Rattle.studio_marks.specs.Marks.{tallySlot, Under, noMarks, Kept, ShutIs, RuleIs, Placed, countAt, cornersAt, pairsAt, MeshPlaced, meshBroken}
 use Rattle.studio_marks.proofs.Slots.{allSlot, tally-slot, groups-slotted}
 use Rattle.studio_marks.proofs.After.{under-of, marks-zero, Alone, marks-place}
-use Rattle.studio_marks.proofs.Children.{Found, child-none, child-found}
+use Rattle.studio_marks.proofs.Children.{Found, child-found}
 
 or-false : (b : Bool) → (b || false) ≡ b
 or-false true = refl
@@ -62,7 +63,7 @@ broken-same false false x y bs cs e r h = ap some (r refl)
 module _ (q : Parent) (t : Run) (s : List ℕ) (from stop : ℕ) (marks : List ℕ) (k : Kept q t s from stop marks)
     (x : ℕ) (a : allSlot (identifiers t) (x ∷ []) ≡ true) (h : slotOf x < 5) where
   slot-zero : (getD marks (slotOf x) 0 ≡ 0) ↔ ((getD noMarks (slotOf x) 0 ≡ 0) × (tallySlot (slotOf x) (identifiers t) ≡ 0))
-  slot-zero = rw (k .marked) (marks-zero from t noMarks (slotOf x) (k .begins) h)
+  slot-zero = rw (k .marked) (marks-zero from t noMarks (slotOf x) (k .begins) (h, refl))
 
   -- the mark is empty just where none came
   pub needed : eqb (getD marks (slotOf x) 0) 0 ≡ not (leb 1 (tally (x ∷ []) (identifiers t)))
@@ -74,7 +75,7 @@ module _ (q : Parent) (t : Run) (s : List ℕ) (from stop : ℕ) (marks : List �
       go : (b : Bool) → eqb (getD marks (slotOf x) 0) 0 ≡ b → b ≡ not (leb 1 (tally (x ∷ []) (identifiers t)))
       go true e = rw (lt-leb 1 (tally (x ∷ []) (identifiers t)) (omega (arith, n, slot-zero .0 (eqb-true _ _ e) .1)))
       go false e =
-          let q : tallySlot (slotOf x) (identifiers t) ≡ 0 → ⊥ = λ q. eqb-false _ _ e (slot-zero .1 (getD-replicate 5 (slotOf x) 0 0 h, q)) in
+          let q : tallySlot (slotOf x) (identifiers t) ≡ 0 → ⊥ = λ q. eqb-false _ _ e (slot-zero .1 (getD-replicate 6 (slotOf x) 0 0 (omega (arith, h)), q)) in
           rw (le-leb 1 (tally (x ∷ []) (identifiers t)) (omega (arith, n)))
 
   -- it is the offset of x, or 0
@@ -82,8 +83,8 @@ module _ (q : Parent) (t : Run) (s : List ℕ) (from stop : ℕ) (marks : List �
     mark-is : getD marks (slotOf x) 0 ≡ cond (among x (identifiers t)) (offsetOf x from t) 0
     mark-is =
         rw (k .marked)
-        (marks-place x from t noMarks (slotOf x) h (omega (arith, tally-slot (x ∷ []) (identifiers t) a, leb-true (tally (x ∷ []) (identifiers t)) 1 f)) (alone x (identifiers t) a) ∙
-        ap (λ (n : ℕ). cond (among x (identifiers t)) (offsetOf x from t) n) (getD-replicate 5 (slotOf x) 0 0 h))
+        (marks-place x from t noMarks (slotOf x) (h, refl) (omega (arith, tally-slot (x ∷ []) (identifiers t) a, leb-true (tally (x ∷ []) (identifiers t)) 1 f)) (alone x (identifiers t) a) ∙
+        ap (λ (n : ℕ). cond (among x (identifiers t)) (offsetOf x from t) n) (getD-replicate 6 (slotOf x) 0 0 (omega (arith, h))))
 
     pub mark-none : among x (identifiers t) ≡ false → getD marks (slotOf x) 0 ≡ 0
     mark-none e = mark-is ∙ rw e
@@ -241,11 +242,11 @@ module _ (q : Parent) (i : q .id ≡ 0x4100) (t : Run) (s : List ℕ) (from stop
           corners-slice (wordAt s (getD marks 1 0 + 6)) (getD marks 1 0 + 8) (getD marks 1 0 + 6 + length (child 0x4120 t)) s (omega (arith, w .own-size, w .count-is)) in
           rw (w .nonzero) (ap (allBelow n) (sym (ap (λ (j : ℕ). corners j (drop 2 (child 0x4120 t))) (w .count-is) ∙ ap (corners (wordAt s (getD marks 1 0 + 6))) d ∙ e)))
 
-  pairs-are : (n : ℕ) → pairsAt s (getD marks 2 0) n ≡ (not (among 0x4140 (identifiers t)) || eqb (count (child 0x4140 t)) n)
+  pairs-are : (asMany : Bool) → RuleIs q asMany → (n : ℕ) → pairsAt s (getD marks 2 0) asMany n ≡ (not (among 0x4140 (identifiers t)) || pairsFit (q .version) (count (child 0x4140 t)) n)
   unfolding pairsAt
-  pairs-are n = go (among 0x4140 (identifiers t)) refl
+  pairs-are asMany rule n = rw (← rule) (go (among 0x4140 (identifiers t)) refl)
     where
-      go : (b : Bool) → among 0x4140 (identifiers t) ≡ b → pairsAt s (getD marks 2 0) n ≡ (not b || eqb (count (child 0x4140 t)) n)
+      go : (b : Bool) → among 0x4140 (identifiers t) ≡ b → pairsAt s (getD marks 2 0) (asManyPairs (q .version)) n ≡ (not b || pairsFit (q .version) (count (child 0x4140 t)) n)
       go false a = rw (absent 0x4140 2 (groups .pairs) (omega arith) a)
       go true a = let w = there 0x4140 2 8 (groups .pairs) (omega arith) pairs-shape a in rw (w .nonzero, w .count-is)
 
@@ -261,16 +262,16 @@ module _ (q : Parent) (i : q .id ≡ 0x4100) (t : Run) (s : List ℕ) (from stop
   unfolding every
   no-faces n a = rw (child-none 0x4120 t a)
 
-  pub mesh-broken : meshBroken s marks ≡ broken (meshConditions q from t)
-  mesh-broken =
+  pub mesh-broken : (asMany : Bool) → RuleIs q asMany → meshBroken s asMany marks ≡ broken (meshConditions q from t)
+  mesh-broken asMany rule =
       rw i
       (
       broken-same _ _ _ _ _ _ (rw vertex-count (corners-are (count (child 0x4110 t))))
       (λ e. ap Refusal.Index (present 0x4120 1 8 (groups .faces) (omega arith) faces-shape (λ a. true≢false (sym (no-faces (count (child 0x4110 t)) a) ∙ e))))
-      (broken-same _ _ _ _ _ _ (rw vertex-count (pairs-are (count (child 0x4110 t))))
+      (broken-same _ _ _ _ _ _ (rw vertex-count (pairs-are asMany rule (count (child 0x4110 t))))
       (λ e. ap Refusal.Count (present 0x4140 2 8 (groups .pairs) (omega arith) pairs-shape (λ a. true≢false (sym (rw a) ∙ e)))) refl))
 
--- ---- at least one: 3D3D in 4D4D, A000 in AFFF
+-- ---- at least one: 3D3D in 4D4D, A000 in AFFF, B010 in B002
 
 module _ (q : Parent) (t : Run) (s : List ℕ) (from stop : ℕ) (marks : List ℕ) (k : Kept q t s from stop marks) where
   pub figure-needs : q .id ≡ 0x4D4D → eqb (getD marks 1 0) 0 ≡ not (noneMissing q t)
@@ -278,7 +279,7 @@ module _ (q : Parent) (t : Run) (s : List ℕ) (from stop : ℕ) (marks : List �
   figure-needs i =
       let a = and-parts (allSlot (identifiers t) (0x0002 ∷ [])) _ (groups-slotted 0x4D4D refl (identifiers t) (rw i at (kept-under k))) in
       rw i
-      (needed q t s from stop marks k 0x3D3D (and-parts (allSlot (identifiers t) (0x3D3D ∷ [])) true (a .1) .0) (omega arith) ∙
+      (needed q t s from stop marks k 0x3D3D (and-parts (allSlot (identifiers t) (0x3D3D ∷ [])) _ (a .1) .0) (omega arith) ∙
       ap not (sym (and-true (leb 1 (tally (0x3D3D ∷ []) (identifiers t))))))
 
   pub material-needs : q .id ≡ 0xAFFF → eqb (getD marks 0 0) 0 ≡ not (noneMissing q t)
@@ -289,9 +290,17 @@ module _ (q : Parent) (t : Run) (s : List ℕ) (from stop : ℕ) (marks : List �
       (needed q t s from stop marks k 0xA000 (and-parts (allSlot (identifiers t) (0xA000 ∷ [])) true a .0) (omega arith) ∙
       ap not (sym (and-true (leb 1 (tally (0xA000 ∷ []) (identifiers t))))))
 
-pub other-needs : (q : Parent) (t : Run) → (q .id ≡ 0x4D4D → ⊥) → (q .id ≡ 0xAFFF → ⊥) → noneMissing q t ≡ true
+  pub part-needs : q .id ≡ 0xB002 → eqb (getD marks 0 0) 0 ≡ not (noneMissing q t)
+  unfolding rows listed limits atMostOne needs atLeastOne every places rowOf
+  part-needs i =
+      let a = groups-slotted 0xB002 refl (identifiers t) (rw i at (kept-under k)) in
+      rw i
+      (needed q t s from stop marks k 0xB010 (and-parts (allSlot (identifiers t) (0xB010 ∷ [])) true a .0) (omega arith) ∙
+      ap not (sym (and-true (leb 1 (tally (0xB010 ∷ []) (identifiers t))))))
+
+pub other-needs : (q : Parent) (t : Run) → (q .id ≡ 0x4D4D → ⊥) → (q .id ≡ 0xAFFF → ⊥) → (q .id ≡ 0xB002 → ⊥) → noneMissing q t ≡ true
 unfolding needs atLeastOne every
-other-needs q t a b = rw (ne-eqb (q .id) 0x4D4D a, ne-eqb (q .id) 0xAFFF b)
+other-needs q t a b c = rw (ne-eqb (q .id) 0x4D4D a, ne-eqb (q .id) 0xAFFF b, ne-eqb (q .id) 0xB002 c)
 
 -- ---- all of it
 

@@ -1,4 +1,5 @@
 pub mod Slots
+pub mod Noted
 pub mod After
 pub mod Children
 pub mod Ends

@@ -7,7 +7,7 @@ use mathlib.Core.List.{List, [], _∷_}
 use Prim.Native.Nat.{ℕ, _+_, _<_, _≤_}
 use native.Mathlib.Omega.{arith}
 use lib.Dec.{eqb, leb, ltb}
-use lib.ListN.{length, getD}
+use lib.ListN.{getD}
 use borrow.Author.Tests.{eqb-true, eqb-false, ne-eqb, leb-true, le-leb, lt-leb, ltb-true, not-true}
 use Rattle.shared_words.specs.Lists.{every}
 use Rattle.shared_words.specs.Lists.{among}
@@ -112,10 +112,10 @@ module _ (p id : ℕ) (seen : List ℕ) (l : listed p ≡ true) (u : under p id 
           ) ∙ not-true _ (or-second (eqb (slotOf id) 5) _ (slot-is p id l u .1) e)))
 
   -- a slot is free just where one more is not too many
-  pub free-is : (marks : List ℕ) → length marks ≡ 5 → slotOf id ≤ 5 → (slotOf id < 5 → (getD marks (slotOf id) 0 ≡ 0) ↔ (tallySlot (slotOf id) seen ≡ 0)) →
+  pub free-is : (marks : List ℕ) → slotOf id ≤ 5 → (slotOf id < 5 → (getD marks (slotOf id) 0 ≡ 0) ↔ (tallySlot (slotOf id) seen ≡ 0)) →
       free (slotOf id) marks ≡ few p (id ∷ seen)
   unfolding free
-  free-is marks n s m = go (eqb (slotOf id) 5) refl (eqb (getD marks (slotOf id) 0) 0) refl
+  free-is marks s m = go (eqb (slotOf id) 5) refl (eqb (getD marks (slotOf id) 0) 0) refl
     where
       go : (a : Bool) → eqb (slotOf id) 5 ≡ a → (b : Bool) → eqb (getD marks (slotOf id) 0) 0 ≡ b → (leb 5 (slotOf id) || eqb (getD marks (slotOf id) 0) 0) ≡ few p (id ∷ seen)
       go true a b e = rw (le-leb 5 (slotOf id) (omega (arith, eqb-true (slotOf id) 5 a)), one-more-free a)

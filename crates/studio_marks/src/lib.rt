@@ -1,22 +1,32 @@
-// What a run of children leaves behind: for each slot of "at most one" the offset of the chunk that was seen there, or 0.
-// The rules at a chunk's end are read off these marks.
+// What a run of children leaves behind: for each of five slots of "at most one" the offset of the chunk that was seen there,
+// or 0; and in the sixth how many chunks of no group there were. The rules at a chunk's end are read off these marks.
 use shared_numbers::word_at;
 use shared_words::Refusal;
 ghost use mathlib.Core.Path.{_≡_};
 ghost use mathlib.Core.Bool.{cond};
-ghost use Prim.Native.Nat.{_+_, _*_, _<_};
-ghost use lib.ListN.{length, set};
+ghost use Prim.Native.Nat.{_+_, _*_, _<_, min};
+ghost use lib.ListN.{length};
+ghost use Rattle.studio_rules.specs.OwnData.{root};
 ghost use Rattle.studio_row.specs.Packed.{slotIn};
-ghost use Rattle.studio_marks.specs.Marks.{free, MissingIs, EndIs, ShutIs, Placed, countAt, cornersAt, pairsAt, MeshPlaced, meshBroken};
+ghost use Rattle.studio_marks.specs.Marks.{free, noted, MissingIs, EndIs, ShutIs, Placed, countAt, cornersAt, pairsAt, MeshPlaced, meshBroken};
 
-// Notes the chunk of a row at an offset in its slot; false where the slot was taken.
+// One chunk more of no group.
+fn counted(n: u32) -> u32
+    ensures { λ r. ⌜ r ≡ min (n + 1) root ⌝ }
+{
+    if n < 65535 { n + 1 } else { 65535 }
+}
+
+// Notes the chunk of a row at an offset in its slot; false where the slot was taken. A chunk of no group is counted, as far
+// as an order can be told.
 pub fn note(marks: &mut [u32], row: u64, at: usize) -> bool
-    requires { ⌜ (length (now marks) ≡ 5) × (at < 4294967296) ⌝ }
+    requires { ⌜ (length (now marks) ≡ 6) × (at < 4294967296) ⌝ }
     ensures is { λ r. ⌜ r ≡ free (slotIn row) (now (marks .entry)) ⌝ }
-    ensures marks { λ r. ⌜ now (marks .exit) ≡ cond r (set (now (marks .entry)) (slotIn row) at) (now (marks .entry)) ⌝ }
+    ensures marks { λ r. ⌜ now (marks .exit) ≡ cond r (noted (slotIn row) at (now (marks .entry))) (now (marks .entry)) ⌝ }
 {
     let slot = studio_row::slot(row);
     if 5 <= slot {
+        marks[5] = counted(marks[5]);
         return true;
     }
     if marks[slot] != 0 {
@@ -32,15 +42,18 @@ pub enum Shut {
     Fine,
 }
 
-// Whether a child is missing that a chunk must have: 3D3D in 4D4D, A000 in AFFF.
+// Whether a child is missing that a chunk must have: 3D3D in 4D4D, A000 in AFFF, B010 in B002.
 fn is_missing(id: usize, marks: &[u32]) -> bool
-    requires { ⌜ length (now marks) ≡ 5 ⌝ }
+    requires { ⌜ length (now marks) ≡ 6 ⌝ }
     ensures { λ r. ⌜ MissingIs id (now (marks .entry)) r ⌝ }
 {
     if id == 0x4D4D {
         return marks[1] == 0;
     }
     if id == 0xAFFF {
+        return marks[0] == 0;
+    }
+    if id == 0xB002 {
         return marks[0] == 0;
     }
     false
@@ -69,21 +82,25 @@ fn corners_fine(file: &[u8], mark: usize, n: u32) -> bool
     studio_scan::corners_below(file, mark + 8, f, n)
 }
 
-// Whether the count word of the 4140 that a mark names is n.
-fn pairs_fine(file: &[u8], mark: usize, n: u32) -> bool
+// Whether the count word of the 4140 that a mark names fits n vertices: it must be n, or at most n in an old file.
+fn pairs_fine(file: &[u8], mark: usize, n: u32, as_many: bool) -> bool
     requires { ⌜ Placed (now file) mark 2 ⌝ }
-    ensures { λ r. ⌜ r ≡ pairsAt (now (file .entry)) mark n ⌝ }
+    ensures { λ r. ⌜ r ≡ pairsAt (now (file .entry)) mark as_many n ⌝ }
 {
     if mark == 0 {
         return true;
     }
-    word_at(file, mark + 6) == n
+    let m = word_at(file, mark + 6);
+    if as_many {
+        return m == n;
+    }
+    m <= n
 }
 
 // A mesh at its end.
-fn at_mesh_end(file: &[u8], marks: &[u32]) -> Shut
-    requires { ⌜ (length (now marks) ≡ 5) × MeshPlaced (now file) (now marks) ⌝ }
-    ensures { λ r. ⌜ ShutIs (meshBroken (now (file .entry)) (now (marks .entry))) r ⌝ }
+fn at_mesh_end(file: &[u8], as_many: bool, marks: &[u32]) -> Shut
+    requires { ⌜ (length (now marks) ≡ 6) × MeshPlaced (now file) (now marks) ⌝ }
+    ensures { λ r. ⌜ ShutIs (meshBroken (now (file .entry)) as_many (now (marks .entry))) r ⌝ }
 {
     let n = count_at(file, marks[0] as usize);
     let faces = marks[1] as usize;
@@ -91,22 +108,23 @@ fn at_mesh_end(file: &[u8], marks: &[u32]) -> Shut
         return Shut::Fault(Refusal::Index(faces));
     }
     let pairs = marks[2] as usize;
-    if !pairs_fine(file, pairs, n) {
+    if !pairs_fine(file, pairs, n, as_many) {
         return Shut::Fault(Refusal::Count(pairs));
     }
     Shut::Fine
 }
 
-// A chunk at its end, by the marks that its children left: it stands at an offset.
-pub fn at_end(file: &[u8], id: usize, at: usize, marks: &[u32]) -> Shut
-    requires { ⌜ (length (now marks) ≡ 5) × (id ≡ 0x4100 → MeshPlaced (now file) (now marks)) ⌝ }
-    ensures { λ r. ⌜ EndIs (now (file .entry)) id at (now (marks .entry)) r ⌝ }
+// A chunk at its end, by the marks that its children left: it stands at an offset. A mesh of the file must have as many
+// mapping pairs as vertices, or at most as many.
+pub fn at_end(file: &[u8], id: usize, at: usize, as_many: bool, marks: &[u32]) -> Shut
+    requires { ⌜ (length (now marks) ≡ 6) × (id ≡ 0x4100 → MeshPlaced (now file) (now marks)) ⌝ }
+    ensures { λ r. ⌜ EndIs (now (file .entry)) id at as_many (now (marks .entry)) r ⌝ }
 {
     if is_missing(id, marks) {
         return Shut::Fault(Refusal::Missing(at));
     }
     if id == 0x4100 {
-        return at_mesh_end(file, marks);
+        return at_mesh_end(file, as_many, marks);
     }
     Shut::Fine
 }

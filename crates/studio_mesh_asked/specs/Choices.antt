@@ -1,7 +1,7 @@
 -- What all calls about one mesh begin with: a refusal, or the mesh. (`choose` is `ofMesh` of crate studio_rules with nothing done
 -- with either.)
 use mathlib.Core.Path.{_≡_}
-use mathlib.Core.Bool.{cond}
+use mathlib.Core.Bool.{Bool, true, cond}
 use mathlib.Core.List.{List}
 use Prim.Native.Nat.{ℕ}
 use lib.Dec.{leb}
@@ -15,17 +15,25 @@ use Rattle.studio_rules.specs.Calls.{ofMesh}
 use Rattle.studio_mesh_find.specs.declared.Place.{Place}
 use Rattle.studio_mesh_find.specs.Places.{PlaceIs}
 use Rattle.studio_mesh_asked.specs.declared.Asked.{Asked}
+use Rattle.studio_mesh_asked.specs.declared.Lent.{Lent}
 use Rattle.studio_rules.specs.Layout.{Run}
 
 pub data Choice : Type 0 where
   no : Refusal → Choice
   yes : Mesh → Choice
 
--- a mesh, where there is room for so many numbers of its vertices and of its corners
-abbrev pub fitting : ℕ → ℕ → Mesh → Choice
-fitting v c m =
-    cond (leb (length (m .vertices)) v)
-    (cond (leb (length (m .corners)) c) (yes m) (no (NoRoom (length (m .corners)))))
+-- there is room for n numbers; always for a table that is not asked for
+abbrev pub roomFor : Lent → ℕ → Bool
+roomFor (Lent.Numbers k) n = leb n k
+roomFor Lent.Unasked n = true
+
+-- a mesh, where there is room for its vertices, its corners and its mapping
+abbrev pub fitting : Lent → Lent → Lent → Mesh → Choice
+fitting v c p m =
+    cond (roomFor v (length (m .vertices)))
+    (cond (roomFor c (length (m .corners)))
+    (cond (roomFor p (length (m .mapping))) (yes m) (no (NoRoom (length (m .mapping)))))
+    (no (NoRoom (length (m .corners)))))
     (no (NoRoom (length (m .vertices))))
 
 -- the mesh of a number, taken as `pick` says

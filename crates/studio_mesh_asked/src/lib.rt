@@ -3,7 +3,8 @@ use shared_words::Refusal;
 use studio_mesh_find::Found;
 use studio_mesh_find::Place;
 use studio_rules::Checked;
-ghost use Rattle.studio_mesh_asked.specs.Choices.{yes, fitting, AskedIs};
+ghost use mathlib.Core.Path.{_≡_};
+ghost use Rattle.studio_mesh_asked.specs.Choices.{yes, roomFor, fitting, AskedIs};
 
 // Where the mesh asked for stands; or the refusal of the file, or of the number.
 pub enum Asked {
@@ -24,21 +25,41 @@ pub fn ask(file: &[u8], mesh: u32) -> Asked
     }
 }
 
-// The same, of a mesh for whose tables there is room for so many numbers each. If both have too little, the vertices are
-// spoken of.
-pub fn ask_with_room(file: &[u8], mesh: u32, vertices: usize, corners: usize) -> Asked
-    ensures { λ r. ⌜ AskedIs (now (file .entry)) (fitting vertices corners) mesh r ⌝ }
+// What is lent for a table of the mesh: room for so many numbers; or it is not asked for.
+pub enum Lent {
+    Numbers(usize),
+    Unasked,
+}
+
+// Whether there is room for n numbers.
+fn holds(lent: Lent, n: usize) -> bool
+    ensures { λ r. ⌜ r ≡ roomFor lent n ⌝ }
+{
+    match lent {
+        Lent::Numbers(k) => n <= k,
+        Lent::Unasked => true,
+    }
+}
+
+// The same, of a mesh for whose tables there is room. If several have too little, the vertices are spoken of first, and the
+// mapping last.
+pub fn ask_with_room(file: &[u8], mesh: u32, vertices: Lent, corners: Lent, mapping: Lent) -> Asked
+    ensures { λ r. ⌜ AskedIs (now (file .entry)) (fitting vertices corners mapping) mesh r ⌝ }
 {
     match ask(file, mesh) {
         Asked::Refused(r) => Asked::Refused(r),
         Asked::Mesh(place) => {
             let numbers = 3 * place.vertices.count;
-            if vertices < numbers {
+            if !holds(vertices, numbers) {
                 return Asked::Refused(Refusal::NoRoom(numbers));
             }
             let words = 3 * place.faces.count;
-            if corners < words {
+            if !holds(corners, words) {
                 return Asked::Refused(Refusal::NoRoom(words));
+            }
+            let pairs = 2 * place.mapping.pairs;
+            if !holds(mapping, pairs) {
+                return Asked::Refused(Refusal::NoRoom(pairs));
             }
             Asked::Mesh(place)
         }

@@ -6,19 +6,19 @@ use mathlib.Core.Option.{none, some}
 use Prim.Native.Nat.{ℕ, zero, suc, _+_, _-_, _≤_, _<_}
 use native.Mathlib.Omega.{arith}
 use lib.ListN.{length, getElem?, length-append}
-use lib.Seq.{take-length}
-use Rattle.studio_rules.specs.Layout.{Run, end, known, figure, size, identifiers, offsetOf}
-use Rattle.studio_rules.specs.Rules.{Parent, file, inside, tally, version, Meets}
+use Rattle.studio_rules.specs.Layout.{Run, end, known, size, identifiers, offsetOf}
+use Rattle.studio_rules.specs.Rules.{Parent, inside, version, Meets}
 use Rattle.studio_rules.specs.Parses.{within}
 use Rattle.studio_rules.specs.Walk.{top}
 use Rattle.studio_rules.proofs.Once.{at-most-one}
 use Rattle.studio_rules.proofs.Parses.{parses}
 use Rattle.studio_rules.specs.Gives.{Mesh, meshOf, meshesOf, meshes}
-use Rattle.studio_mesh_find.specs.Runs.{Spans, onward}
+use Rattle.studio_child.specs.Runs.{Spans, onward}
 use Rattle.shared_numbers.specs.Numbers.{longAt}
-use Rattle.studio_mesh_find.proofs.Runs.{around, span-size, header-here, kids-here, kids-at, after-known, First, onward-is, onward-spans, first-there, first-nowhere}
+use Rattle.studio_child.proofs.Runs.{around, span-size, header-here, kids-here, kids-at, after-known, First, onward-is, onward-spans, first-there, first-nowhere, first-some}
+use Rattle.studio_child.proofs.Figure.{figure-kids}
 use Rattle.studio_mesh_find.proofs.Parts.{objects-own}
-use Rattle.studio_mesh_find.proofs.Ways.{no-meshes, meshes-onward, tally-onward, no-more-meshes, to-objects, to-object, to-mesh, one-3D3D, one-4100, some-3D3D}
+use Rattle.studio_mesh_find.proofs.Ways.{no-meshes, meshes-onward, no-more-meshes, to-objects, to-object, to-mesh, one-3D3D, one-4100, some-3D3D}
 
 -- ---- an object: the mesh in it, or none
 
@@ -135,49 +135,25 @@ nth-beyond (m ∷ ms) (suc k) l = nth-beyond ms k (omega arith)
 -- ---- the one 3D3D of a figure
 
 module _ (s : List ℕ) (kids : Run) (m : Meets s kids) where
-  -- its 4D4D
-  abbrev pub figureTop : Parent
-  figureTop = top (version kids)
-
-  whole : Spans (file (version kids)) (figure kids) s 0 (length s)
-  whole = record {
-    seen = [];
-    stands = record { order = omega arith; stays = omega arith; small = omega (arith, m .within-limit); is = m .is ∙ sym (take-length s) };
-    obeys = m .chunks;
-  }
-
-  ends : 0 + (6 + 0 + size kids) ≡ length s
-  ends = omega (arith, span-size (file (version kids)) s 0 (length s) (figure kids) whole)
-
-  pub figure-kids : Spans figureTop kids s 6 (length s)
-  unfolding whole
-  figure-kids = subst (Spans figureTop kids s 6) ends (kids-here (file (version kids)) s 0 (length s) 0x4D4D [] kids end whole)
-
   pub objects-there : offsetOf 0x3D3D 6 kids < length s
-  objects-there = go (onward-is 0x3D3D kids) (onward-spans 0x3D3D figureTop kids s 6 (length s) figure-kids)
-    where
-      go : (onward 0x3D3D kids ≡ end) ⊎ ((own : List ℕ) × (kids′ : Run) × (rest : Run) × (onward 0x3D3D kids ≡ known 0x3D3D own kids′ rest)) →
-          Spans figureTop (onward 0x3D3D kids) s (offsetOf 0x3D3D 6 kids) (length s) → offsetOf 0x3D3D 6 kids < length s
-      go (inl e) h = absurd (omega (arith, some-3D3D (identifiers kids) (m .chunks .1 .none-missing), tally-onward 0x3D3D kids ∙ ap (λ (r : Run). tally (0x3D3D ∷ []) (identifiers r)) e))
-      go (inr (own, kids′, rest, e)) h =
-          omega (arith, header-here figureTop s (offsetOf 0x3D3D 6 kids) (length s) 0x3D3D own kids′ rest (subst (λ (r : Run). Spans figureTop r s (offsetOf 0x3D3D 6 kids) (length s)) e h) .six)
+  objects-there = first-some 0x3D3D (top (version kids)) kids s 6 (length s) (figure-kids s kids m) (some-3D3D (identifiers kids) (m .chunks .1 .none-missing))
 
-  pub objects : First 0x3D3D figureTop kids s 6 (length s) figure-kids
-  objects = first-there 0x3D3D figureTop kids s 6 (length s) figure-kids objects-there
+  pub objects : First 0x3D3D (top (version kids)) kids s 6 (length s) (figure-kids s kids m)
+  objects = first-there 0x3D3D (top (version kids)) kids s 6 (length s) (figure-kids s kids m) objects-there
 
   -- it stands at o
   module _ (o : ℕ) (e : o ≡ offsetOf 0x3D3D 6 kids) where
     pub objects-header : o + 6 ≤ length s
-    objects-header = omega (arith, e, header-here figureTop s (offsetOf 0x3D3D 6 kids) (length s) 0x3D3D (objects .own) (objects .kids) (objects .rest) (objects .spans) .six)
+    objects-header = omega (arith, e, header-here (top (version kids)) s (offsetOf 0x3D3D 6 kids) (length s) 0x3D3D (objects .own) (objects .kids) (objects .rest) (objects .spans) .six)
 
-    pub here-too : Spans figureTop (known 0x3D3D (objects .own) (objects .kids) (objects .rest)) s o (length s)
-    here-too = subst (λ (y : ℕ). Spans figureTop (known 0x3D3D (objects .own) (objects .kids) (objects .rest)) s y (length s)) (sym e) (objects .spans)
+    pub here-too : Spans (top (version kids)) (known 0x3D3D (objects .own) (objects .kids) (objects .rest)) s o (length s)
+    here-too = subst (λ (y : ℕ). Spans (top (version kids)) (known 0x3D3D (objects .own) (objects .kids) (objects .rest)) s y (length s)) (sym e) (objects .spans)
 
     none-own : length (objects .own) ≡ 0
-    none-own = objects-own figureTop (objects .own) (objects .kids) (objects .rest) s o (length s) here-too
+    none-own = objects-own (top (version kids)) (objects .own) (objects .kids) (objects .rest) s o (length s) here-too
 
-    pub objects-spans : (n : ℕ) → n ≡ longAt s (o + 2) → Spans (inside figureTop (here-too .seen) 0x3D3D (objects .own)) (objects .kids) s (o + 6) (o + n)
-    objects-spans n f = kids-at figureTop s o (length s) 0x3D3D (objects .own) (objects .kids) (objects .rest) here-too (o + 6) n (omega (arith, none-own)) f
+    pub objects-spans : (n : ℕ) → n ≡ longAt s (o + 2) → Spans (inside (top (version kids)) (here-too .seen) 0x3D3D (objects .own)) (objects .kids) s (o + 6) (o + n)
+    objects-spans n f = kids-at (top (version kids)) s o (length s) 0x3D3D (objects .own) (objects .kids) (objects .rest) here-too (o + 6) n (omega (arith, none-own)) f
 
     -- the meshes of the file are those in it
     pub meshes-are : meshes kids ≡ meshesOf (o + 6) (offsetOf 0x3D3D 6 kids + 6) (length (objects .own) - 1) (objects .kids)
@@ -185,11 +161,11 @@ module _ (s : List ℕ) (kids : Run) (m : Meets s kids) where
         let at : ℕ = offsetOf 0x3D3D 6 kids in
         let f = objects in
         let z : at + (6 + length (f .own)) ≡ o + 6 = omega (arith, e, none-own) in
-        let one = one-3D3D (identifiers kids) (at-most-one figureTop kids (m .chunks .2)) in
-        let behind = parses figureTop (f .spans .seen) (known 0x3D3D (f .own) (f .kids) (f .rest)) (f .spans .obeys) .2 in
-        append-nil (meshesOf 6 6 0 kids) ∙ meshes-onward 0x3D3D (around figureTop) to-objects kids 6 6 0 (parses figureTop [] kids (m .chunks .2)) ∙ ap (meshesOf at 6 0) (f .is) ∙
+        let one = one-3D3D (identifiers kids) (at-most-one (top (version kids)) kids (m .chunks .2)) in
+        let behind = parses (top (version kids)) (f .spans .seen) (known 0x3D3D (f .own) (f .kids) (f .rest)) (f .spans .obeys) .2 in
+        append-nil (meshesOf 6 6 0 kids) ∙ meshes-onward 0x3D3D (around (top (version kids))) to-objects kids 6 6 0 (parses (top (version kids)) [] kids (m .chunks .2)) ∙ ap (meshesOf at 6 0) (f .is) ∙
         rw (
-          no-more-meshes 0x3D3D kids one (f .own) (f .kids) (f .rest) (f .is) (around figureTop) to-objects behind (at + (6 + length (f .own) + size (f .kids))) 6 0,
+          no-more-meshes 0x3D3D kids one (f .own) (f .kids) (f .rest) (f .is) (around (top (version kids))) to-objects behind (at + (6 + length (f .own) + size (f .kids))) 6 0,
           append-nil (meshesOf (at + (6 + length (f .own))) (at + 6) (length (f .own) - 1) (f .kids)),
           z,
         )

@@ -10,9 +10,9 @@ use Rattle.studio_rules.specs.Gives.{Mesh, meshOf, meshesOf}
 use Rattle.studio_mesh_find.specs.declared.Object.{Object}
 use Rattle.studio_mesh_find.specs.declared.Place.{Place}
 use Rattle.studio_mesh_find.specs.declared.Found.{Found}
-use Rattle.studio_mesh_find.specs.Runs.{Spans, Begins}
+use Rattle.studio_child.specs.Runs.{Spans, Begins}
 use Rattle.studio_mesh_find.specs.Places.{ObjectIs, PlaceIs, FoundIs}
-use Rattle.studio_mesh_find.proofs.Runs.{kids-here, after-known, First, offset-after}
+use Rattle.studio_child.proofs.Runs.{kids-here, after-known, First, offset-after}
 use Rattle.studio_mesh_find.proofs.Meshes.{no-mesh, mesh-here, one-mesh, MeshesBefore, Here, here, object-on, nth-there}
 
 module _ (p : Parent) (i : p .id ≡ 0x3D3D) (t : Run) (s : List ℕ) (from stop a n before at : ℕ) (w : MeshesBefore p t s from stop a n before at) (l : at < stop) where

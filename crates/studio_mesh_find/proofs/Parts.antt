@@ -1,6 +1,7 @@
 -- Own data of the chunks on the way and of a mesh's lists, where it stands in the file.
 use mathlib.Core.Path.{_≡_, refl, sym, ap, _∙_, subst}
 use mathlib.Core.Bool.{Bool, true, false, cond}
+use mathlib.Core.Logic.{⊎-elim}
 use mathlib.Core.List.{List, [], _∷_, _++_}
 use Prim.Native.Nat.{ℕ, _+_, _*_, _≤_, _<_}
 use native.Mathlib.Omega.{arith}
@@ -9,22 +10,24 @@ use lib.ListN.{length, take, drop, take-append-drop}
 use lib.Seq.{slice, slice-empty}
 use borrow.Author.Tests.{eqb-true, eq-eqb}
 use Rattle.shared_words.specs.Bytes.{value, numbers}
-use Rattle.shared_words.specs.Lists.{every}
+use Rattle.shared_words.specs.Lists.{every, among}
 use Rattle.studio_rules.specs.Table.{Shape, fixed, name, counted, rows, listed, shape}
 use Rattle.shared_words.specs.Floats.{finite}
-use Rattle.studio_rules.specs.OwnData.{nameSize, count, ownSize, corners, vertexNumbers, faceCorners}
-use Rattle.studio_rules.specs.Layout.{Run, end, skip, known, size, child, offsetOf}
-use Rattle.studio_rules.specs.Rules.{Parent, Obeys}
+use Rattle.studio_rules.specs.OwnData.{nameSize, count, ownSize, corners, vertexNumbers, mappingNumbers, faceCorners}
+use Rattle.studio_rules.specs.Layout.{Run, end, skip, known, size, identifiers, child, offsetOf}
+use Rattle.studio_rules.specs.Rules.{Parent, only, Own, Obeys}
 use Rattle.studio_rules.specs.Gives.{meshOf}
 use Rattle.shared_words.proofs.Bools.{and-parts, every-nil}
 use Rattle.studio_rules.proofs.OwnSize.{own-size-more}
+use Rattle.studio_rules.proofs.Mapping.{Fitting, given-at-most, pairs-all-or-none}
 use Rattle.shared_numbers.specs.Numbers.{wordAt, longAt}
 use Rattle.shared_numbers.proofs.Slices.{drop-slice, take-slice, word-slice}
 use Rattle.studio_scan.proofs.Parts.{numbers-slice, corners-slice}
 use Rattle.studio_mesh_find.specs.declared.Elements.{Elements}
-use Rattle.studio_mesh_find.specs.Runs.{Spans}
-use Rattle.studio_mesh_find.specs.Places.{ElementsAre, PlaceIs}
-use Rattle.studio_mesh_find.proofs.Runs.{First, own-here, header-here, child-onward, first-there, first-nowhere}
+use Rattle.studio_mesh_find.specs.declared.Mapping.{Mapping}
+use Rattle.studio_child.specs.Runs.{Spans}
+use Rattle.studio_mesh_find.specs.Places.{ElementsAre, MappingIs, PlaceIs}
+use Rattle.studio_child.proofs.Runs.{First, own-here, header-here, child-onward, among-onward, first-there, first-nowhere}
 
 -- own data of a known chunk is as long as its shape says
 pub own-exact : (p : Parent) (x : ℕ) (own : List ℕ) (kids rest : Run) (s : List ℕ) (at stop : ℕ) → Spans p (known x own kids rest) s at stop →
@@ -58,6 +61,9 @@ module _ (own s : List ℕ) (r : Elements) where
   pub vertices-there : ElementsAre 12 own s r → vertexNumbers own ≡ numbers 4 (3 * r .count) (drop (r .at) s)
   vertices-there h = rw (← (h .count-is), h .are) (numbers-slice 4 (3 * r .count) (r .at) (r .at + 12 * r .count) s (omega arith))
 
+  pub pairs-there : ElementsAre 8 own s r → mappingNumbers own ≡ numbers 4 (2 * r .count) (drop (r .at) s)
+  pairs-there h = rw (← (h .count-is), h .are) (numbers-slice 4 (2 * r .count) (r .at) (r .at + 8 * r .count) s (omega arith))
+
   pub corners-there : ElementsAre 8 own s r → faceCorners own ≡ corners (r .count) (drop (r .at) s)
   corners-there h = rw (← (h .count-is), h .are) (corners-slice (r .count) (r .at) (r .at + 8 * r .count) s (omega arith))
 
@@ -88,6 +94,12 @@ module _ (x k : ℕ) (e : shape x ≡ counted k) (p : Parent) (t : Run) (s : Lis
     pub counts-first : (n : ℕ) → n ≡ wordAt s (o + 6) → ElementsAre k (child x t) s record { at = o + 8; count = n }
     counts-first n f = rw child-is (counts-there k (first .own) s o sized own-first first-ends n f)
 
+    pub there-first : among x (identifiers t) ≡ true
+    there-first = among-onward x t ∙ ap (λ (r : Run). among x (identifiers r)) (first .is) ∙ rw (eq-eqb x x refl)
+
+  pub there-nowhere : stop ≤ o → among x (identifiers t) ≡ false
+  there-nowhere l = among-onward x t ∙ ap (λ (r : Run). among x (identifiers r)) (first-nowhere x p t s at stop h (omega arith))
+
   pub counts-nowhere : stop ≤ o → ElementsAre k (child x t) s record { at = 0; count = 0 }
   counts-nowhere l =
       let c : child x t ≡ [] = child-onward x t ∙ ap (child x) (first-nowhere x p t s at stop h (omega arith)) in
@@ -95,30 +107,61 @@ module _ (x k : ℕ) (e : shape x ≡ counted k) (p : Parent) (t : Run) (s : Lis
 
 -- ---- a mesh
 
--- the floats of a 4110 are finite
-pub child-finite : (p : Parent) (seen : List ℕ) (t : Run) → Obeys p seen t → every finite (vertexNumbers (child 0x4110 t)) ≡ true
-child-finite p seen end h = every-nil finite
-child-finite p seen (skip id body rest) h = child-finite p seen rest (h .1)
-child-finite p seen (known id own kids rest) h = go (eqb id 0x4110) refl (and-parts _ _ (h .0 .numbers-finite) .0) (child-finite p (id ∷ seen) rest (h .3))
+-- own data of the child x passes a test that every chunk x passes
+child-passes : (x : ℕ) (test : List ℕ → Bool) → test [] ≡ true → ((p : Parent) (seen : List ℕ) (id : ℕ) (own : List ℕ) → Own p seen id own → only x id (test own) ≡ true) →
+    (p : Parent) (seen : List ℕ) (t : Run) → Obeys p seen t → test (child x t) ≡ true
+child-passes x test z each p seen end h = z
+child-passes x test z each p seen (skip id body rest) h = child-passes x test z each p seen rest (h .1)
+child-passes x test z each p seen (known id own kids rest) h = go (eqb id x) (each p seen id own (h .0)) (child-passes x test z each p (id ∷ seen) rest (h .3))
   where
-    go : (b : Bool) → eqb id 0x4110 ≡ b → cond b (every finite (vertexNumbers own)) true ≡ true → every finite (vertexNumbers (child 0x4110 rest)) ≡ true →
-        every finite (vertexNumbers (cond b own (child 0x4110 rest))) ≡ true
-    go true e q ih = q
-    go false e q ih = ih
+    go : (b : Bool) → cond b (test own) true ≡ true → test (child x rest) ≡ true → test (cond b own (child x rest)) ≡ true
+    go true q ih = q
+    go false q ih = ih
 
-pub place-there : (p : Parent) (seen : List ℕ) (kids : Run) (s : List ℕ) → Obeys p seen kids → (na ns : ℕ) (v f : Elements) → ElementsAre 12 (child 0x4110 kids) s v → ElementsAre 8 (child 0x4120 kids) s f →
-    PlaceIs s (meshOf na ns kids) record { name = na; size = ns; vertices = v; faces = f }
-place-there p seen kids s h na ns v f a b = record {
-  name-at = refl;
-  name-size = refl;
-  vertex-count = a .count-is;
-  vertices-are = vertices-there (child 0x4110 kids) s v a;
-  vertices-stay = a .stay;
-  vertices-finite = child-finite p seen kids h;
-  face-count = b .count-is;
-  corners-are = corners-there (child 0x4120 kids) s f b;
-  faces-stay = b .stay;
-}
+-- the floats of a 4110 and of a 4140 are finite
+vertices-finite : (p : Parent) (seen : List ℕ) (t : Run) → Obeys p seen t → every finite (vertexNumbers (child 0x4110 t)) ≡ true
+vertices-finite = child-passes 0x4110 (λ own. every finite (vertexNumbers own)) (every-nil finite) (λ p seen id own h. and-parts (only 0x4110 id (every finite (vertexNumbers own))) (only 0x4140 id (every finite (mappingNumbers own))) (h .numbers-finite) .0)
+
+pairs-finite : (p : Parent) (seen : List ℕ) (t : Run) → Obeys p seen t → every finite (mappingNumbers (child 0x4140 t)) ≡ true
+pairs-finite = child-passes 0x4140 (λ own. every finite (mappingNumbers own)) (every-nil finite) (λ p seen id own h. and-parts (only 0x4110 id (every finite (vertexNumbers own))) (only 0x4140 id (every finite (mappingNumbers own))) (h .numbers-finite) .1)
+
+pub place-there : (p : Parent) (seen : List ℕ) (kids : Run) (s : List ℕ) → Obeys p seen kids → (v : ℕ) → Fitting v kids → (na ns : ℕ) (vs fs : Elements) (ps : Mapping) →
+    ElementsAre 12 (child 0x4110 kids) s vs → ElementsAre 8 (child 0x4120 kids) s fs → MappingIs kids s ps →
+    PlaceIs s (meshOf na ns kids) record { name = na; size = ns; vertices = vs; faces = fs; mapping = ps }
+place-there p seen kids s h v fitting na ns vs fs ps a b d =
+    let given = pairs-there (child 0x4140 kids) s record { at = ps .at; count = ps .count } (d .given) in
+    record {
+      name-at = refl;
+      name-size = refl;
+      vertex-count = a .count-is;
+      vertices-are = vertices-there (child 0x4110 kids) s vs a;
+      vertices-stay = a .stay;
+      vertices-finite = vertices-finite p seen kids h;
+      face-count = b .count-is;
+      corners-are = corners-there (child 0x4120 kids) s fs b;
+      faces-stay = b .stay;
+      pair-count = d .pairs-are;
+      mapping-is = rw (given, d .pairs-are);
+      mapping-stays = d .given .stay;
+      mapping-fits = omega (arith, d .given .count-is, d .pairs-are, given-at-most v kids fitting);
+      pairs-fit = ⊎-elim (λ e. omega (arith, d .pairs-are, a .count-is, e)) (λ e. omega (arith, d .pairs-are, e)) (pairs-all-or-none kids);
+      mapping-finite = rw given at (pairs-finite p seen kids h);
+    }
+
+-- ---- a mapping, by its 4140 at o
+
+pub pairs-counted : shape 0x4140 ≡ counted 8
+unfolding shape rows
+pairs-counted = refl
+
+module _ (p : Parent) (t : Run) (s : List ℕ) (at stop : ℕ) (h : Spans p t s at stop) (o : ℕ) (is : o ≡ offsetOf 0x4140 at t) where
+  pub mapping-first : o < stop → (m : ℕ) → m ≡ wordAt s (o + 6) → (n : ℕ) → n ≡ count (child 0x4110 t) → MappingIs t s record { at = o + 8; count = m; pairs = n }
+  mapping-first l m f n e =
+      record { given = counts-first 0x4140 8 pairs-counted p t s at stop h o is l m f; pairs-are = rw (there-first 0x4140 8 pairs-counted p t s at stop h o is l) e }
+
+  pub mapping-nowhere : stop ≤ o → MappingIs t s record { at = 0; count = 0; pairs = 0 }
+  mapping-nowhere l =
+      record { given = counts-nowhere 0x4140 8 pairs-counted p t s at stop h o is l; pairs-are = rw (there-nowhere 0x4140 8 pairs-counted p t s at stop h o is l) }
 
 -- ---- own data by the table
 
@@ -130,9 +173,9 @@ pub faces-counted : shape 0x4120 ≡ counted 8
 unfolding shape rows
 faces-counted = refl
 
-pub all-listed : (listed 0x3D3D ≡ true) × (listed 0x4000 ≡ true) × (listed 0x4100 ≡ true) × (listed 0x4110 ≡ true) × (listed 0x4120 ≡ true)
+pub all-listed : (listed 0x3D3D ≡ true) × (listed 0x4000 ≡ true) × (listed 0x4100 ≡ true) × (listed 0x4110 ≡ true) × (listed 0x4120 ≡ true) × (listed 0x4140 ≡ true)
 unfolding listed rows
-all-listed = (refl, refl, refl, refl, refl)
+all-listed = (refl, refl, refl, refl, refl, refl)
 
 module _ (p : Parent) (own : List ℕ) (kids rest : Run) (s : List ℕ) (at stop : ℕ) where
   -- 3D3D and 4100 have none

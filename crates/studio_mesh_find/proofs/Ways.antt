@@ -17,7 +17,8 @@ use Rattle.studio_rules.specs.Parses.{Place, within, Parses}
 use Rattle.studio_rules.specs.Gives.{meshesOf}
 use Rattle.shared_words.proofs.Bools.{and-parts, or-second}
 use Rattle.studio_rules.proofs.Rows.{everyId, among-every, listed-every, under-listed}
-use Rattle.studio_mesh_find.specs.Runs.{onward}
+use Rattle.studio_child.specs.Runs.{onward}
+use Rattle.studio_child.proofs.Runs.{tally-onward}
 
 -- ---- on the way, and off it
 
@@ -94,16 +95,6 @@ meshes-onward x p w (known id own kids rest) o a n h = go (eqb id x) refl (meshe
 
 -- ---- how many of an identifier
 
-pub tally-onward : (x : ℕ) (t : Run) → tally (x ∷ []) (identifiers t) ≡ tally (x ∷ []) (identifiers (onward x t))
-tally-onward x end = refl
-tally-onward x (skip id body rest) = tally-onward x rest
-tally-onward x (known id own kids rest) = go (eqb id x) refl (tally-onward x rest)
-  where
-    go : (b : Bool) → eqb id x ≡ b → tally (x ∷ []) (identifiers rest) ≡ tally (x ∷ []) (identifiers (onward x rest)) →
-        cond (b || false) 1 0 + tally (x ∷ []) (identifiers rest) ≡ tally (x ∷ []) (identifiers (cond b (known id own kids rest) (onward x rest)))
-    go true e ih = rw e
-    go false e ih = omega (arith, ih)
-
 none-onward : (x : ℕ) (t : Run) → tally (x ∷ []) (identifiers t) ≡ 0 → onward x t ≡ end
 none-onward x end z = refl
 none-onward x (skip id body rest) z = none-onward x rest z
@@ -143,7 +134,7 @@ pub one-3D3D : (ids : List ℕ) → few 0x4D4D ids ≡ true → tally (0x3D3D �
 unfolding limits atMostOne every
 one-3D3D ids h =
     let b = leb (tally (0x3D3D ∷ []) ids) 1 in
-    leb-true _ _ (and-parts b true (and-parts (leb (tally (0x0002 ∷ []) ids) 1) (b && true) h .1) .0)
+    leb-true _ _ (and-parts b _ (and-parts (leb (tally (0x0002 ∷ []) ids) 1) _ h .1) .0)
 
 pub one-4100 : (ids : List ℕ) → few 0x4000 ids ≡ true → tally (0x4100 ∷ []) ids ≤ 1
 unfolding limits atMostOne every

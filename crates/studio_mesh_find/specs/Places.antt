@@ -10,9 +10,10 @@ use Rattle.shared_words.specs.Bytes.{numbers}
 use Rattle.shared_words.specs.Lists.{every}
 use Rattle.shared_words.specs.Floats.{finite}
 use Rattle.studio_rules.specs.OwnData.{count, corners}
-use Rattle.studio_rules.specs.Layout.{Run, size, offsetOf}
-use Rattle.studio_rules.specs.Gives.{Mesh}
+use Rattle.studio_rules.specs.Layout.{Run, size, child, offsetOf}
+use Rattle.studio_rules.specs.Gives.{Mesh, pairsOf, filledUp}
 use Rattle.studio_mesh_find.specs.declared.Elements.{Elements}
+use Rattle.studio_mesh_find.specs.declared.Mapping.{Mapping}
 use Rattle.studio_mesh_find.specs.declared.Object.{Object}
 use Rattle.studio_mesh_find.specs.declared.Place.{Place}
 use Rattle.studio_mesh_find.specs.declared.Found.{Found}
@@ -22,6 +23,11 @@ pub record ElementsAre (k : ℕ) (own s : List ℕ) (r : Elements) : Type 0 wher
   pub count-is : r .count ≡ count own
   pub are : drop 2 own ≡ slice (r .at) (r .at + k * r .count) s
   pub stay : r .at + k * r .count ≤ length s
+
+-- the mapping of the mesh with these children: the pairs that its 4140 has
+pub record MappingIs (kids : Run) (s : List ℕ) (r : Mapping) : Type 0 where
+  pub given : ElementsAre 8 (child 0x4140 kids) s record { at = r .at; count = r .count }
+  pub pairs-are : r .pairs ≡ pairsOf kids
 
 -- a 4000 at `at`, of this own data and these children
 pub record ObjectIs (at : ℕ) (own : List ℕ) (kids : Run) (r : Object) : Type 0 where
@@ -40,6 +46,12 @@ pub record PlaceIs (s : List ℕ) (m : Mesh) (r : Place) : Type 0 where
   pub face-count : r .faces .count ≡ m .faceCount
   pub corners-are : m .corners ≡ corners (r .faces .count) (drop (r .faces .at) s)
   pub faces-stay : r .faces .at + 8 * r .faces .count ≤ length s
+  pub pair-count : r .mapping .pairs ≡ m .pairCount
+  pub mapping-is : m .mapping ≡ filledUp (2 * r .mapping .pairs) (numbers 4 (2 * r .mapping .count) (drop (r .mapping .at) s))
+  pub mapping-stays : r .mapping .at + 8 * r .mapping .count ≤ length s
+  pub mapping-fits : r .mapping .count ≤ r .mapping .pairs
+  pub pairs-fit : r .mapping .pairs ≤ r .vertices .count
+  pub mapping-finite : every finite (numbers 4 (2 * r .mapping .count) (drop (r .mapping .at) s)) ≡ true
 
 -- the mesh of a number among the meshes of a file
 abbrev pub FoundIs : List ℕ → List Mesh → ℕ → Found → Type 0

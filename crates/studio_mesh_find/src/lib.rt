@@ -2,16 +2,19 @@
 // nothing else is looked into, and siblings are passed over by their lengths.
 use shared_numbers::long_at;
 use shared_numbers::word_at;
+use studio_child::next_child;
 ghost use mathlib.Core.Path.{_≡_};
 ghost use mathlib.Core.Bool.{true};
 ghost use mathlib.Core.List.{List};
 ghost use Prim.Native.Nat.{ℕ, _+_, _-_, _<_};
 ghost use Rattle.studio_rules.specs.Table.{listed, shape, counted};
-ghost use Rattle.studio_rules.specs.Layout.{Run, known, child, offsetOf};
+ghost use Rattle.studio_rules.specs.OwnData.{count};
+ghost use Rattle.studio_rules.specs.Layout.{Run, known, child};
 ghost use Rattle.studio_rules.specs.Rules.{Parent, Meets};
 ghost use Rattle.studio_rules.specs.Gives.{meshOf, meshesOf, meshes};
-ghost use Rattle.studio_mesh_find.specs.Runs.{Spans, SomeRun, Begins, SomeObjects, Accepted, IsCounted};
-ghost use Rattle.studio_mesh_find.specs.Places.{ElementsAre, ObjectIs, PlaceIs, FoundIs};
+ghost use Rattle.studio_child.specs.Runs.{Spans, SomeRun, Begins, Accepted};
+ghost use Rattle.studio_mesh_find.specs.Runs.{SomeObjects, IsCounted};
+ghost use Rattle.studio_mesh_find.specs.Places.{ElementsAre, MappingIs, ObjectIs, PlaceIs, FoundIs};
 
 // The elements of counted own data: where they begin, and how many there are.
 pub struct Elements {
@@ -27,33 +30,27 @@ pub struct Object {
     pub stop: usize,
 }
 
-// A mesh: where the name of its object stands, its length without the zero, its vertices and its faces.
+// The mapping of a mesh: where the pairs that the file has begin, how many they are, and how many there are with the missing
+// ones.
+pub struct Mapping {
+    pub at: usize,
+    pub count: usize,
+    pub pairs: usize,
+}
+
+// A mesh: where the name of its object stands, its length without the zero, its vertices, its faces and its mapping.
 pub struct Place {
     pub name: usize,
     pub size: usize,
     pub vertices: Elements,
     pub faces: Elements,
+    pub mapping: Mapping,
 }
 
 // The mesh asked for, or how many there are.
 pub enum Found {
     Mesh(Place),
     Meshes(usize),
-}
-
-// Where the first chunk of an identifier stands among those from at to stop; stop, where there is none.
-fn next_child(file: &[u8], id: u32, at: usize, stop: usize) -> usize
-    requires { ⌜ (listed id ≡ true) × SomeRun (now file) at stop ⌝ }
-    ensures { λ r. ⌜ ((p : Parent) (t : Run) → Spans p t (now (file .entry)) at stop → r ≡ offsetOf id at t) ⌝ }
-{
-    let mut o = at;
-    while o < stop {
-        if word_at(file, o) == id {
-            return o;
-        }
-        o += long_at(file, o + 2) as usize;
-    }
-    o
 }
 
 // The elements of the first chunk of an identifier among those from at to stop; none, where there is no such chunk.
@@ -71,6 +68,26 @@ fn elements_of(file: &[u8], id: u32, at: usize, stop: usize) -> Elements
     Elements { at: 0, count: 0 }
 }
 
+// The mapping of a mesh of n vertices, among whose children from at to stop a 4140 stands or none.
+fn mapping_of(file: &[u8], at: usize, stop: usize, n: usize) -> Mapping
+    requires { ⌜ SomeRun (now file) at stop ⌝ }
+    ensures { λ r. ⌜ ((p : Parent) (t : Run) → n ≡ count (child 0x4110 t) → Spans p t (now (file .entry)) at stop → MappingIs t (now (file .entry)) r) ⌝ }
+{
+    let o = next_child(file, 0x4140, at, stop);
+    if o < stop {
+        return Mapping {
+            at: o + 8,
+            count: word_at(file, o + 6) as usize,
+            pairs: n,
+        };
+    }
+    Mapping {
+        at: 0,
+        count: 0,
+        pairs: 0,
+    }
+}
+
 // The mesh whose 4100 stands at a position, in an object whose name has so many bytes at another.
 fn place_of(file: &[u8], at: usize, name: usize, size: usize) -> Place
     requires { ⌜ Begins 0x4100 (now file) at ⌝ }
@@ -79,11 +96,13 @@ fn place_of(file: &[u8], at: usize, name: usize, size: usize) -> Place
     let stop = at + long_at(file, at + 2) as usize;
     let vertices = elements_of(file, 0x4110, at + 6, stop);
     let faces = elements_of(file, 0x4120, at + 6, stop);
+    let mapping = mapping_of(file, at + 6, stop, vertices.count);
     Place {
         name,
         size,
         vertices,
         faces,
+        mapping,
     }
 }
 

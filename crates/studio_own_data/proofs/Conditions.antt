@@ -10,11 +10,11 @@ use lib.ListN.{length, take, drop}
 use lib.Seq.{slice, length-slice}
 use borrow.Author.Tests.{le-leb, lt-leb, leb-true, leb-false}
 use Rattle.shared_words.specs.declared.Refusal.{Refusal}
-use Rattle.shared_words.specs.declared.Refusal.the-variants.{Name, Length, Number, Index, Text}
+use Rattle.shared_words.specs.declared.Refusal.the-variants.{Name, Length, Number, Index, Father, Text}
 use Rattle.shared_words.specs.Bytes.{le}
 use Rattle.studio_rules.specs.Table.{Shape, listed, shape, plus}
 use Rattle.studio_rules.specs.OwnData.{ownSize, hasName, nameFits}
-use Rattle.studio_rules.specs.Rules.{Parent, numbersFinite, faceNumbersBelow}
+use Rattle.studio_rules.specs.Rules.{Parent, numbersFinite, faceNumbersBelow, fatherEarlier}
 use Rattle.shared_words.specs.Conditions.{broken}
 use Rattle.studio_rules.specs.Walk.{ownConditions}
 use Rattle.shared_words.proofs.Bytes.{value-le}
@@ -65,8 +65,15 @@ module _ (p : Parent) (o id : ℕ) (body : List ℕ) where
       pub judge-index : numbersFinite p id (take k body) ≡ true → faceNumbersBelow p id (take k body) ≡ false → Judges p o id body (Judged.Fault (Index o))
       judge-index f h = judges (some (Index o)) _ (past ∙ broken-later _ _ _ (rw (← (fits .is)) f) ∙ broken-here _ _ _ (rw (← (fits .is)) h)) refl
 
-      pub judge-fine : numbersFinite p id (take k body) ≡ true → faceNumbersBelow p id (take k body) ≡ true → Judges p o id body (Judged.Size k)
-      judge-fine f h = judges none _ (past ∙ broken-later _ _ _ (rw (← (fits .is)) f) ∙ broken-later _ _ _ (rw (← (fits .is)) h) ∙ unbroken [] tt) (ap Judged.Size (fits .is))
+      module _ (f : numbersFinite p id (take k body) ≡ true) (h : faceNumbersBelow p id (take k body) ≡ true) where
+        past-index : broken (ownConditions p o id body (ownSize (shape id) (p .own) body)) ≡ broken (drop 6 (ownConditions p o id body (ownSize (shape id) (p .own) body)))
+        past-index = past ∙ broken-later _ _ _ (rw (← (fits .is)) f) ∙ broken-later _ _ _ (rw (← (fits .is)) h)
+
+        pub judge-father : fatherEarlier p id (take k body) ≡ false → Judges p o id body (Judged.Fault (Father o))
+        judge-father g = judges (some (Father o)) _ (past-index ∙ broken-here _ _ _ (rw (← (fits .is)) g)) refl
+
+        pub judge-fine : fatherEarlier p id (take k body) ≡ true → Judges p o id body (Judged.Size k)
+        judge-fine g = judges none _ (past-index ∙ broken-later _ _ _ (rw (← (fits .is)) g) ∙ unbroken [] tt) (ap Judged.Size (fits .is))
 
 -- ---- a plain row: its size is all that is asked
 
@@ -80,7 +87,7 @@ module _ (p : Parent) (o id : ℕ) (body : List ℕ) (q : Plain id) where
   plain-fine : length body ≡ sizeIn (rowOf id) → Judges p o id body (Judged.Size (sizeIn (rowOf id)))
   plain-fine e =
       judge-fine p o id body (sizeIn (rowOf id)) plain-label (plain-fits (omega (arith, e))) (rw (q .no-plus) (le-leb (length body) (sizeIn (rowOf id)) (omega (arith, e))))
-      (rw (q .not-4110, q .not-4140)) (rw (q .not-4130))
+      (rw (q .not-4110, q .not-4140)) (rw (q .not-4130)) (rw (q .not-B010))
 
   plain-fault : (length body ≡ sizeIn (rowOf id) → ⊥) → Judges p o id body (Judged.Fault (Length o))
   plain-fault ne = go (leb (length body) (sizeIn (rowOf id))) refl

@@ -1,4 +1,5 @@
 pub mod Tests
-pub mod Numbers
 pub mod Conditions
+pub mod Bounds
+pub mod Numbers
 pub mod Sized

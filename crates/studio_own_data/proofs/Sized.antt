@@ -8,10 +8,10 @@ use lib.Dec.{leb}
 use lib.ListN.{length, take, drop, take-append-drop}
 use lib.Seq.{slice, length-slice}
 use borrow.Author.Tests.{not-true, not-false, le-leb, lt-leb, leb-true, leb-false}
-use Rattle.shared_words.specs.declared.Refusal.the-variants.{Length, Number, Index}
-use Rattle.studio_rules.specs.Table.{Shape, counted, named-words, rows, listed, shape, plus}
+use Rattle.shared_words.specs.declared.Refusal.the-variants.{Length, Number, Index, Father}
+use Rattle.studio_rules.specs.Table.{Shape, counted, named-words, named, rows, listed, shape, plus}
 use Rattle.studio_rules.specs.OwnData.{ownSize, nameFits}
-use Rattle.studio_rules.specs.Rules.{Parent, numbersFinite, faceNumbersBelow}
+use Rattle.studio_rules.specs.Rules.{Parent, numbersFinite, faceNumbersBelow, fatherEarlier}
 use Rattle.studio_rules.proofs.OwnSize.{own-size-less}
 use Rattle.shared_numbers.proofs.Slices.{take-slice}
 use Rattle.studio_row.specs.Packed.{rowOf, plusIn, shapeIn}
@@ -20,7 +20,7 @@ use Rattle.studio_own_size.specs.declared.Own.{Own}
 use Rattle.studio_own_size.specs.Own.{Fits, FitIs}
 use Rattle.studio_own_data.specs.declared.Judged.{Judged}
 use Rattle.studio_own_data.specs.Judges.{Exact, Judges}
-use Rattle.studio_own_data.proofs.Conditions.{judge-left-over, judge-number, judge-index, judge-fine}
+use Rattle.studio_own_data.proofs.Conditions.{judge-left-over, judge-number, judge-index, judge-father, judge-fine}
 
 -- what was found of the row's shape is so of the identifier's
 module _ (id row : ℕ) (l : listed id ≡ true) (e : row ≡ rowOf id) (around body : List ℕ) (r : Own) (found : FitIs (shapeIn row) around body r) where
@@ -67,6 +67,7 @@ module _ {s : List ℕ} {at stop id row : ℕ} {around : List ℕ} {k : ℕ} (z 
     vertices = λ i. sym (shape-at 0x4110 (counted 12) refl i);
     pairs = λ i. sym (shape-at 0x4140 (counted 8) refl i);
     words = λ i. sym (shape-at 0x4130 named-words refl i);
+    father = λ i. sym (shape-at 0xB010 (named 6) refl i);
   }
 
   -- bytes are left behind it just where the chunk goes on
@@ -99,5 +100,12 @@ module _ (p : Parent) {s : List ℕ} {at stop id row k : ℕ} (z : Sized s at st
       pub has-bad-index : faceNumbersBelow p id (slice (at + 6) (at + 6 + k) s) ≡ false → Judges p at id (slice (at + 6) stop s) (Judged.Fault (Index at))
       has-bad-index b = judge-index p at id (slice (at + 6) stop s) k (z .label) (z .fits) whole (finite-as n) (below-as b)
 
-      pub is-fine : faceNumbersBelow p id (slice (at + 6) (at + 6 + k) s) ≡ true → Judges p at id (slice (at + 6) stop s) (Judged.Size k)
-      is-fine b = judge-fine p at id (slice (at + 6) stop s) k (z .label) (z .fits) whole (finite-as n) (below-as b)
+      module _ (b : faceNumbersBelow p id (slice (at + 6) (at + 6 + k) s) ≡ true) where
+        father-as : {b : Bool} → fatherEarlier p id (slice (at + 6) (at + 6 + k) s) ≡ b → fatherEarlier p id (take k (slice (at + 6) stop s)) ≡ b
+        father-as e = ap (λ (own : List ℕ). fatherEarlier p id own) (own-is z) ∙ e
+
+        pub has-bad-father : fatherEarlier p id (slice (at + 6) (at + 6 + k) s) ≡ false → Judges p at id (slice (at + 6) stop s) (Judged.Fault (Father at))
+        has-bad-father f = judge-father p at id (slice (at + 6) stop s) k (z .label) (z .fits) whole (finite-as n) (below-as b) (father-as f)
+
+        pub is-fine : fatherEarlier p id (slice (at + 6) (at + 6 + k) s) ≡ true → Judges p at id (slice (at + 6) stop s) (Judged.Size k)
+        is-fine f = judge-fine p at id (slice (at + 6) stop s) k (z .label) (z .fits) whole (finite-as n) (below-as b) (father-as f)

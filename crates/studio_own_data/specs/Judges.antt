@@ -17,6 +17,7 @@ pub record Exact (id : ℕ) (own : List ℕ) : Type 0 where
   pub vertices : id ≡ 0x4110 → length own ≡ 2 + 12 * count own
   pub pairs : id ≡ 0x4140 → length own ≡ 2 + 8 * count own
   pub words : id ≡ 0x4130 → length own ≡ nameSize own + 2 + 2 * count (drop (nameSize own) own)
+  pub father : id ≡ 0xB010 → length own ≡ nameSize own + 6
 
 -- what the conditions of own data come to, where it takes k bytes
 abbrev pub JudgedIs : ℕ → Option Refusal → Judged → Type 0

@@ -8,10 +8,10 @@ ghost use lib.ListN.{length};
 ghost use lib.Seq.{slice};
 ghost use lib.Dec.{leb};
 ghost use mathlib.Core.Bool.{true, not, _||_};
-ghost use Rattle.studio_rules.specs.Table.{listed};
-ghost use Rattle.studio_rules.specs.Rules.{Parent, numbersFinite, faceNumbersBelow};
+ghost use Rattle.studio_rules.specs.Table.{listed, under};
+ghost use Rattle.studio_rules.specs.Rules.{Parent, numbersFinite, faceNumbersBelow, fatherEarlier};
 ghost use Rattle.studio_row.specs.Packed.{plusIn, rowOf};
-ghost use Rattle.studio_own_size.specs.Own.{CountIs};
+ghost use Rattle.studio_own_data.specs.Bounds.{BoundIs};
 ghost use Rattle.studio_own_data.specs.Judges.{Exact, Judges};
 
 // Whether the floats of a 4110 or a 4140, whose own data stands from at to stop, are finite.
@@ -33,12 +33,27 @@ fn numbers_finite(file: &[u8], id: usize, at: usize, stop: usize) -> bool
 // Whether the face numbers of a 4130 are below f, the count word of the 4120 around it.
 fn face_numbers_below(file: &[u8], id: usize, f: u32, at: usize, stop: usize) -> bool
     requires { ⌜ (at ≤ stop) × (stop ≤ length (now file)) × Exact id (slice at stop (now file)) ⌝ }
-    ensures { λ r. ⌜ ((p : Parent) → CountIs (p .own) f → r ≡ faceNumbersBelow p id (slice at stop (now (file .entry)))) ⌝ }
+    ensures { λ r. ⌜ ((p : Parent) → under (p .id) id ≡ true → BoundIs p f → r ≡ faceNumbersBelow p id (slice at stop (now (file .entry)))) ⌝ }
 {
     if id == 0x4130 {
         let size = studio_names::name_size(file, at, stop);
         let n = word_at(file, at + size) as usize;
         return studio_scan::words_below(file, at + size + 2, n, f);
+    }
+    true
+}
+
+// Whether the father that a B010 tells is none or below the order of the B002 around it. It is the last word.
+fn father_earlier(file: &[u8], id: usize, order: u32, at: usize, stop: usize) -> bool
+    requires { ⌜ (at ≤ stop) × (stop ≤ length (now file)) × Exact id (slice at stop (now file)) ⌝ }
+    ensures { λ r. ⌜ ((p : Parent) → under (p .id) id ≡ true → BoundIs p order → r ≡ fatherEarlier p id (slice at stop (now (file .entry)))) ⌝ }
+{
+    if id == 0xB010 {
+        let father = word_at(file, stop - 2);
+        if father == 65535 {
+            return true;
+        }
+        return father < order;
     }
     true
 }
@@ -63,7 +78,7 @@ pub enum Judged {
 // Own data of any row.
 fn judge_any(file: &[u8], id: usize, row: u64, count: u32, at: usize, stop: usize) -> Judged
     requires { ⌜ (at + 6 ≤ stop) × (stop ≤ length (now file)) × (count < 65536) × (listed id ≡ true) × (row ≡ rowOf id) ⌝ }
-    ensures { λ r. ⌜ ((p : Parent) → CountIs (p .own) count → Judges p at id (slice (at + 6) stop (now (file .entry))) r) ⌝ }
+    ensures { λ r. ⌜ ((p : Parent) → under (p .id) id ≡ true → BoundIs p count → Judges p at id (slice (at + 6) stop (now (file .entry))) r) ⌝ }
 {
     match studio_own_size::own_size(file, row, count, at + 6, stop) {
         Own::NoName => Judged::Fault(Refusal::Name(at)),
@@ -80,16 +95,19 @@ fn judge_any(file: &[u8], id: usize, row: u64, count: u32, at: usize, stop: usiz
             if !face_numbers_below(file, id, count, at + 6, from) {
                 return Judged::Fault(Refusal::Index(at));
             }
+            if !father_earlier(file, id, count, at + 6, from) {
+                return Judged::Fault(Refusal::Father(at));
+            }
             Judged::Size(size)
         }
     }
 }
 
-// The own data of a listed chunk that stands from at to stop; count is the count word of the chunk around. A plain row has
-// one condition only, and is told at once.
+// The own data of a listed chunk that stands from at to stop, in a place where it may; count is the bound for what stands in
+// the chunk around. A plain row has one condition only, and is told at once.
 pub fn judge(file: &[u8], id: usize, row: u64, count: u32, at: usize, stop: usize) -> Judged
     requires { ⌜ (at + 6 ≤ stop) × (stop ≤ length (now file)) × (count < 65536) × (listed id ≡ true) × (row ≡ rowOf id) ⌝ }
-    ensures { λ r. ⌜ ((p : Parent) → CountIs (p .own) count → Judges p at id (slice (at + 6) stop (now (file .entry))) r) ⌝ }
+    ensures { λ r. ⌜ ((p : Parent) → under (p .id) id ≡ true → BoundIs p count → Judges p at id (slice (at + 6) stop (now (file .entry))) r) ⌝ }
 {
     if !studio_row::is_plain(row) {
         return judge_any(file, id, row, count, at, stop);

@@ -8,10 +8,10 @@ use native.Mathlib.Omega.{arith}
 use lib.ListN.{length, take, drop, getD}
 use lib.Seq.{slice, slice-cons, slice-empty, length-slice, getD-take, getD-drop}
 use borrow.Author.Tests.{le-leb, lt-leb}
+use Rattle.studio_rules.specs.Table.{Shape, fixed, name, counted, each, named-words, named}
+use Rattle.studio_rules.specs.OwnData.{nameSize, count, ownSize, hasName, nameFits}
 use Rattle.shared_words.specs.Labels.{labelFault}
 use Rattle.shared_words.proofs.Labels.{label-within}
-use Rattle.studio_rules.specs.Table.{Shape, fixed, name, counted, each, named-words}
-use Rattle.studio_rules.specs.OwnData.{nameSize, count, ownSize, hasName, nameFits}
 use Rattle.shared_numbers.specs.Numbers.{wordAt}
 use Rattle.shared_numbers.proofs.Slices.{word-slice, drop-slice}
 use Rattle.studio_row.specs.Packed.{kindIn, sizeIn, shapeFrom, shapeIn}
@@ -96,6 +96,9 @@ module _ (s : List ℕ) (at stop : ℕ) (order : at ≤ stop) (end : stop ≤ le
     words-is w l f =
         fitted-is named-words [] (slice at stop s) (z + 2 + 2 * w) (stop - at) has (omega (arith, words-count l)) body-length
 
+    pub named-is : (k : ℕ) (r : Own) → Fitted (z + k) (stop - at) r → OwnIs (named k) [] (slice at stop s) r
+    named-is k = fitted-is (named k) [] (slice at stop s) (z + k) (stop - at) has (omega arith) body-length
+
   -- ---- the count word of own data
 
   pub count-none : stop - at ≡ 0 → CountIs (slice at stop s) 0
@@ -129,16 +132,21 @@ module _ (row : ℕ) where
   unfolding shapeIn
   kind-each e = rw e
 
-rest-words : (k n : ℕ) → (k ≡ 0 → ⊥) → (k ≡ 1 → ⊥) → (k ≡ 2 → ⊥) → (k ≡ 3 → ⊥) → shapeFrom k n ≡ named-words
-rest-words zero n a b c d = absurd (a refl)
-rest-words (suc zero) n a b c d = absurd (b refl)
-rest-words (suc (suc zero)) n a b c d = absurd (c refl)
-rest-words (suc (suc (suc zero))) n a b c d = absurd (d refl)
-rest-words (suc (suc (suc (suc k)))) n a b c d = refl
+  pub kind-words : kindIn row ≡ 4 → shapeIn row ≡ named-words
+  unfolding shapeIn
+  kind-words e = rw e
 
-pub kind-words : (row : ℕ) → (kindIn row ≡ 0 → ⊥) → (kindIn row ≡ 1 → ⊥) → (kindIn row ≡ 2 → ⊥) → (kindIn row ≡ 3 → ⊥) → shapeIn row ≡ named-words
+rest-named : (k n : ℕ) → (k ≡ 0 → ⊥) → (k ≡ 1 → ⊥) → (k ≡ 2 → ⊥) → (k ≡ 3 → ⊥) → (k ≡ 4 → ⊥) → shapeFrom k n ≡ named n
+rest-named zero n a b c d e = absurd (a refl)
+rest-named (suc zero) n a b c d e = absurd (b refl)
+rest-named (suc (suc zero)) n a b c d e = absurd (c refl)
+rest-named (suc (suc (suc zero))) n a b c d e = absurd (d refl)
+rest-named (suc (suc (suc (suc zero)))) n a b c d e = absurd (e refl)
+rest-named (suc (suc (suc (suc (suc k))))) n a b c d e = refl
+
+pub kind-named : (row : ℕ) → (kindIn row ≡ 0 → ⊥) → (kindIn row ≡ 1 → ⊥) → (kindIn row ≡ 2 → ⊥) → (kindIn row ≡ 3 → ⊥) → (kindIn row ≡ 4 → ⊥) → shapeIn row ≡ named (sizeIn row)
 unfolding shapeIn
-kind-words row = rest-words (kindIn row) (sizeIn row)
+kind-named row = rest-named (kindIn row) (sizeIn row)
 
 -- ---- the name judged too
 
@@ -155,12 +163,18 @@ NoSize Unfit = Unit
 NoSize TooLong = Unit
 NoSize (Size k) = ⊥
 
--- a fault of the name alone is one of a name with words behind it
+-- a fault of the name alone is one of a name with words, or bytes, behind it
 pub name-of-words : (body : List ℕ) (x : Own) → FitIs name [] body x → NoSize x → FitIs named-words [] body x
 name-of-words body NoName h n = h
 name-of-words body Unfit h n = h
 name-of-words body TooLong h n = (h .0, record { named = h .1 .named; beyond = omega (arith, h .1 .beyond) })
 name-of-words body (Size k) h n = absurd n
+
+pub name-of-named : (more : ℕ) (body : List ℕ) (x : Own) → FitIs name [] body x → NoSize x → FitIs (named more) [] body x
+name-of-named more body NoName h n = h
+name-of-named more body Unfit h n = h
+name-of-named more body TooLong h n = (h .0, record { named = h .1 .named; beyond = omega (arith, h .1 .beyond) })
+name-of-named more body (Size k) h n = absurd n
 
 -- own data that does not look at the chunk around
 module _ (sh : Shape) (alike : (a b body : List ℕ) → ownSize sh a body ≡ ownSize sh b body) (around body : List ℕ) where

@@ -4,7 +4,7 @@ ghost use mathlib.Core.List.{List, []};
 ghost use Prim.Native.Nat.{ℕ, _≤_, _<_};
 ghost use lib.ListN.{length};
 ghost use lib.Seq.{slice};
-ghost use Rattle.studio_rules.specs.Table.{name, counted, named-words};
+ghost use Rattle.studio_rules.specs.Table.{name, counted, named-words, named};
 ghost use Rattle.studio_row.specs.Packed.{shapeIn};
 ghost use Rattle.studio_own_size.specs.Own.{Fitted, OwnIs, FitIs, CountIs};
 
@@ -90,6 +90,20 @@ fn named_words_size(file: &[u8], at: usize, stop: usize) -> Own
     }
 }
 
+// A name that must fit the label, and so many bytes behind it.
+fn named_size(file: &[u8], more: usize, at: usize, stop: usize) -> Own
+    requires { ⌜ (at ≤ stop) × (stop ≤ length (now file)) × (more < 256) ⌝ }
+    ensures { λ r. ⌜ FitIs (named more) [] (slice at stop (now (file .entry))) r ⌝ }
+{
+    let own = label_size(file, at, stop);
+    match own {
+        Own::NoName => own,
+        Own::Unfit => own,
+        Own::TooLong => own,
+        Own::Size(size) => fitting(size + more, stop - at),
+    }
+}
+
 // Own data of a row's shape, its name judged too, in the body from at to stop; count is the count word of the chunk around.
 pub fn own_size(file: &[u8], row: u64, count: u32, at: usize, stop: usize) -> Own
     requires { ⌜ (at ≤ stop) × (stop ≤ length (now file)) × (count < 65536) ⌝ }
@@ -101,7 +115,8 @@ pub fn own_size(file: &[u8], row: u64, count: u32, at: usize, stop: usize) -> Ow
         1 => label_size(file, at, stop),
         2 => counted_size(file, studio_row::size(row), at, stop),
         3 => fitting(studio_row::size(row) * (count as usize), stop - at),
-        _ => named_words_size(file, at, stop),
+        4 => named_words_size(file, at, stop),
+        _ => named_size(file, studio_row::size(row), at, stop),
     }
 }
 

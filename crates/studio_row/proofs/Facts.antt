@@ -6,7 +6,7 @@ use mathlib.Core.List.{List, [], _∷_}
 use lib.Dec.{eqb, ltb, leb}
 use borrow.Author.Tests.{eqb-true, not-true, ltb-true, leb-true}
 use Rattle.shared_words.specs.Lists.{every, among}
-use Rattle.studio_rules.specs.Table.{Shape, fixed, name, counted, each, named-words, rows, atMostOne, atLeastOne, listed, under, shape, plus, limits, needs}
+use Rattle.studio_rules.specs.Table.{Shape, fixed, name, counted, each, named-words, named, rows, atMostOne, atLeastOne, listed, under, shape, plus, limits, needs}
 use Rattle.shared_words.proofs.Bools.{and-parts, or-second}
 use Rattle.studio_rules.proofs.Rows.{everyId, listed-every, under-listed}
 use Rattle.studio_row.specs.Packed.{places, kindOf, sizeOf, rowOf, mayHoldIn, plusIn, plainIn, slotOf, kindIn, sizeIn, shapeFrom, shapeIn}
@@ -61,6 +61,7 @@ shape-back name = refl
 shape-back (counted k) = refl
 shape-back (each k) = refl
 shape-back named-words = refl
+shape-back (named k) = refl
 
 shape-test : everyId (λ x. eqb (kindIn (rowOf x)) (kindOf (shape x)) && eqb (sizeIn (rowOf x)) (sizeOf (shape x))) rows ≡ true
 unfolding rows every places limits atMostOne rowOf shape
@@ -88,7 +89,7 @@ holder-kind x p = go (listed x) refl
 
 -- no rule speaks of the own data of a plain row
 abbrev unruled : ℕ → Bool
-unruled x = not (eqb x 0x4110) && (not (eqb x 0x4140) && not (eqb x 0x4130))
+unruled x = not (eqb x 0x4110) && (not (eqb x 0x4140) && (not (eqb x 0x4130) && not (eqb x 0xB010)))
 
 plain-test : everyId (λ x. not (plainIn (rowOf x)) || (eqb (kindIn (rowOf x)) 0 && (not (plus x) && unruled x))) rows ≡ true
 unfolding rows every places limits atMostOne rowOf plus
@@ -100,6 +101,7 @@ pub record Plain (x : ℕ) : Type 0 where
   pub not-4110 : eqb x 0x4110 ≡ false
   pub not-4140 : eqb x 0x4140 ≡ false
   pub not-4130 : eqb x 0x4130 ≡ false
+  pub not-B010 : eqb x 0xB010 ≡ false
 
 pub plain-is : (x : ℕ) → listed x ≡ true → plainIn (rowOf x) ≡ true → Plain x
 unfolding shapeIn
@@ -108,12 +110,14 @@ plain-is x l p =
     let g = and-parts _ _ (h .1) in
     let u = and-parts _ _ (g .1) in
     let v = and-parts _ _ (u .1) in
+    let w = and-parts _ _ (v .1) in
     record {
       shape-fixed = sym (shape-is x l) ∙ ap (λ (k : ℕ). shapeFrom k (sizeIn (rowOf x))) (eqb-true (kindIn (rowOf x)) 0 (h .0));
       no-plus = not-true _ (g .0);
       not-4110 = not-true _ (u .0);
       not-4140 = not-true _ (v .0);
-      not-4130 = not-true _ (v .1);
+      not-4130 = not-true _ (w .0);
+      not-B010 = not-true _ (w .1);
     }
 
 -- ---- slots: within a container, chunks of one slot are those of one group, and slot 5 is none's

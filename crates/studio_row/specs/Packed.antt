@@ -6,7 +6,7 @@ use mathlib.Core.List.{List, [], _∷_}
 use Prim.Native.Nat.{ℕ, zero, suc, _+_, _*_, _/_, _%_, _^_, _<_}
 use lib.Dec.{eqb}
 use Rattle.shared_words.specs.Lists.{among}
-use Rattle.studio_rules.specs.Table.{Row, Shape, fixed, name, counted, each, named-words, theFile, rows, rowOf as tableRow, limits}
+use Rattle.studio_rules.specs.Table.{Row, Shape, fixed, name, counted, each, named-words, named, theFile, rows, rowOf as tableRow, limits}
 
 -- ---- place and holds
 
@@ -23,7 +23,9 @@ places =
     (0x4100 ∷ []) ∷
     (0x4120 ∷ []) ∷
     (0x4600 ∷ []) ∷
-    (0x4610 ∷ []) ∷ []
+    (0x4610 ∷ []) ∷
+    (0xB000 ∷ []) ∷
+    (0xB002 ∷ []) ∷ []
 
 abbrev sameSet : List ℕ → List ℕ → Bool
 sameSet [] [] = true
@@ -61,6 +63,7 @@ kindOf name = 1
 kindOf (counted k) = 2
 kindOf (each k) = 3
 kindOf named-words = 4
+kindOf (named k) = 5
 
 abbrev pub sizeOf : Shape → ℕ
 sizeOf (fixed k) = k
@@ -68,6 +71,7 @@ sizeOf name = 0
 sizeOf (counted k) = k
 sizeOf (each k) = k
 sizeOf named-words = 0
+sizeOf (named k) = k
 
 -- ---- a row as one number: place (four bits), holds (sixteen, so that there is room for fifteen places), slot, kind, plus
 -- (four each), size (eight)
@@ -112,7 +116,8 @@ shapeFrom zero size = fixed size
 shapeFrom (suc zero) size = name
 shapeFrom (suc (suc zero)) size = counted size
 shapeFrom (suc (suc (suc zero))) size = each size
-shapeFrom (suc (suc (suc (suc k)))) size = named-words
+shapeFrom (suc (suc (suc (suc zero)))) size = named-words
+shapeFrom (suc (suc (suc (suc (suc k))))) size = named size
 
 unfoldable pub shapeIn : ℕ → Shape
 shapeIn row = shapeFrom (kindIn row) (sizeIn row)

@@ -3,13 +3,14 @@
 use mathlib.Core.Path.{_≡_, refl, sym, _∙_}
 use Prim.Native.Nat.{ℕ, _+_}
 use native.Mathlib.Omega.{arith}
-use mathlib.Core.Bool.{true, false, true≢false, false≢true}
+use mathlib.Core.Bool.{Bool, true, false, cond, true≢false, false≢true}
 use mathlib.Core.List.{List, [], _∷_}
+use lib.Dec.{eqb}
 use lib.ListN.{length}
 use Rattle.studio_rules.specs.Table.{plus}
-use Rattle.studio_rules.specs.Layout.{Run, size, identifiers, child}
+use Rattle.studio_rules.specs.Layout.{Run, size, identifiers, child, held}
 use Rattle.studio_rules.specs.Rules.{Parent, inside, noChild, childrenInPlus, Children, Obeys}
-use Rattle.studio_rules.specs.Gives.{recordCount, headers, owned, skipped}
+use Rattle.studio_rules.specs.Gives.{recordCount, headers, owned, skipped, fathersIn, fathers, pairsOf, mappingTable}
 use Rattle.studio_rules.specs.Gaps.{Marked, end, put, skip, known, without, with, InGaps}
 use Rattle.shared_words.proofs.Bools.{or-else, or-second}
 
@@ -65,6 +66,28 @@ child-same x end = refl
 child-same x (put id body rest) = child-same x rest
 child-same x (skip id body rest) = child-same x rest
 child-same x (known id own kids rest) = rw (child-same x rest)
+
+pub pairs-same : (m : Marked) → pairsOf (with m) ≡ pairsOf (without m)
+pairs-same m = rw (identifiers-same m, child-same 0x4110 m)
+
+pub mapping-same : (m : Marked) → mappingTable (with m) ≡ mappingTable (without m)
+mapping-same m = rw (identifiers-same m, child-same 0x4140 m, child-same 0x4110 m)
+
+fathers-in-same : (m : Marked) → fathersIn (with m) ≡ fathersIn (without m)
+fathers-in-same end = refl
+fathers-in-same (put id body rest) = fathers-in-same rest
+fathers-in-same (skip id body rest) = fathers-in-same rest
+fathers-in-same (known id own kids rest) = rw (child-same 0xB010 kids, fathers-in-same rest)
+
+pub fathers-same : (m : Marked) → fathers (with m) ≡ fathers (without m)
+fathers-same end = refl
+fathers-same (put id body rest) = fathers-same rest
+fathers-same (skip id body rest) = fathers-same rest
+fathers-same (known id own kids rest) = go (eqb id 0xB000) (fathers-same rest)
+  where
+    go : (b : Bool) → fathers (with rest) ≡ fathers (without rest) → fathersIn (cond b (with kids) (held 0xB000 (with rest))) ≡ fathersIn (cond b (without kids) (held 0xB000 (without rest)))
+    go true ih = fathers-in-same kids
+    go false ih = ih
 
 no-child-put : (p : ℕ) (m : Marked) → InGaps p m → plus p ≡ false → noChild (without m) ≡ true → noChild (with m) ≡ true
 no-child-put p end g e h = refl

@@ -1,5 +1,6 @@
 pub mod Headers
 pub mod Corners
+pub mod Children
 pub mod Rows
 pub mod Apart
 pub mod Once
@@ -16,5 +17,7 @@ pub mod Moved
 pub mod At
 pub mod Jumps
 pub mod Parses
+pub mod Mapping
+pub mod Parts
 pub mod Theorems
 pub mod Samples

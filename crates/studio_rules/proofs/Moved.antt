@@ -10,7 +10,7 @@ use lib.Dec.{eqb}
 use Rattle.studio_rules.specs.Layout.{size}
 use Rattle.studio_rules.specs.Gives.{recordCount, recordsOf, meshOf, oneMesh, meshesOf}
 use Rattle.studio_rules.specs.Gaps.{Marked, end, put, skip, known, without, with, Piece, before, Moved, SameMesh, Pairwise}
-use Rattle.studio_rules.proofs.Gaps.{added, size-grows, record-count-same, child-same}
+use Rattle.studio_rules.proofs.Gaps.{added, size-grows, record-count-same, child-same, pairs-same, mapping-same}
 use Rattle.studio_rules.proofs.Pieces.{Holds, holds-put, holds-skip, holds-kids, holds-rest, before-here, inside-here}
 
 pairwise-append : {A : Type 0} (R : A → A → Type 0) (xs ys us vs : List A) → Pairwise R xs us → Pairwise R ys vs → Pairwise R (xs ++ ys) (us ++ vs)
@@ -48,6 +48,8 @@ one-same ps true at at′ l m h = (
     vertices-same = rw (child-same 0x4110 m);
     face-count-same = rw (child-same 0x4120 m);
     corners-same = rw (child-same 0x4120 m);
+    pair-count-same = pairs-same m;
+    mapping-same = mapping-same m;
   },
   tt,
 )

@@ -8,9 +8,9 @@ use lib.ListN.{length, drop, length-drop}
 use lib.Seq.{take-append-le, drop-append-le}
 use lib.Dec.{eqb}
 use borrow.Author.Tests.{le-leb}
-use Rattle.shared_words.specs.Labels.{fitsLabel}
-use Rattle.studio_rules.specs.Table.{Shape, fixed, name, counted, each, named-words}
+use Rattle.studio_rules.specs.Table.{Shape, fixed, name, counted, each, named-words, named}
 use Rattle.studio_rules.specs.OwnData.{nameSize, count, ownSize, hasName, text, nameFits}
+use Rattle.shared_words.specs.Labels.{fitsLabel}
 
 name-size-pos : (s : List ℕ) → 1 ≤ nameSize s
 name-size-pos [] = omega arith
@@ -48,6 +48,7 @@ own-size-more (fixed k) around own more h = h
 own-size-more name around own more h = name-size-more own more (omega arith) ∙ h
 own-size-more (counted k) around own more h = rw (take-append-le 2 own more (omega arith)) h
 own-size-more (each k) around own more h = h
+own-size-more (named k) around own more h = rw (name-size-more own more (omega arith)) h
 own-size-more named-words around own more h = rw (name-size-more own more (omega arith), count-more (nameSize own) own more (omega arith)) h
 
 pub own-size-less : (sh : Shape) (around own more : List ℕ) → ownSize sh around (own ++ more) ≡ length own → ownSize sh around own ≡ length own
@@ -55,6 +56,7 @@ own-size-less (fixed k) around own more h = h
 own-size-less name around own more h = name-size-less own more (omega arith) ∙ h
 own-size-less (counted k) around own more h = rw (take-append-le 2 own more (omega arith)) at h
 own-size-less (each k) around own more h = h
+own-size-less (named k) around own more h = rw (name-size-less own more (omega arith)) h
 own-size-less named-words around own more h =
     let n : nameSize own ≡ nameSize (own ++ more) = name-size-less own more (omega arith) in
     rw (n, ← (count-more (nameSize (own ++ more)) own more (omega arith))) h
@@ -75,6 +77,7 @@ name-fits-more name around own more h = ap fitsLabel (text-more own more (omega 
 name-fits-more (counted k) around own more h = refl
 name-fits-more (each k) around own more h = refl
 name-fits-more named-words around own more h = ap fitsLabel (text-more own more (omega arith))
+name-fits-more (named k) around own more h = ap fitsLabel (text-more own more (omega arith))
 
 -- own data that fits has its name's zero
 pub has-name : (sh : Shape) (around s : List ℕ) → ownSize sh around s ≤ length s → hasName sh s ≡ true
@@ -82,4 +85,5 @@ has-name (fixed k) around s h = refl
 has-name name around s h = le-leb (nameSize s) (length s) h
 has-name (counted k) around s h = refl
 has-name (each k) around s h = refl
+has-name (named k) around s h = le-leb (nameSize s) (length s) (omega arith)
 has-name named-words around s h = le-leb (nameSize s) (length s) (omega arith)

@@ -11,7 +11,7 @@ use Rattle.studio_rules.specs.Walk.{step, walk, versionIn, verdict}
 use Rattle.studio_rules.specs.Box.{coordinate, lesser, greater, lowest, highest, middle}
 use Rattle.studio_rules.specs.Calls.{checkCall, listCall, nameCall, boxCall}
 use Rattle.studio_rules.specs.Samples.{Samples}
-use Rattle.studio_rules.specs.Readings.{Readings}
+use Rattle.studio_rules.specs.Readings.{Readings, Worked, Mappings}
 
 pub samples : Samples
 unfolding every rows atMostOne atLeastOne listed under shape plus limits needs finite fitsLabel broken step walk versionIn verdict checkCall listCall nameCall boxCall coordinate lesser greater lowest highest middle span climb size odd units round sum add mul lt ofFields ofBits trailingZeros
@@ -30,3 +30,11 @@ samples = record {
 pub readings : Readings
 unfolding every rows atMostOne atLeastOne listed under shape plus limits needs finite fitsLabel broken step walk versionIn verdict checkCall
 readings = refl
+
+pub mappings : Mappings
+unfolding every rows atMostOne atLeastOne listed under shape plus limits needs finite fitsLabel broken step walk versionIn verdict
+mappings = refl
+
+pub worked : Worked
+unfolding every rows atMostOne atLeastOne listed under shape plus limits needs finite fitsLabel broken step walk versionIn verdict
+worked = record { tree = refl }

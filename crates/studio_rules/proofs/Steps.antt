@@ -68,6 +68,7 @@ module _ (p : Parent) (seen : List ℕ) (o : ℕ) (s : List ℕ) (id : ℕ) (bod
           own-data-exact = eq-eqb _ _ z₁;
           numbers-finite = search;
           face-numbers-below = search;
+          father-earlier = search;
         };
         leaf = λ q. drop-of-length-le body (leb-true _ _ (or-second (plus id) (leb (length body) k) leaf q));
         kids-bytes = bytes-drop k body body-bytes;

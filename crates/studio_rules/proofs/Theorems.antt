@@ -8,12 +8,12 @@ use lib.ListN.{length}
 use Rattle.shared_words.specs.Bytes.{value}
 use Rattle.studio_rules.specs.Layout.{Run, end, skip, known, figure, size, bytes}
 use Rattle.studio_rules.specs.Rules.{file, version}
-use Rattle.studio_rules.specs.Gives.{headers, owned, skipped}
+use Rattle.studio_rules.specs.Gives.{headers, owned, skipped, partsFrom}
 use Rattle.studio_rules.specs.Gaps.{Marked, figureOf, without, with}
 use Rattle.studio_rules.specs.Theorems.{CountsAdd, PutInOrTakenOut, putIn}
 use Rattle.studio_rules.proofs.Sound.{length-bytes}
 use Rattle.studio_rules.proofs.Verdict.{accepted-exactly, verdict-good, length-figure}
-use Rattle.studio_rules.proofs.Gaps.{size-grows, child-same, headers-same, owned-same, skipped-grows, obeys-put, obeys-taken}
+use Rattle.studio_rules.proofs.Gaps.{size-grows, child-same, fathers-same, headers-same, owned-same, skipped-grows, obeys-put, obeys-taken}
 use Rattle.studio_rules.proofs.Pieces.{holds-all, none-before, all-within}
 use Rattle.studio_rules.proofs.Moved.{records-moved, meshes-same}
 
@@ -51,5 +51,6 @@ put-in-or-taken-out m =
       skipped-grows =
           let a = all-within 0 (length (bytes (figure (with m)))) 0 (figureOf m) (omega arith) (omega arith) in
           skipped-grows (figureOf m) ∙ omega arith;
+      parts-same = ap (partsFrom []) (fathers-same m);
       meshes-same = meshes-same (putIn m) 0 0 0 0 0 0 (figureOf m) refl (omega (arith, none-before 0 0 0 (figureOf m) (omega arith))) (holds-all (figureOf m));
     }

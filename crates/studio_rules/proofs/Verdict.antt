@@ -26,7 +26,7 @@ use Rattle.studio_rules.specs.Theorems.{AcceptedExactly, VersionAgrees, 
 -- what its row says of 4D4D itself, whatever it holds
 pub top-own : (version : ℕ) → Own (file version) [] 0x4D4D []
 unfolding under shape rows limits atMostOne every
-top-own version = record { in-place = refl; not-twice = refl; names-fit = refl; own-data-exact = refl; numbers-finite = refl; face-numbers-below = refl }
+top-own version = record { in-place = refl; not-twice = refl; names-fit = refl; own-data-exact = refl; numbers-finite = refl; face-numbers-below = refl; father-earlier = refl }
 
 pub top-plus : (version : ℕ) (kids : Run) → childrenInPlus (top version) kids ≡ true
 unfolding plus rows

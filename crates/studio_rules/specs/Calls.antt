@@ -1,26 +1,29 @@
 -- What each call of the reader answers and leaves in the lent rows, for every file and every row. The contracts of the
 -- public functions are equations with these definitions.
 use Prim.Native.Nat.{ℕ}
-use mathlib.Core.Bool.{cond}
-use mathlib.Core.List.{List, _++_}
+use mathlib.Core.Bool.{Bool, true, cond}
+use mathlib.Core.List.{List}
 use mathlib.Core.Option.{Option, none, some}
 use lib.Dec.{eqb, leb}
-use lib.ListN.{length, drop, getElem?}
+use lib.Ieee.{Float}
+use lib.ListN.{length, getElem?}
 use Rattle.studio_rules.specs.declared.Record.{Record}
 use Rattle.shared_words.specs.declared.Refusal.{Refusal}
 use Rattle.shared_words.specs.declared.Refusal.the-variants.{NoRoom, NoSuchMesh, Empty}
 use Rattle.studio_rules.specs.declared.Counts.{Counts}
 use Rattle.studio_rules.specs.declared.Checked.{Checked}
+use Rattle.studio_rules.specs.declared.Sizes.{Sizes}
 use Rattle.studio_rules.specs.declared.Tabled.{Tabled}
+use Rattle.studio_rules.specs.declared.Counted.{Counted}
 use Rattle.studio_rules.specs.declared.Named.{Named}
 use Rattle.studio_rules.specs.declared.Boxed.{Boxed}
 use Rattle.studio_rules.specs.Layout.{Run, figure}
 use Rattle.shared_words.specs.Conditions.{Answer, refused, accepted}
 use Rattle.studio_rules.specs.Walk.{verdict}
-use Rattle.studio_rules.specs.Gives.{recordCount, list, headers, owned, skipped, Mesh, meshes}
+use Rattle.studio_rules.specs.Gives.{recordCount, list, headers, owned, skipped, Mesh, meshes, Part, parts}
 use Rattle.studio_rules.specs.Box.{boxOf, centreOf}
 use Rattle.shared_words.specs.Effects.{Effect, leaving, filled}
-use Rattle.shared_words.specs.Encodings.{Encoding}
+use Rattle.shared_words.specs.Encodings.{Encoding, plainRow, floatRow, numberBytes}
 
 -- ---- the check
 
@@ -62,21 +65,62 @@ abbrev pub ofMesh : {A : Type 0} → (Refusal → A) → (Mesh → A) → ℕ �
 ofMesh refuse use-it mesh (refused r) = refuse r
 ofMesh refuse use-it mesh (accepted kids) = pickMesh refuse use-it (length (meshes kids)) (getElem? (meshes kids) mesh)
 
--- the tables: a row of vertices and a row of corners, three numbers to a vertex and three to a face
-pub record Rows (A B : Type 0) : Type 0 where
+-- the tables of a mesh, each in a row of its own: three numbers to a vertex, three to a face, two to a pair
+pub record Rows (A B C : Type 0) : Type 0 where
   pub vertices : List A
   pub corners : List B
+  pub mapping : List C
 
-abbrev pub tablesOf : {A B : Type 0} → Encoding ℕ A → Encoding ℕ B → Rows A B → Mesh → Effect Tabled (Rows A B)
-tablesOf v c rows m =
-    cond (leb (length (m .vertices)) (v .room (length (rows .vertices))))
-    (cond (leb (length (m .corners)) (c .room (length (rows .corners))))
-    (leaving (Tabled.Filled record { vertices = m .vertexCount; faces = m .faceCount }) record { vertices = filled (v .encode (m .vertices)) (rows .vertices); corners = filled (c .encode (m .corners)) (rows .corners) })
+-- how they stand there; none is a table that is not asked for, whose row is not looked at
+pub record Tables (A B C : Type 0) : Type 0 where
+  pub vertices : Option (Encoding ℕ A)
+  pub corners : Option (Encoding ℕ B)
+  pub mapping : Option (Encoding ℕ C)
+
+-- all three, as numbers
+abbrev pub inNumbers : Tables Float ℕ Float
+inNumbers = record { vertices = some floatRow; corners = some plainRow; mapping = some floatRow }
+
+-- for C the vertices and corners, and the mapping by itself
+abbrev pub inBytes : Tables ℕ ℕ ℕ
+inBytes = record { vertices = some (numberBytes 4); corners = some (numberBytes 2); mapping = none }
+
+abbrev pub mappingInBytes : Tables ℕ ℕ ℕ
+mappingInBytes = record { vertices = none; corners = none; mapping = some (numberBytes 4) }
+
+-- there is room for numbers in a row
+abbrev pub fits : {A : Type 0} → Option (Encoding ℕ A) → List ℕ → List A → Bool
+fits none numbers row = true
+fits (some e) numbers row = leb (length numbers) (e .room (length row))
+
+-- the row with them
+abbrev pub tabled : {A : Type 0} → Option (Encoding ℕ A) → List ℕ → List A → List A
+tabled none numbers row = row
+tabled (some e) numbers row = filled (e .encode numbers) row
+
+abbrev pub sizesOf : Mesh → Sizes
+sizesOf m = record { vertices = m .vertexCount; faces = m .faceCount; pairs = m .pairCount }
+
+abbrev pub rowsWith : {A B C : Type 0} → Tables A B C → Rows A B C → Mesh → Rows A B C
+rowsWith t rows m = record {
+  vertices = tabled (t .vertices) (m .vertices) (rows .vertices);
+  corners = tabled (t .corners) (m .corners) (rows .corners);
+  mapping = tabled (t .mapping) (m .mapping) (rows .mapping);
+}
+
+-- all are filled, or none: if several rows are too small, 15 speaks of the vertices first, of the mapping last
+abbrev pub tablesOf : {A B C : Type 0} → Tables A B C → Rows A B C → Mesh → Effect Tabled (Rows A B C)
+tablesOf t rows m =
+    cond (fits (t .vertices) (m .vertices) (rows .vertices))
+    (cond (fits (t .corners) (m .corners) (rows .corners))
+    (cond (fits (t .mapping) (m .mapping) (rows .mapping))
+    (leaving (Tabled.Filled (sizesOf m)) (rowsWith t rows m))
+    (leaving (Tabled.Refused (NoRoom (length (m .mapping)))) rows))
     (leaving (Tabled.Refused (NoRoom (length (m .corners)))) rows))
     (leaving (Tabled.Refused (NoRoom (length (m .vertices)))) rows)
 
-unfoldable pub tablesCall : {A B : Type 0} → Encoding ℕ A → Encoding ℕ B → List ℕ → ℕ → Rows A B → Effect Tabled (Rows A B)
-tablesCall v c s mesh rows = ofMesh (λ r. leaving (Tabled.Refused r) rows) (tablesOf v c rows) mesh (verdict s)
+unfoldable pub tablesCall : {A B C : Type 0} → Tables A B C → List ℕ → ℕ → Rows A B C → Effect Tabled (Rows A B C)
+tablesCall t s mesh rows = ofMesh (λ r. leaving (Tabled.Refused r) rows) (tablesOf t rows) mesh (verdict s)
 
 -- the name of the mesh's object
 abbrev pub nameOf : Mesh → Named
@@ -93,3 +137,15 @@ aroundOf m =
 
 unfoldable pub boxCall : List ℕ → ℕ → Boxed
 boxCall s mesh = ofMesh Boxed.Refused aroundOf mesh (verdict s)
+
+-- ---- the parts, into a row whose room is counted in whole parts
+
+abbrev pub partsOf : {A : Type 0} → Encoding Part A → List A → Answer Run → Effect Counted (List A)
+partsOf e row (refused r) = leaving (Counted.Refused r) row
+partsOf e row (accepted kids) =
+    cond (leb (length (parts kids)) (e .room (length row)))
+    (leaving (Counted.Filled (length (parts kids))) (filled (e .encode (parts kids)) row))
+    (leaving (Counted.Refused (NoRoom (length (parts kids)))) row)
+
+unfoldable pub partsCall : {A : Type 0} → Encoding Part A → List ℕ → List A → Effect Counted (List A)
+partsCall e s row = partsOf e row (verdict s)

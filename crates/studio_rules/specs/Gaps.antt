@@ -88,6 +88,8 @@ pub record SameMesh (ps : List Piece) (old new : Mesh) : Type 0 where
   pub vertices-same : new .vertices ≡ old .vertices
   pub face-count-same : new .faceCount ≡ old .faceCount
   pub corners-same : new .corners ≡ old .corners
+  pub pair-count-same : new .pairCount ≡ old .pairCount
+  pub mapping-same : new .mapping ≡ old .mapping
 
 -- a relation of two lists, element by element: they are equally long
 abbrev pub Pairwise : {A : Type 0} → (A → A → Type 0) → List A → List A → Type 0

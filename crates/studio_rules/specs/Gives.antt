@@ -1,12 +1,14 @@
--- What a reader gets of a figure: the list of known chunks, the byte counts, the meshes. Each is a fold of the layout.
-use Prim.Native.Nat.{ℕ, suc, _+_, _-_}
-use mathlib.Core.Bool.{Bool, true, false}
+-- What a reader gets of a figure: the list of known chunks, the byte counts, the meshes, the parts. Each is a fold of the layout.
+use Prim.Native.Nat.{ℕ, suc, _+_, _-_, _*_}
+use mathlib.Core.Bool.{Bool, true, false, cond}
 use mathlib.Core.List.{List, [], _∷_, _++_}
+use mathlib.Core.Option.{Option, none, some}
 use lib.Dec.{eqb}
-use lib.ListN.{length}
+use lib.ListN.{length, getElem?, replicate}
 use Rattle.studio_rules.specs.declared.Record.{Record}
-use Rattle.studio_rules.specs.OwnData.{count, vertexNumbers, faceCorners}
-use Rattle.studio_rules.specs.Layout.{Run, end, skip, known, figure, size, child}
+use Rattle.studio_rules.specs.OwnData.{count, vertexNumbers, mappingNumbers, faceCorners, father, root}
+use Rattle.studio_rules.specs.Layout.{Run, end, skip, known, figure, size, identifiers, child, held}
+use Rattle.shared_words.specs.Lists.{among}
 
 -- ---- the list: a Record for each known chunk
 
@@ -67,7 +69,7 @@ skipped (known id own kids rest) = skipped kids + skipped rest
 -- ---- the meshes
 
 -- a mesh: where the name of its object stands, and its length without the zero; three numbers a vertex, each a float as
--- its 32 bits; three corners a face
+-- its 32 bits; three corners a face; two numbers a pair of its mapping, floats too
 pub record Mesh : Type 0 where
   pub nameAt : ℕ
   pub nameLength : ℕ
@@ -75,6 +77,20 @@ pub record Mesh : Type 0 where
   pub vertices : List ℕ
   pub faceCount : ℕ
   pub corners : List ℕ
+  pub pairCount : ℕ
+  pub mapping : List ℕ
+
+-- a pair for each vertex where a 4140 stands, else none
+abbrev pub pairsOf : Run → ℕ
+pairsOf kids = cond (among 0x4140 (identifiers kids)) (count (child 0x4110 kids)) 0
+
+-- numbers and zeros behind them, n in all
+abbrev pub filledUp : ℕ → List ℕ → List ℕ
+filledUp n numbers = numbers ++ replicate (n - length numbers) 0
+
+-- the pairs that the 4140 has; the missing ones count as zero
+abbrev pub mappingTable : Run → List ℕ
+mappingTable kids = filledUp (2 * pairsOf kids) (mappingNumbers (child 0x4140 kids))
 
 -- A mesh without 4110 has no vertices, without 4120 no faces: the count of no own data is 0.
 abbrev pub meshOf : ℕ → ℕ → Run → Mesh
@@ -85,6 +101,8 @@ meshOf nameAt nameLength kids = record {
   vertices = vertexNumbers (child 0x4110 kids);
   faceCount = count (child 0x4120 kids);
   corners = faceCorners (child 0x4120 kids);
+  pairCount = pairsOf kids;
+  mapping = mappingTable kids;
 }
 
 abbrev pub oneMesh : Bool → Mesh → List Mesh
@@ -104,3 +122,37 @@ meshesOf o nameAt nameLength (known id own kids rest) =
 -- the meshes of a figure, in file order over all 4100
 abbrev pub meshes : Run → List Mesh
 meshes kids = meshesOf 0 0 0 (figure kids)
+
+-- ---- the parts that move: who hangs on whom
+
+-- a part: the number of its father, or `root`; and how many fathers there are above it
+pub record Part : Type 0 where
+  pub father : ℕ
+  pub depth : ℕ
+
+-- what the B010 of each B002 tells, in file order: the number of a part is the order of its B002
+abbrev pub fathersIn : Run → List ℕ
+fathersIn end = []
+fathersIn (skip id body rest) = fathersIn rest
+fathersIn (known id own kids rest) = cond (eqb id 0xB002) (father (child 0xB010 kids) ∷ fathersIn rest) (fathersIn rest)
+
+-- the fathers of a figure's parts: they stand in its one B000
+abbrev pub fathers : Run → List ℕ
+fathers kids = fathersIn (held 0xB000 kids)
+
+-- one deeper than the father
+abbrev pub below : Option Part → ℕ
+below none = 0
+below (some q) = suc (q .depth)
+
+-- a part with the father f, behind the parts `done`
+abbrev pub partOf : List Part → ℕ → Part
+partOf done f = record { father = f; depth = cond (eqb f root) 0 (below (getElem? done f)) }
+
+abbrev pub partsFrom : List Part → List ℕ → List Part
+partsFrom done [] = done
+partsFrom done (f ∷ fs) = partsFrom (done ++ (partOf done f ∷ [])) fs
+
+-- the parts of a figure, in file order
+abbrev pub parts : Run → List Part
+parts kids = partsFrom [] (fathers kids)

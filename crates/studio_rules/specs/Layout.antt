@@ -49,6 +49,12 @@ child x end = []
 child x (skip id body rest) = child x rest
 child x (known id own kids rest) = cond (eqb id x) own (child x rest)
 
+-- the children of the first of an identifier; none where there is none
+abbrev pub held : ℕ → Run → Run
+held x end = end
+held x (skip id body rest) = held x rest
+held x (known id own kids rest) = cond (eqb id x) kids (held x rest)
+
 -- the offset of the first of an identifier, in a run that begins at o
 abbrev pub offsetOf : ℕ → ℕ → Run → ℕ
 offsetOf x o end = o

@@ -5,8 +5,8 @@ use mathlib.Core.List.{List, [], _∷_}
 use lib.Dec.{eqb, leb}
 use lib.ListN.{length, take, drop}
 use Rattle.shared_words.specs.Bytes.{value, numbers}
+use Rattle.studio_rules.specs.Table.{Shape, fixed, name, counted, each, named-words, named}
 use Rattle.shared_words.specs.Labels.{fitsLabel}
-use Rattle.studio_rules.specs.Table.{Shape, fixed, name, counted, each, named-words}
 
 -- A name is bytes up to and including the first zero byte. Where there is none, one byte more than there are.
 abbrev pub nameSize : List ℕ → ℕ
@@ -25,6 +25,7 @@ ownSize name around s = nameSize s
 ownSize (counted k) around s = 2 + k * count s
 ownSize (each k) around s = k * count around
 ownSize named-words around s = nameSize s + 2 + 2 * count (drop (nameSize s) s)
+ownSize (named k) around s = nameSize s + k
 
 -- where the shape begins with a name, its zero is there
 abbrev pub hasName : Shape → List ℕ → Bool
@@ -33,6 +34,7 @@ hasName name s = leb (nameSize s) (length s)
 hasName (counted k) s = true
 hasName (each k) s = true
 hasName named-words s = leb (nameSize s) (length s)
+hasName (named k) s = leb (nameSize s) (length s)
 
 -- the bytes of a name, without its zero
 abbrev pub text : List ℕ → List ℕ
@@ -46,6 +48,7 @@ nameFits name s = fitsLabel (text s)
 nameFits (counted k) s = true
 nameFits (each k) s = true
 nameFits named-words s = fitsLabel (text s)
+nameFits (named k) s = fitsLabel (text s)
 
 -- 4110: three floats a vertex; 4140: two floats a pair; each float as its 32 bits
 abbrev pub vertexNumbers : List ℕ → List ℕ
@@ -65,3 +68,11 @@ faceCorners own = corners (count own) (drop 2 own)
 -- 4130: the words behind its name and its word k
 abbrev pub faceNumbers : List ℕ → List ℕ
 faceNumbers own = numbers 2 (count (drop (nameSize own) own)) (drop (nameSize own + 2) own)
+
+-- B010: the last of the three words behind its name
+abbrev pub father : List ℕ → ℕ
+father own = value (take 2 (drop (nameSize own + 4) own))
+
+-- a word that stands for no father: the part is a root
+abbrev pub root : ℕ
+root = 65535

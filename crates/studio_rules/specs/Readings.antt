@@ -2,11 +2,15 @@
 -- answered, and of several faults which. One list under one statement, like P1 to P12. (More cases are run, not proved: the
 -- differ's named cases in second/.)
 use mathlib.Core.Path.{_≡_}
-use Prim.Native.Nat.{ℕ}
+use Prim.Native.Nat.{ℕ, _*_}
 use mathlib.Core.List.{List, [], _∷_, _++_, map}
 use lib.ListN.{replicate}
+use Rattle.studio_rules.specs.OwnData.{root}
 use Rattle.shared_words.specs.Bytes.{le}
 use Rattle.studio_rules.specs.Layout.{Run, end, skip, known, figure, bytes}
+use Rattle.shared_words.specs.Conditions.{Answer, refused, accepted}
+use Rattle.studio_rules.specs.Walk.{verdict}
+use Rattle.studio_rules.specs.Gives.{Part, parts, meshes}
 use Rattle.studio_rules.specs.Calls.{checkCall}
 use Rattle.studio_rules.specs.Samples.{Shown, no, yes, shown}
 
@@ -34,19 +38,33 @@ abbrev pub mesh : Run → Run
 mesh kids = object (known 0x4100 [] kids end)
 
 -- 4110 with one vertex (20 bytes), of which the first number is given; 4120 with one face (16 bytes) and its children;
--- 4140 with no pair (8 bytes)
+-- 4140 with m pairs (8 bytes, and 8 for each); 0002 (10 bytes)
 abbrev pub vertex : ℕ → Run
 vertex x = plain 0x4110 (1 ∷ 0 ∷ le 4 x ++ (0 ∷ 0 ∷ 0 ∷ 0 ∷ 0 ∷ 0 ∷ 0 ∷ 0 ∷ []))
 
 abbrev pub face : ℕ → Run → Run
 face corner kids = known 0x4120 (1 ∷ 0 ∷ corner ∷ 0 ∷ 0 ∷ 0 ∷ 0 ∷ 0 ∷ 0 ∷ 0 ∷ []) kids end
 
-abbrev pub noPairs : Run
-noPairs = plain 0x4140 (0 ∷ 0 ∷ [])
+abbrev pub pairs : ℕ → Run
+pairs m = plain 0x4140 (m ∷ 0 ∷ replicate (8 * m) 1)
+
+abbrev pub told : ℕ → Run
+told version = plain 0x0002 (le 4 version)
 
 -- 4700 with so many bytes before its children
 abbrev pub camera : ℕ → Run → Run
 camera n kids = known 0x4700 (replicate n 0) kids end
+
+-- B000 behind an empty 3D3D, at 12: its children begin at 18
+abbrev pub keyframer : Run → Run
+keyframer kids = scene end then known 0xB000 [] kids end
+
+-- B010 named "p" (14 bytes), and B002 that holds it (20 bytes)
+abbrev pub hangsOn : ℕ → Run
+hangsOn f = plain 0xB010 (0x70 ∷ 0 ∷ 0 ∷ 0 ∷ 0 ∷ 0 ∷ le 2 f)
+
+abbrev pub part : ℕ → Run
+part f = known 0xB002 [] (hangsOn f) end
 
 -- ---- the cases, and what is answered
 
@@ -82,9 +100,16 @@ cases =
     gives (scene (mesh (vertex 0 then known 0x4120 (2 ∷ 0 ∷ 1 ∷ replicate 15 0) (plain 0x4130 (0x6D ∷ 0 ∷ 1 ∷ 0 ∷ 2 ∷ 0 ∷ [])) end))) (no 12 70) ∷
     -- 12: a corner in a second mesh; corners are judged at the mesh's end, so that 4110 may come after 4120
     gives (scene (mesh (vertex 0 then face 0 end) then mesh (face 1 end then vertex 0))) (no 12 76) ∷
-    -- 12 before 13, wherever the 4140 stands; 13
-    gives (scene (mesh (noPairs then vertex 0 then face 1 end))) (no 12 54) ∷
-    gives (scene (mesh (noPairs then vertex 0 then face 0 end))) (no 13 26) ∷
+    -- 12 before 13, wherever the 4140 stands
+    gives (told 3 then scene (mesh (pairs 0 then vertex 0 then face 1 end))) (no 12 64) ∷
+    -- Q-6, 13: fewer pairs than vertices in a file of version 3; it may be told behind 3D3D and a 0002 of another length,
+    -- for which the file would be refused later
+    gives (told 3 then scene (mesh (pairs 0 then vertex 0))) (no 13 36) ∷
+    gives (scene (mesh (pairs 0 then vertex 0)) then plain 0x0002 (replicate 5 0) then told 3) (no 13 26) ∷
+    -- not in an older file; and more of them in any, so any where there is no 4110
+    gives (told 2 then scene (mesh (pairs 0 then vertex 0))) (yes 42 22 0) ∷
+    gives (scene (mesh (pairs 2 then vertex 0))) (no 13 26) ∷
+    gives (scene (mesh (pairs 1))) (no 13 26) ∷
     -- 14: a material without its name, met at its end
     gives (scene (known 0xAFFF [] (plain 0xA010 []) end)) (no 14 12) ∷
     -- an unlisted chunk is skipped, whatever stands inside it
@@ -92,10 +117,52 @@ cases =
     -- Q-1: a camera may hold unlisted chunks behind its 32 bytes; 10 only where it is too short; 6
     gives (scene (object (camera 32 (skip 0x4720 (0 ∷ []) end)))) (yes 24 34 7) ∷
     gives (scene (object (camera 31 end))) (no 10 20) ∷
-    gives (scene (object (camera 33 end))) (no 6 58) ∷ []
+    gives (scene (object (camera 33 end))) (no 6 58) ∷
+    -- Q-7: 23 for a part that hangs on itself, or on a number that counts other chunks too; 24 and then 10 come before it
+    gives (keyframer (part root then part 0)) (yes 42 16 0) ∷
+    gives (keyframer (part 0)) (no 23 24) ∷
+    gives (keyframer (part root then skip 0xB001 (0 ∷ 0 ∷ 0 ∷ 0 ∷ []) end then part 1)) (no 23 54) ∷
+    gives (keyframer (known 0xB002 [] (plain 0xB010 (31 ∷ 0 ∷ replicate 7 0)) end)) (no 24 24) ∷
+    gives (keyframer (known 0xB002 [] (plain 0xB010 (0x70 ∷ 0 ∷ replicate 7 0)) end)) (no 10 24) ∷
+    -- 14, 8 and 7: a B002 without its B010; two B010, two B000; a B002 in 3D3D
+    gives (keyframer (plain 0xB002 [])) (no 14 18) ∷
+    gives (keyframer (known 0xB002 [] (hangsOn root then hangsOn root) end)) (no 8 38) ∷
+    gives (keyframer end then plain 0xB000 []) (no 8 18) ∷
+    gives (scene (part root)) (no 7 12) ∷ []
 
 abbrev pub answered : Case → Shown
 answered c = shown (checkCall (bytes (figure (c .kids))))
 
 abbrev pub Readings : Type 0
 Readings = map answered cases ≡ map (λ c. c .answer) cases
+
+-- ---- mapping pairs, as they are given out
+
+abbrev pub mappingsIn : Answer Run → List (List ℕ)
+mappingsIn (refused r) = []
+mappingsIn (accepted kids) = map (λ m. m .mapping) (meshes kids)
+
+-- 4110 with two vertices
+abbrev pub vertices : Run
+vertices = plain 0x4110 (2 ∷ 0 ∷ replicate 24 0)
+
+-- two vertices and one pair, and the other, which is zero; two and no pair in a 4140; no 4140
+abbrev pub Mappings : Type 0
+Mappings = mappingsIn (verdict (bytes (figure (scene (mesh (pairs 1 then vertices) then mesh (pairs 0 then vertices) then mesh vertices))))) ≡
+    (0x0101_0101 ∷ 0x0101_0101 ∷ 0 ∷ 0 ∷ []) ∷ (0 ∷ 0 ∷ 0 ∷ 0 ∷ []) ∷ [] ∷ []
+
+-- ---- the parts, as they are given out
+
+abbrev pub partsIn : Answer Run → List Part
+partsIn (refused r) = []
+partsIn (accepted kids) = parts kids
+
+abbrev pub reading : Run → Answer Run
+reading kids = verdict (bytes (figure kids))
+
+abbrev pub at : ℕ → ℕ → Part
+at father depth = record { father = father; depth = depth }
+
+pub record Worked : Type 0 where
+  -- father and depth of each part
+  pub tree : partsIn (reading (keyframer (part root then part 0 then part 1 then part 0 then part root))) ≡ at root 0 ∷ at 0 1 ∷ at 1 2 ∷ at 0 1 ∷ at root 0 ∷ []

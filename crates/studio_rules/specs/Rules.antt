@@ -10,7 +10,7 @@ use Rattle.shared_words.specs.Lists.{every}
 use Rattle.shared_words.specs.Lists.{among}
 use Rattle.studio_rules.specs.Table.{theFile, listed, under, shape, plus, limits, needs}
 use Rattle.shared_words.specs.Floats.{finite}
-use Rattle.studio_rules.specs.OwnData.{count, ownSize, nameFits, vertexNumbers, mappingNumbers, faceCorners, faceNumbers}
+use Rattle.studio_rules.specs.OwnData.{count, ownSize, nameFits, vertexNumbers, mappingNumbers, faceCorners, faceNumbers, father, root}
 use Rattle.studio_rules.specs.Layout.{Run, end, skip, known, figure, bytes, identifiers, child}
 
 -- how many of some identifiers are in a group
@@ -76,6 +76,10 @@ allBelow n = every (λ x. ltb x n)
 abbrev pub faceNumbersBelow : OwnRule
 faceNumbersBelow p id own = only 0x4130 id (allBelow (count (p .own)) (faceNumbers own))
 
+-- the father of a part, which the B010 of a B002 tells, is an earlier B002 by its order, or there is none
+abbrev pub fatherEarlier : OwnRule
+fatherEarlier p id own = only 0xB010 id (eqb (father own) root || ltb (father own) (p .order))
+
 -- ---- the rules of a chunk's children, which are judged at its end
 
 -- q is the chunk, as its children see it
@@ -99,10 +103,17 @@ noneMissing q kids = every (λ g. leb 1 (tally g (identifiers kids))) (needs (q 
 abbrev pub cornersBelow : ChildrenRule
 cornersBelow q kids = only 0x4100 (q .id) (allBelow (count (child 0x4110 kids)) (faceCorners (child 0x4120 kids)))
 
--- of a mesh: where a 4140 stands, its m is n
+-- m mapping pairs for n vertices: m is n, in a file of version 3 or more; in an older one m may be less
+abbrev pub asManyPairs : ℕ → Bool
+asManyPairs version = leb 3 version
+
+abbrev pub pairsFit : ℕ → ℕ → ℕ → Bool
+pairsFit version m n = cond (asManyPairs version) (eqb m n) (leb m n)
+
+-- of a mesh: where a 4140 stands, its m fits n
 abbrev pub mappingMatches : ChildrenRule
 mappingMatches q kids =
-    only 0x4100 (q .id) (not (among 0x4140 (identifiers kids)) || eqb (count (child 0x4140 kids)) (count (child 0x4110 kids)))
+    only 0x4100 (q .id) (not (among 0x4140 (identifiers kids)) || pairsFit (q .version) (count (child 0x4140 kids)) (count (child 0x4110 kids)))
 
 -- ---- what meets them
 
@@ -118,6 +129,7 @@ pub record Own (p : Parent) (seen : List ℕ) (id : ℕ) (own : List ℕ) : Type
   pub own-data-exact : ownDataExact p id own ≡ true
   pub numbers-finite : numbersFinite p id own ≡ true
   pub face-numbers-below : faceNumbersBelow p id own ≡ true
+  pub father-earlier : fatherEarlier p id own ≡ true
 
 -- ALL RULES OF THE CHILDREN of one known chunk q
 pub record Children (q : Parent) (kids : Run) : Type 0 where

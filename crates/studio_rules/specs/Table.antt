@@ -18,6 +18,8 @@ pub data Shape : Type 0 where
   each : ℕ → Shape
   -- a name, a word k, then k words
   named-words : Shape
+  -- a name, then so many bytes
+  named : ℕ → Shape
 
 -- A row: its identifiers, the chunks under which they stand, their own data, and whether it ends in "+".
 pub record Row : Type 0 where
@@ -69,7 +71,11 @@ rows =
     leaf (0x4651 ∷ []) (0x4610 ∷ []) (fixed 0) ∷
     leaf (0x4653 ∷ []) (0x4610 ∷ []) name ∷
     leaf (0x4656 ∷ []) (0x4610 ∷ []) (fixed 4) ∷
-    branch (0x4700 ∷ []) (0x4000 ∷ []) (fixed 32) ∷ []
+    branch (0x4700 ∷ []) (0x4000 ∷ []) (fixed 32) ∷
+    branch (0xB000 ∷ []) (0x4D4D ∷ []) (fixed 0) ∷
+    leaf (0xB008 ∷ []) (0xB000 ∷ []) (fixed 8) ∷
+    branch (0xB002 ∷ []) (0xB000 ∷ []) (fixed 0) ∷
+    leaf (0xB010 ∷ []) (0xB002 ∷ []) (named 6) ∷ []
 
 -- Identifiers taken together, among the children of a container.
 pub record Group : Type 0 where
@@ -91,11 +97,15 @@ atMostOne =
     of (0x4160 ∷ []) 0x4100 ∷
     of (0x4165 ∷ []) 0x4100 ∷
     of (0x4150 ∷ []) 0x4120 ∷
-    of (0x4610 ∷ []) 0x4600 ∷ []
+    of (0x4610 ∷ []) 0x4600 ∷
+    of (0xB000 ∷ []) 0x4D4D ∷
+    of (0xB008 ∷ []) 0xB000 ∷
+    of (0xB010 ∷ []) 0xB002 ∷ []
 
 unfoldable pub atLeastOne : List Group
 atLeastOne =
     of (0x3D3D ∷ []) 0x4D4D ∷
+    of (0xB010 ∷ []) 0xB002 ∷
     of (0xA000 ∷ []) 0xAFFF ∷ []
 
 -- ---- reading the table

@@ -7,13 +7,13 @@ use mathlib.Core.Option.{Option, none, some}
 use lib.Dec.{eqb, leb}
 use lib.ListN.{length, take, drop}
 use Rattle.shared_words.specs.declared.Refusal.{Refusal}
-use Rattle.shared_words.specs.declared.Refusal.the-variants.{TooLong, NotAFigure, Trailing, Short, Overrun, Stray, Misplaced, Twice, Name, Length, Number, Index, Count, Missing, Text}
+use Rattle.shared_words.specs.declared.Refusal.the-variants.{TooLong, NotAFigure, Trailing, Short, Overrun, Stray, Misplaced, Twice, Name, Length, Number, Index, Count, Missing, Father, Text}
 use Rattle.shared_words.specs.Bytes.{value}
 use Rattle.shared_words.specs.Conditions.{Condition, must, broken, Answer, refused, accepted, unless}
 use Rattle.studio_rules.specs.Table.{listed, shape, plus}
 use Rattle.studio_rules.specs.OwnData.{ownSize, hasName}
 use Rattle.studio_rules.specs.Layout.{Run, end, skip, known, offsetOf}
-use Rattle.studio_rules.specs.Rules.{Parent, file, inside, limit, inPlace, notTwice, namesFit, numbersFinite, faceNumbersBelow, noneMissing, cornersBelow, mappingMatches}
+use Rattle.studio_rules.specs.Rules.{Parent, file, inside, limit, inPlace, notTwice, namesFit, numbersFinite, faceNumbersBelow, fatherEarlier, noneMissing, cornersBelow, mappingMatches}
 
 -- ---- conditions, in the order in which they are asked
 
@@ -40,11 +40,12 @@ placeConditions p seen o id own =
     must (inPlace p id own) (Misplaced o) ∷
     must (notTwice p seen id) (Twice o) ∷ []
 
--- "11, and 12 for a 4130": own data that has its length
+-- "11, and 12 for a 4130", and 23 for a B010: own data that has its length
 abbrev pub dataConditions : Parent → ℕ → ℕ → List ℕ → List Condition
 dataConditions p o id own =
     must (numbersFinite p id own) (Number o) ∷
-    must (faceNumbersBelow p id own) (Index o) ∷ []
+    must (faceNumbersBelow p id own) (Index o) ∷
+    must (fatherEarlier p id own) (Father o) ∷ []
 
 -- "9, 10" and, right after 9, 24; then these: own data is the first k bytes of the body of a chunk in p
 abbrev pub ownConditions : Parent → ℕ → ℕ → List ℕ → ℕ → List Condition

@@ -23,7 +23,7 @@ NameWithin (Named.At span) = span .offset + span .size ≤ limit
 NameWithin (Named.Refused r) = Unit
 
 abbrev pub SizesWithin : Tabled → Type 0
-SizesWithin (Tabled.Filled n) = (n .vertices ≤ limit) × (n .faces ≤ limit)
+SizesWithin (Tabled.Filled n) = (n .vertices ≤ limit) × (n .faces ≤ limit) × (n .pairs ≤ limit)
 SizesWithin (Tabled.Refused r) = Unit
 
 -- x is a number, its bits pass the test that a coordinate in a file must pass, and they are read back as x

@@ -28,15 +28,22 @@ pub enum Checked {
     Refused(Refusal),
 }
 
-// How many vertices and faces a mesh has.
+// How many vertices and faces a mesh has, and how many pairs its mapping.
 pub struct Sizes {
     pub vertices: usize,
     pub faces: usize,
+    pub pairs: usize,
 }
 
 // The answer of a mesh's tables.
 pub enum Tabled {
     Filled(Sizes),
+    Refused(Refusal),
+}
+
+// The answer of the parts: how many the row holds.
+pub enum Counted {
+    Filled(usize),
     Refused(Refusal),
 }
 

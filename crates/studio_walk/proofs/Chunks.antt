@@ -6,13 +6,12 @@ use mathlib.Core.Option.{Option, none, some}
 use Prim.Native.Nat.{ℕ, suc, _+_, _-_, _≤_, _<_, _^_}
 use native.Mathlib.Omega.{arith}
 use lib.Dec.{leb}
-use lib.ListN.{length, set}
+use lib.ListN.{length}
 use lib.Seq.{slice}
 use Rattle.shared_words.specs.declared.Refusal.{Refusal}
 use Rattle.shared_words.specs.Bytes.{Bytes}
 use Rattle.shared_words.specs.Lists.{every}
 use Rattle.studio_rules.specs.Table.{listed, plus, needs}
-use Rattle.studio_rules.specs.OwnData.{count}
 use Rattle.studio_rules.specs.Layout.{Run, end}
 use Rattle.studio_rules.specs.Rules.{Parent, inside, tally}
 use Rattle.studio_rules.specs.Gives.{recordCount, skipped}
@@ -27,7 +26,8 @@ use Rattle.studio_rules.proofs.Fuel.{walk-nil}
 use Rattle.studio_row.specs.Packed.{rowOf, slotOf}
 use Rattle.studio_row.proofs.Facts.{leaf-is}
 use Rattle.studio_marks.specs.declared.Shut.{Shut}
-use Rattle.studio_marks.specs.Marks.{noMarks, Kept, ShutIs}
+use Rattle.studio_own_data.specs.Bounds.{boundOf}
+use Rattle.studio_marks.specs.Marks.{noted, noMarks, Kept, ShutIs}
 use Rattle.studio_head.specs.declared.Head.{Head}
 use Rattle.studio_walk.specs.declared.Ran.{Ran}
 use Rattle.studio_head.specs.Heads.{HeadIs, MarksAre}
@@ -41,17 +41,17 @@ clash z = omega arith
 -- ---- without children
 
 module _ (p : Parent) (seen : List ℕ) (at : ℕ) (ms ms′ : List ℕ) where
-  pub chunk-fault : (x : Step) (y : Refusal) → HeadIs at x (Head.Fault y) → ChunkIs p seen at x (Ran.Refused y) ms ms′
+  pub chunk-fault : (x : Step) (y : Refusal) → HeadIs p seen at x (Head.Fault y) → ChunkIs p seen at x (Ran.Refused y) ms ms′
   chunk-fault (stop z) y h = cc
   chunk-fault (pass id body rest) y h = absurd (clash (cc))
   chunk-fault (enter id own kids rest) y h = go (plus id) h
     where
-      go : (b : Bool) → Head.Fault y ≡ cond b (Head.Enter id (rowOf id) (count own) (at + (6 + length own)) (at + (6 + length own + length kids))) (Head.Leaf (at + (6 + length own + length kids))) →
-          ClosedIs (at + (6 + length own + length kids)) (ended (inside p seen id own) at (walk (inside p seen id own) [] (at + (6 + length own)) kids)) (Ran.Refused y) × (ms′ ≡ set ms (slotOf id) at)
+      go : (b : Bool) → Head.Fault y ≡ cond b (Head.Enter id (rowOf id) (boundOf (inside p seen id own)) (at + (6 + length own)) (at + (6 + length own + length kids))) (Head.Leaf (at + (6 + length own + length kids))) →
+          ClosedIs (at + (6 + length own + length kids)) (ended (inside p seen id own) at (walk (inside p seen id own) [] (at + (6 + length own)) kids)) (Ran.Refused y) × (ms′ ≡ noted (slotOf id) at ms)
       go true h = absurd (clash (cc))
       go false h = absurd (clash (cc))
 
-  pub chunk-skip : (x : Step) (past : ℕ) → HeadIs at x (Head.Skip past) → MarksAre at x ms ms′ → ChunkIs p seen at x (Ran.Done past 0 (past - at)) ms ms′
+  pub chunk-skip : (x : Step) (past : ℕ) → HeadIs p seen at x (Head.Skip past) → MarksAre at x ms ms′ → ChunkIs p seen at x (Ran.Done past 0 (past - at)) ms ms′
   chunk-skip (stop z) past h m = absurd (clash (cc))
   chunk-skip (pass id body rest) past h m =
       let q : past ≡ at + (6 + length body) = cc in
@@ -59,8 +59,8 @@ module _ (p : Parent) (seen : List ℕ) (at : ℕ) (ms ms′ : List ℕ) where
       (rw (r, q), m)
   chunk-skip (enter id own kids rest) past h m = go (plus id) h
     where
-      go : (b : Bool) → Head.Skip past ≡ cond b (Head.Enter id (rowOf id) (count own) (at + (6 + length own)) (at + (6 + length own + length kids))) (Head.Leaf (at + (6 + length own + length kids))) →
-          ClosedIs (at + (6 + length own + length kids)) (ended (inside p seen id own) at (walk (inside p seen id own) [] (at + (6 + length own)) kids)) (Ran.Done past 0 (past - at)) × (ms′ ≡ set ms (slotOf id) at)
+      go : (b : Bool) → Head.Skip past ≡ cond b (Head.Enter id (rowOf id) (boundOf (inside p seen id own)) (at + (6 + length own)) (at + (6 + length own + length kids))) (Head.Leaf (at + (6 + length own + length kids))) →
+          ClosedIs (at + (6 + length own + length kids)) (ended (inside p seen id own) at (walk (inside p seen id own) [] (at + (6 + length own)) kids)) (Ran.Done past 0 (past - at)) × (ms′ ≡ noted (slotOf id) at ms)
       go true h = absurd (clash (cc))
       go false h = absurd (clash (cc))
 
@@ -71,12 +71,12 @@ leaf-ended p seen at id own l e =
     let none-needed : every (λ (g : List ℕ). leb 1 (tally g [])) (needs id) ≡ true = every-weaker (λ (g : List ℕ). false) (λ (g : List ℕ). leb 1 (tally g [])) (needs id) (λ g h. absurd (true≢false (sym h))) (f .0) in
     rw (unbroken (endConditions (inside p seen id own) at end) (none-needed, (rw (f .1), (rw (f .1), tt))))
 
-pub chunk-leaf : (p : Parent) (seen s : List ℕ) (at : ℕ) (ms ms′ : List ℕ) (x : Step) → Says p seen s x → (past : ℕ) → HeadIs at x (Head.Leaf past) → MarksAre at x ms ms′ → ChunkIs p seen at x (Ran.Done past 1 0) ms ms′
+pub chunk-leaf : (p : Parent) (seen s : List ℕ) (at : ℕ) (ms ms′ : List ℕ) (x : Step) → Says p seen s x → (past : ℕ) → HeadIs p seen at x (Head.Leaf past) → MarksAre at x ms ms′ → ChunkIs p seen at x (Ran.Done past 1 0) ms ms′
 chunk-leaf p seen s at ms ms′ (stop z) g past h m = absurd (clash (cc))
 chunk-leaf p seen s at ms ms′ (pass id body rest) g past h m = absurd (clash (cc))
 chunk-leaf p seen s at ms ms′ (enter id own kids rest) g past h m = (go (plus id) refl h, m)
   where
-    go : (b : Bool) → plus id ≡ b → Head.Leaf past ≡ cond b (Head.Enter id (rowOf id) (count own) (at + (6 + length own)) (at + (6 + length own + length kids))) (Head.Leaf (at + (6 + length own + length kids))) →
+    go : (b : Bool) → plus id ≡ b → Head.Leaf past ≡ cond b (Head.Enter id (rowOf id) (boundOf (inside p seen id own)) (at + (6 + length own)) (at + (6 + length own + length kids))) (Head.Leaf (at + (6 + length own + length kids))) →
         ClosedIs (at + (6 + length own + length kids)) (ended (inside p seen id own) at (walk (inside p seen id own) [] (at + (6 + length own)) kids)) (Ran.Done past 1 0)
     go true e h = absurd (clash (cc))
     go false e h =
@@ -89,23 +89,23 @@ chunk-leaf p seen s at ms ms′ (enter id own kids rest) g past h m = (go (plus 
 -- ---- with children
 
 -- what a chunk that may have children was found to be
-pub record Entering (p : Parent) (at : ℕ) (x : Step) (id row word from past : ℕ) : Type 0 where
+pub record Entering (p : Parent) (seen : List ℕ) (at : ℕ) (x : Step) (id row word from past : ℕ) : Type 0 where
   pub own : List ℕ
   pub kids : List ℕ
   pub rest : List ℕ
   pub is : x ≡ enter id own kids rest
   pub row-is : row ≡ rowOf id
-  pub word-is : word ≡ count own
+  pub word-is : word ≡ boundOf (inside p seen id own)
   pub from-is : from ≡ at + (6 + length own)
   pub past-is : past ≡ at + (6 + length own + length kids)
 
-pub entering : (p : Parent) (at : ℕ) (x : Step) (id row word from past : ℕ) → HeadIs at x (Head.Enter id row word from past) → Entering p at x id row word from past
-entering p at (stop z) id row word from past h = absurd (clash (cc))
-entering p at (pass id′ body rest) id row word from past h = absurd (clash (cc))
-entering p at (enter id′ own kids rest) id row word from past h = go (plus id′) h
+pub entering : (p : Parent) (seen : List ℕ) (at : ℕ) (x : Step) (id row word from past : ℕ) → HeadIs p seen at x (Head.Enter id row word from past) → Entering p seen at x id row word from past
+entering p seen at (stop z) id row word from past h = absurd (clash (cc))
+entering p seen at (pass id′ body rest) id row word from past h = absurd (clash (cc))
+entering p seen at (enter id′ own kids rest) id row word from past h = go (plus id′) h
   where
-    go : (b : Bool) → Head.Enter id row word from past ≡ cond b (Head.Enter id′ (rowOf id′) (count own) (at + (6 + length own)) (at + (6 + length own + length kids))) (Head.Leaf (at + (6 + length own + length kids))) →
-        Entering p at (enter id′ own kids rest) id row word from past
+    go : (b : Bool) → Head.Enter id row word from past ≡ cond b (Head.Enter id′ (rowOf id′) (boundOf (inside p seen id′ own)) (at + (6 + length own)) (at + (6 + length own + length kids))) (Head.Leaf (at + (6 + length own + length kids))) →
+        Entering p seen at (enter id′ own kids rest) id row word from past
     go false h = absurd (clash (cc))
     go true h =
         let i : id ≡ id′ = cc in
@@ -153,11 +153,11 @@ module _ (p : Parent) (seen s : List ℕ) (at id from past : ℕ) (own : List �
 
 -- the chunk, once its children are read
 module _ (p : Parent) (seen : List ℕ) (at id : ℕ) (own kids rest ms : List ℕ) (past : ℕ) (q : past ≡ at + (6 + length own + length kids)) where
-  pub chunk-refused : (y : Refusal) → walk (inside p seen id own) [] (at + (6 + length own)) kids ≡ refused y → ChunkIs p seen at (enter id own kids rest) (Ran.Refused y) ms (set ms (slotOf id) at)
+  pub chunk-refused : (y : Refusal) → walk (inside p seen id own) [] (at + (6 + length own)) kids ≡ refused y → ChunkIs p seen at (enter id own kids rest) (Ran.Refused y) ms (noted (slotOf id) at ms)
   chunk-refused y e = (rw e, refl)
 
   pub chunk-shut : (y : Refusal) (t : Run) → walk (inside p seen id own) [] (at + (6 + length own)) kids ≡ accepted t → ShutIs (broken (endConditions (inside p seen id own) at t)) (Shut.Fault y) →
-      ChunkIs p seen at (enter id own kids rest) (Ran.Refused y) ms (set ms (slotOf id) at)
+      ChunkIs p seen at (enter id own kids rest) (Ran.Refused y) ms (noted (slotOf id) at ms)
   chunk-shut y t e h = (rw e (go (broken (endConditions (inside p seen id own) at t)) h), refl)
     where
       go : (x : Option Refusal) → ShutIs x (Shut.Fault y) → ClosedIs (at + (6 + length own + length kids)) (unless x (accepted t)) (Ran.Refused y)
@@ -165,7 +165,7 @@ module _ (p : Parent) (seen : List ℕ) (at id : ℕ) (own kids rest ms : List �
       go none h = absurd (clash (cc))
 
   pub chunk-done : (t : Run) (n k : ℕ) → walk (inside p seen id own) [] (at + (6 + length own)) kids ≡ accepted t → n ≡ recordCount t → k ≡ skipped t → ShutIs (broken (endConditions (inside p seen id own) at t)) Shut.Fine →
-      ChunkIs p seen at (enter id own kids rest) (Ran.Done past (n + 1) k) ms (set ms (slotOf id) at)
+      ChunkIs p seen at (enter id own kids rest) (Ran.Done past (n + 1) k) ms (noted (slotOf id) at ms)
   chunk-done t n k e f g h = (rw e (go (broken (endConditions (inside p seen id own) at t)) h), refl)
     where
       go : (x : Option Refusal) → ShutIs x Shut.Fine → ClosedIs (at + (6 + length own + length kids)) (unless x (accepted t)) (Ran.Done past (n + 1) k)

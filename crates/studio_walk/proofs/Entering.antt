@@ -1,13 +1,13 @@
 -- A chunk with children, from what was found at its start to what it comes to at its end.
 use mathlib.Core.Path.{_≡_, refl, sym, ap, _∙_, subst}
+use mathlib.Core.Bool.{Bool}
 use mathlib.Core.List.{List, []}
 use Prim.Native.Nat.{ℕ, _+_, _≤_, _<_, _^_}
 use native.Mathlib.Omega.{arith}
-use lib.ListN.{length, set}
+use lib.ListN.{length}
 use lib.Seq.{slice}
 use Rattle.shared_words.specs.declared.Refusal.{Refusal}
 use Rattle.shared_words.specs.Bytes.{Bytes}
-use Rattle.studio_rules.specs.Layout.{Run}
 use Rattle.studio_rules.specs.Rules.{Parent, inside}
 use Rattle.shared_words.specs.Conditions.{broken}
 use Rattle.studio_rules.specs.Walk.{Step, enter, endConditions, step, walk}
@@ -15,14 +15,14 @@ use Rattle.studio_rules.proofs.Rows.{under-listed}
 use Rattle.studio_rules.proofs.Steps.{Says, Entered, step-says}
 use Rattle.studio_row.specs.Packed.{slotOf}
 use Rattle.studio_marks.specs.declared.Shut.{Shut}
-use Rattle.studio_marks.specs.Marks.{noMarks, Kept, ShutIs, MeshPlaced}
+use Rattle.studio_marks.specs.Marks.{noted, noMarks, Kept, ShutIs, MeshPlaced, RuleIs, EndIs}
 use Rattle.studio_marks.proofs.Ends.{mesh-placed}
 use Rattle.studio_head.specs.declared.Head.{Head}
 use Rattle.studio_walk.specs.declared.Ran.{Ran}
 use Rattle.studio_head.specs.Heads.{HeadIs, MarksAre, HeadWithin}
 use Rattle.studio_head.specs.Contexts.{Context}
 use Rattle.studio_walk.specs.Runs.{ChunkIs, RunIs}
-use Rattle.studio_walk.proofs.Contexts.{context-inside}
+use Rattle.studio_walk.proofs.Contexts.{context-inside, own-bytes, bound-small}
 use Rattle.studio_walk.proofs.Parts.{bytes-slice, PartsAt, EnteredAt, step-parts}
 use Rattle.studio_walk.proofs.Chunks.{Entering, entering, Ran-well, run-refused, run-accepted, chunk-refused, chunk-shut, chunk-done}
 
@@ -32,13 +32,13 @@ pub record Opened (s : List ℕ) (at end : ℕ) (q : Parent) (seen ms ms₁ : Li
   pub ends : end ≤ length s
   pub small : length s < 2 ^ 32
   pub are-bytes : Bytes s
-  pub head : HeadIs at (step q seen at (slice at end s)) (Head.Enter id row word from past)
+  pub head : HeadIs q seen at (step q seen at (slice at end s)) (Head.Enter id row word from past)
   pub marks : MarksAre at (step q seen at (slice at end s)) ms ms₁
   pub within : HeadWithin at end (Head.Enter id row word from past)
 
 module _ {s : List ℕ} {at end : ℕ} {q : Parent} {seen ms ms₁ : List ℕ} {id row word from past : ℕ} (o : Opened s at end q seen ms ms₁ id row word from past) where
-  pub ent : Entering q at (step q seen at (slice at end s)) id row word from past
-  ent = entering q at (step q seen at (slice at end s)) id row word from past (o .head)
+  pub ent : Entering q seen at (step q seen at (slice at end s)) id row word from past
+  ent = entering q seen at (step q seen at (slice at end s)) id row word from past (o .head)
 
   says : Entered q seen (slice at end s) id (ent .own) (ent .kids) (ent .rest)
   says = subst (Says q seen (slice at end s)) (ent .is) (step-says q seen at (slice at end s) (bytes-slice s at end (o .are-bytes)))
@@ -51,16 +51,16 @@ module _ {s : List ℕ} {at end : ℕ} {q : Parent} {seen ms ms₁ : List ℕ} {
 
   -- its children are walked in it
   pub inner-context : Context (inside q seen id (ent .own)) [] row word noMarks
-  inner-context = context-inside q seen id (ent .own) row word (under-listed (q .id) id (says .lawful .in-place)) (ent .row-is) record { is = ent .word-is; small = o .within .3 }
+  inner-context = context-inside q seen id (ent .own) row word (under-listed (q .id) id (says .lawful .in-place)) (ent .row-is) record { is = ent .word-is; small = rw (ent .word-is) (bound-small q seen id (ent .own) (own-bytes says (bytes-slice s at end (o .are-bytes)))) }
 
   inner-walk : walk (inside q seen id (ent .own)) [] (at + (6 + length (ent .own))) (ent .kids) ≡ walk (inside q seen id (ent .own)) [] from (slice from past s)
   inner-walk = ap (walk (inside q seen id (ent .own)) [] (at + (6 + length (ent .own)))) kids-are ∙ ap (λ (k : ℕ). walk (inside q seen id (ent .own)) [] k (slice from past s)) (sym (ent .from-is))
 
-  marks-are : ms₁ ≡ set ms (slotOf id) at
+  marks-are : ms₁ ≡ noted (slotOf id) at ms
   marks-are = subst (λ (x : Step). MarksAre at x ms ms₁) (ent .is) (o .marks)
 
   -- back to the step and the marks as they are
-  whole : (z : Ran) → ChunkIs q seen at (enter id (ent .own) (ent .kids) (ent .rest)) z ms (set ms (slotOf id) at) → ChunkIs q seen at (step q seen at (slice at end s)) z ms ms₁
+  whole : (z : Ran) → ChunkIs q seen at (enter id (ent .own) (ent .kids) (ent .rest)) z ms (noted (slotOf id) at ms) → ChunkIs q seen at (step q seen at (slice at end s)) z ms ms₁
   whole z h = subst (λ (x : Step). ChunkIs q seen at x z ms ms₁) (sym (ent .is)) (subst (ChunkIs q seen at (enter id (ent .own) (ent .kids) (ent .rest)) z ms) (sym marks-are) h)
 
   stays : past ≤ length s
@@ -74,9 +74,10 @@ module _ {s : List ℕ} {at end : ℕ} {q : Parent} {seen ms ms₁ : List ℕ} {
     pub are : RunIs past 0 0 from noMarks (walk (inside q seen id (ent .own)) [] from (slice from past s)) r inner
 
   -- by what is known of that run in any context
-  pub children : {r z : Ran} {inner : List ℕ} → ((p : Parent) (before : List ℕ) → Context p before row word noMarks → RunIs past 0 0 from noMarks (walk p before from (slice from past s)) r inner) → r ≡ z → Children z inner
-  children {inner = inner} h e =
-      record { are = subst (λ (x : Ran). RunIs past 0 0 from noMarks (walk (inside q seen id (ent .own)) [] from (slice from past s)) x inner) e (h (inside q seen id (ent .own)) [] inner-context) }
+  pub children : {r z : Ran} {inner : List ℕ} {asMany : Bool} → RuleIs q asMany →
+      ((p : Parent) (before : List ℕ) → RuleIs p asMany → Context p before row word noMarks → RunIs past 0 0 from noMarks (walk p before from (slice from past s)) r inner) → r ≡ z → Children z inner
+  children {inner = inner} rule h e =
+      record { are = subst (λ (x : Ran). RunIs past 0 0 from noMarks (walk (inside q seen id (ent .own)) [] from (slice from past s)) x inner) e (h (inside q seen id (ent .own)) [] rule inner-context) }
 
   pub enter-refused : {y : Refusal} {inner : List ℕ} → Children (Ran.Refused y) inner → ChunkIs q seen at (step q seen at (slice at end s)) (Ran.Refused y) ms ms₁
   enter-refused {y} {inner} h =
@@ -94,9 +95,9 @@ module _ {s : List ℕ} {at end : ℕ} {q : Parent} {seen ms ms₁ : List ℕ} {
     enter-placed i = mesh-placed (inside q seen id (ent .own)) i (well .t) s from past inner (well .kept)
 
     -- what the end of the chunk was found to be
-    module _ (shut : Shut) (ends : (p : Parent) (t : Run) (stop : ℕ) → p .id ≡ id → Kept p t s (at + (6 + length (p .own))) stop inner → ShutIs (broken (endConditions p at t)) shut) where
+    module _ {asMany : Bool} (rule : RuleIs q asMany) (shut : Shut) (ends : EndIs s id at asMany inner shut) where
       at-end : ShutIs (broken (endConditions (inside q seen id (ent .own)) at (well .t))) shut
-      at-end = ends (inside q seen id (ent .own)) (well .t) past refl kept
+      at-end = ends (inside q seen id (ent .own)) (well .t) past refl rule kept
 
       pub enter-shut : {y : Refusal} → shut ≡ Shut.Fault y → ChunkIs q seen at (step q seen at (slice at end s)) (Ran.Refused y) ms ms₁
       enter-shut {y} e =

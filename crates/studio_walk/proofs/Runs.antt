@@ -3,7 +3,7 @@ use mathlib.Core.Path.{_≡_, refl, sym, ap, _∙_, subst}
 use mathlib.Core.List.{List, [], _∷_}
 use Prim.Native.Nat.{ℕ, suc, _+_, _≤_, _<_}
 use native.Mathlib.Omega.{arith}
-use lib.ListN.{length, take, set, drop-of-length-le, length-take}
+use lib.ListN.{length, take, drop-of-length-le, length-take}
 use lib.Seq.{slice}
 use Rattle.shared_words.specs.declared.Refusal.{Refusal}
 use Rattle.shared_words.specs.Bytes.{Bytes}
@@ -17,6 +17,7 @@ use Rattle.studio_rules.proofs.Steps.{Says, step-says}
 use Rattle.studio_rules.proofs.Fuel.{walk-nil}
 use Rattle.studio_row.specs.Packed.{slotOf}
 use Rattle.studio_walk.specs.declared.Ran.{Ran}
+use Rattle.studio_marks.specs.Marks.{noted}
 use Rattle.studio_head.specs.Contexts.{Context}
 use Rattle.studio_walk.specs.Runs.{ClosedIs, ChunkIs, RunIs}
 use Rattle.studio_walk.proofs.Contexts.{context-next}
@@ -34,7 +35,7 @@ module _ (end records skips at : ℕ) (ms : List ℕ) (r : Ran) (ms′ : List �
 
   -- a known chunk, and the rest
   known-on : (id : ℕ) (own kids : List ℕ) (t : Run) → size t ≡ length kids → (a : Answer Run) →
-      RunIs end (records + (recordCount t + 1)) (skips + skipped t) (at + (6 + length own + length kids)) (set ms (slotOf id) at) a r ms′ →
+      RunIs end (records + (recordCount t + 1)) (skips + skipped t) (at + (6 + length own + length kids)) (noted (slotOf id) at ms) a r ms′ →
       RunIs end records skips at ms (withKnown id own (accepted t) a) r ms′
   known-on id own kids t z (refused x) h = h
   known-on id own kids t z (accepted u) h =
@@ -59,10 +60,10 @@ module _ (p : Parent) (seen : List ℕ) (s : List ℕ) (at end : ℕ) (ms : List
     pub context : Context p seen′ row word ms₁
     pub tells : (records skips : ℕ) (r : Ran) (ms′ : List ℕ) → RunIs end (records + n) (skips + k) next ms₁ (walk p seen′ next (slice next end s)) r ms′ → RunIs end records skips at ms whole r ms′
 
-  run-goes-on : (row word : ℕ) → Context p seen row word ms → length ms ≡ 5 → 1 ≤ at → (x : Step) → Says p seen (slice at end s) x → PartsAt s at end x → (next n k : ℕ) (ms₁ : List ℕ) →
+  run-goes-on : (row word : ℕ) → Context p seen row word ms → length ms ≡ 6 → 1 ≤ at → (x : Step) → Says p seen (slice at end s) x → PartsAt s at end x → (next n k : ℕ) (ms₁ : List ℕ) →
       ChunkIs p seen at x (Ran.Done next n k) ms ms₁ → GoesOn row word (taken walk p seen at x) next n k ms₁
-  run-goes-on row word c five o (stop z) g f next n k ms₁ h = absurd (clash (cc))
-  run-goes-on row word c five o (pass id body rest) g f next n k ms₁ h =
+  run-goes-on row word c six o (stop z) g f next n k ms₁ h = absurd (clash (cc))
+  run-goes-on row word c six o (pass id body rest) g f next n k ms₁ h =
       let q = h .0 in
       let next-is : next ≡ at + (6 + length body) = cc in
       let n-is : n ≡ 0 = cc in
@@ -75,7 +76,7 @@ module _ (p : Parent) (seen : List ℕ) (s : List ℕ) (at end : ℕ) (ms : List
             (rw (f .rest-is) (subst (λ (m : List ℕ). RunIs end (records + 0) (skips + (6 + length body)) (at + (6 + length body)) m (walk p seen (at + (6 + length body)) (slice (at + (6 + length body)) end s)) r ms′) (h .1)
             (rw (n-is, k-is, next-is) at t)));
       }
-  run-goes-on row word c five o (enter id own kids rest) g f next n k ms₁ h = go (ended (inside p seen id own) at (walk (inside p seen id own) [] (at + (6 + length own)) kids)) (h .0)
+  run-goes-on row word c six o (enter id own kids rest) g f next n k ms₁ h = go (ended (inside p seen id own) at (walk (inside p seen id own) [] (at + (6 + length own)) kids)) (h .0)
       (ended-closes (inside p seen id own) at kids (walk (inside p seen id own) [] (at + (6 + length own)) kids) (walk-tells (inside p seen id own) [] (at + (6 + length own)) kids (g .kids-bytes)))
     where
       go : (a : Answer Run) → ClosedIs (at + (6 + length own + length kids)) a (Ran.Done next n k) → Closes (inside p seen id own) kids a →
@@ -87,7 +88,7 @@ module _ (p : Parent) (seen : List ℕ) (s : List ℕ) (at end : ℕ) (ms : List
           let k-is : k ≡ skipped t = cc in
           record {
             seen′ = id ∷ seen;
-            context = rw (h .1) (context-next p seen row word ms c five id (g .lawful .in-place) (g .lawful .not-twice) at o);
+            context = rw (h .1) (context-next p seen row word ms c six id (g .lawful .in-place) (g .lawful .not-twice) at o);
             tells = λ records skips r ms′ w.
                 known-on end records skips at ms r ms′ id own kids t (sym (length-bytes t) ∙ ap length (v .is)) (walk p (id ∷ seen) (at + (6 + length own + length kids)) rest)
                 (rw (f .rest-is) (subst (λ (m : List ℕ). RunIs end (records + (recordCount t + 1)) (skips + skipped t) (at + (6 + length own + length kids)) m (walk p (id ∷ seen) (at + (6 + length own + length kids)) (slice (at + (6 + length own + length kids)) end s)) r ms′) (h .1)
@@ -102,11 +103,11 @@ module _ (p : Parent) (seen s : List ℕ) (at end : ℕ) (ms : List ℕ) (o : at
   pub stops-here : (records skips : ℕ) (y : Refusal) (ms₁ : List ℕ) → ChunkIs p seen at (step p seen at (slice at end s)) (Ran.Refused y) ms ms₁ → RunIs end records skips at ms (walk p seen at (slice at end s)) (Ran.Refused y) ms₁
   stops-here records skips y ms₁ h = begun records skips (Ran.Refused y) ms₁ (run-stops p seen s at end ms records skips ms₁ (step p seen at (slice at end s)) y ms₁ h)
 
-  pub goes-on : (row word : ℕ) → Context p seen row word ms → length ms ≡ 5 → 1 ≤ at → Bytes s → (next n k : ℕ) (ms₁ : List ℕ) → ChunkIs p seen at (step p seen at (slice at end s)) (Ran.Done next n k) ms ms₁ →
+  pub goes-on : (row word : ℕ) → Context p seen row word ms → length ms ≡ 6 → 1 ≤ at → Bytes s → (next n k : ℕ) (ms₁ : List ℕ) → ChunkIs p seen at (step p seen at (slice at end s)) (Ran.Done next n k) ms ms₁ →
       GoesOn p seen s at end ms row word (walk p seen at (slice at end s)) next n k ms₁
-  goes-on row word c five z b next n k ms₁ h =
+  goes-on row word c six z b next n k ms₁ h =
       let says = step-says p seen at (slice at end s) (bytes-slice s at end b) in
-      let g = run-goes-on p seen s at end ms row word c five z (step p seen at (slice at end s)) says (step-parts s at end o l p seen b) next n k ms₁ h in
+      let g = run-goes-on p seen s at end ms row word c six z (step p seen at (slice at end s)) says (step-parts s at end o l p seen b) next n k ms₁ h in
       record { seen′ = g .seen′; context = g .context; tells = λ records skips r ms′ t. begun records skips r ms′ (g .tells records skips r ms′ t) }
 
 -- the end of a run

@@ -1,21 +1,22 @@
 -- What a chunk and a run come to, as the rules' walk answers it: numbers for the layout that it gives.
 use mathlib.Core.Path.{_≡_}
+use mathlib.Core.Bool.{Bool}
 use mathlib.Core.List.{List, []}
 use Prim.Native.Nat.{ℕ, _+_, _*_, _-_, _≤_, _<_}
-use lib.ListN.{length, set}
+use lib.ListN.{length}
 use Rattle.studio_rules.specs.Rules.{Parent, inside}
 use Rattle.studio_rules.specs.Gives.{recordCount, skipped}
 use Rattle.shared_words.specs.Conditions.{Answer, refused, accepted}
 use Rattle.studio_rules.specs.Walk.{Step, stop, pass, enter, ended, walk}
 use Rattle.studio_row.specs.Packed.{slotOf}
-use Rattle.studio_marks.specs.Marks.{marksAfter}
+use Rattle.studio_marks.specs.Marks.{noted, marksAfter, RuleIs}
 use Rattle.studio_head.specs.Contexts.{Context}
 use Rattle.studio_walk.specs.declared.Ran.{Ran}
 use Rattle.studio_rules.specs.Layout.{Run}
 
 -- the code stands in some run
-abbrev pub SomeContext : ℕ → ℕ → List ℕ → Type 0
-SomeContext row word marks = (p : Parent) × (seen : List ℕ) × Context p seen row word marks
+abbrev pub SomeContext : ℕ → ℕ → Bool → List ℕ → Type 0
+SomeContext row word asMany marks = (p : Parent) × (seen : List ℕ) × RuleIs p asMany × Context p seen row word marks
 
 -- the answer to a chunk's children, at its end
 abbrev pub ClosedIs : ℕ → Answer Run → Ran → Type 0
@@ -27,7 +28,7 @@ abbrev pub ChunkIs : Parent → List ℕ → ℕ → Step → Ran → List ℕ �
 ChunkIs p seen at (stop x) r marks marks′ = r ≡ Ran.Refused x
 ChunkIs p seen at (pass id body rest) r marks marks′ = (r ≡ Ran.Done (at + (6 + length body)) 0 (6 + length body)) × (marks′ ≡ marks)
 ChunkIs p seen at (enter id own kids rest) r marks marks′ =
-    ClosedIs (at + (6 + length own + length kids)) (ended (inside p seen id own) at (walk (inside p seen id own) [] (at + (6 + length own)) kids)) r × (marks′ ≡ set marks (slotOf id) at)
+    ClosedIs (at + (6 + length own + length kids)) (ended (inside p seen id own) at (walk (inside p seen id own) [] (at + (6 + length own)) kids)) r × (marks′ ≡ noted (slotOf id) at marks)
 
 -- a run from o to `end`, where so many records and skipped bytes came before it
 abbrev pub RunIs : ℕ → ℕ → ℕ → ℕ → List ℕ → Answer Run → Ran → List ℕ → Type 0

@@ -12,6 +12,7 @@ ghost use lib.Seq.{slice};
 ghost use Rattle.studio_rules.specs.Rules.{Parent};
 ghost use Rattle.studio_rules.specs.Walk.{step, walk};
 ghost use Rattle.studio_lookup.specs.Slots.{slots};
+ghost use Rattle.studio_marks.specs.Marks.{RuleIs};
 ghost use Rattle.studio_head.specs.Contexts.{Room, Context};
 ghost use Rattle.studio_walk.specs.Runs.{SomeContext, ChunkIs, ChunkWithin, RunIs, RunWithin};
 
@@ -25,19 +26,21 @@ pub enum Ran {
     },
 }
 
-// The chunk at at. Its children leave marks of their own, by which it is judged at its end.
+// The chunk at at, in a file in whose meshes mapping pairs are as many as vertices, or at most as many. Its children leave
+// marks of their own, by which it is judged at its end.
 fn chunk(
     file: &[u8],
     table: &[u64; 128],
     parent: u64,
     count: u32,
+    as_many: bool,
     at: usize,
     end: usize,
     marks: &mut [u32],
 ) -> Ran
-    requires { ⌜ (at < end) × (1 ≤ at) × Room end count (now file) (now marks) × SomeContext parent count (now marks) × (now table ≡ slots) ⌝ }
-    ensures is { λ r. ⌜ ((p : Parent) (seen : List ℕ) → Context p seen parent count (now (marks .entry)) → ChunkIs p seen at (step p seen at (slice at end (now (file .entry)))) r (now (marks .entry)) (now (marks .exit))) ⌝ }
-    ensures five { λ r. ⌜ length (now (marks .exit)) ≡ 5 ⌝ }
+    requires { ⌜ (at < end) × (1 ≤ at) × Room end count (now file) (now marks) × SomeContext parent count as_many (now marks) × (now table ≡ slots) ⌝ }
+    ensures is { λ r. ⌜ ((p : Parent) (seen : List ℕ) → RuleIs p as_many → Context p seen parent count (now (marks .entry)) → ChunkIs p seen at (step p seen at (slice at end (now (file .entry)))) r (now (marks .entry)) (now (marks .exit))) ⌝ }
+    ensures six { λ r. ⌜ length (now (marks .exit)) ≡ 6 ⌝ }
     ensures within { λ r. ⌜ ChunkWithin at end r ⌝ }
 {
     match studio_head::look(file, table, parent, count, at, end, marks) {
@@ -59,14 +62,14 @@ fn chunk(
             from,
             stop,
         } => {
-            let mut inner = [0u32; 5];
-            match run(file, table, row, word, from, stop, &mut inner) {
+            let mut inner = [0u32; 6];
+            match run(file, table, row, word, as_many, from, stop, &mut inner) {
                 Ran::Refused(r) => Ran::Refused(r),
                 Ran::Done {
                     next: _,
                     records,
                     skipped,
-                } => match studio_marks::at_end(file, id, at, &inner) {
+                } => match studio_marks::at_end(file, id, at, as_many, &inner) {
                     Shut::Fault(r) => Ran::Refused(r),
                     Shut::Fine => Ran::Done {
                         next: stop,
@@ -85,20 +88,21 @@ pub fn run(
     table: &[u64; 128],
     parent: u64,
     count: u32,
+    as_many: bool,
     at: usize,
     end: usize,
     marks: &mut [u32],
 ) -> Ran
-    requires { ⌜ (at ≤ end) × (1 ≤ at) × Room end count (now file) (now marks) × SomeContext parent count (now marks) × (now table ≡ slots) ⌝ }
-    ensures is { λ r. ⌜ ((p : Parent) (seen : List ℕ) → Context p seen parent count (now (marks .entry)) → RunIs end 0 0 at (now (marks .entry)) (walk p seen at (slice at end (now (file .entry)))) r (now (marks .exit))) ⌝ }
-    ensures five { λ r. ⌜ length (now (marks .exit)) ≡ 5 ⌝ }
+    requires { ⌜ (at ≤ end) × (1 ≤ at) × Room end count (now file) (now marks) × SomeContext parent count as_many (now marks) × (now table ≡ slots) ⌝ }
+    ensures is { λ r. ⌜ ((p : Parent) (seen : List ℕ) → RuleIs p as_many → Context p seen parent count (now (marks .entry)) → RunIs end 0 0 at (now (marks .entry)) (walk p seen at (slice at end (now (file .entry)))) r (now (marks .exit))) ⌝ }
+    ensures six { λ r. ⌜ length (now (marks .exit)) ≡ 6 ⌝ }
     ensures within { λ r. ⌜ RunWithin at end r ⌝ }
 {
     let mut p = at;
     let mut records = 0usize;
     let mut skipped = 0usize;
     while p < end {
-        match chunk(file, table, parent, count, p, end, marks) {
+        match chunk(file, table, parent, count, as_many, p, end, marks) {
             Ran::Refused(r) => return Ran::Refused(r),
             Ran::Done {
                 next,

@@ -13,9 +13,8 @@ use Rattle.studio_rules.specs.declared.Tabled.{Tabled}
 use Rattle.studio_rules.specs.OwnData.{count, vertexNumbers, faceCorners}
 use Rattle.studio_rules.specs.Layout.{figure, bytes}
 use Rattle.studio_rules.specs.Rules.{allBelow, Meets}
-use Rattle.shared_words.specs.Encodings.{floatRow, plainRow}
 use Rattle.shared_words.specs.Effects.{Effect, leaving, filled}
-use Rattle.studio_rules.specs.Calls.{Rows, tablesOf}
+use Rattle.studio_rules.specs.Calls.{Rows, inNumbers, tablesOf}
 use Rattle.shared_words.proofs.Bools.{every-weaker}
 use Rattle.shared_words.proofs.Bytes.{value-le}
 use Rattle.studio_rules.proofs.Verdict.{verdict-good}
@@ -61,13 +60,13 @@ module _ (name : List ℕ) (vertices : List Float) (corners : List ℕ) (room si
       corners-below = rw (vertex-count, face-corners) (r .below);
     }
 
-    tables-are : (rows : Rows Float ℕ) → length vertices ≤ length (rows .vertices) → length corners ≤ length (rows .corners) →
-        tablesOf floatRow plainRow rows (mesh (nameData name) (vertexData vertices) (faceData corners)) ≡
-        leaving (Tabled.Filled record { vertices = triples vertices; faces = triples corners })
-        record { vertices = filled vertices (rows .vertices); corners = filled corners (rows .corners) }
+    tables-are : (rows : Rows Float ℕ Float) → length vertices ≤ length (rows .vertices) → length corners ≤ length (rows .corners) →
+        tablesOf inNumbers rows (mesh (nameData name) (vertexData vertices) (faceData corners)) ≡
+        leaving (Tabled.Filled record { vertices = triples vertices; faces = triples corners; pairs = 0 })
+        record { vertices = filled vertices (rows .vertices); corners = filled corners (rows .corners); mapping = rows .mapping }
     tables-are rows v c =
         let fits : length (map (toBits binary32) vertices) ≤ length (rows .vertices) = omega (arith, length-map vertices (toBits binary32)) in
-        rw (vertex-numbers, face-corners, vertex-count, face-count, le-leb _ _ fits, le-leb (length corners) (length (rows .corners)) c, floats-back vertices f)
+        rw (vertex-numbers, face-corners, vertex-count, face-count, le-leb _ _ fits, le-leb (length corners) (length (rows .corners)) c, le-leb 0 (length (rows .mapping)) (omega arith), floats-back vertices f)
 
     meets : Meets (bytes (figure (bare name vertices corners))) (bare name vertices corners)
     meets = record {

@@ -17,14 +17,13 @@ use Rattle.shared_words.specs.Floats.{finite}
 use Rattle.shared_words.specs.Labels.{fitsLabel}
 use Rattle.studio_rules.specs.OwnData.{nameSize, count, text, vertexNumbers, faceCorners}
 use Rattle.studio_rules.specs.Layout.{Run, figure}
-use Rattle.studio_rules.specs.Rules.{Parent, file, inPlace, notTwice, namesFit, ownDataExact, numbersFinite, faceNumbersBelow, allBelow, childrenInPlus, noneMissing, cornersBelow, mappingMatches, Own, Children, Obeys}
+use Rattle.studio_rules.specs.Rules.{Parent, file, inPlace, notTwice, namesFit, ownDataExact, numbersFinite, faceNumbersBelow, fatherEarlier, allBelow, childrenInPlus, noneMissing, cornersBelow, mappingMatches, Own, Children, Obeys}
 use Rattle.studio_rules.specs.Gives.{recordNumbers, owned, Mesh}
 use Rattle.shared_words.specs.Conditions.{accepted}
 use Rattle.studio_rules.specs.Walk.{verdict}
-use Rattle.shared_words.specs.Encodings.{floatRow, plainRow}
 use Rattle.studio_rules.specs.Encodings.{flatRecords}
 use Rattle.shared_words.specs.Effects.{leaving, filled}
-use Rattle.studio_rules.specs.Calls.{listOf, listCall, ofMesh, Rows, tablesOf, tablesCall, nameOf, nameCall}
+use Rattle.studio_rules.specs.Calls.{listOf, listCall, ofMesh, Rows, inNumbers, tablesOf, tablesCall, nameOf, nameCall}
 use Rattle.shared_words.proofs.Bools.{both, and-parts}
 use Rattle.studio_write_bytes.specs.Bare.{sixChunks}
 use Rattle.studio_write.specs.ReadsBack.{sixRecords}
@@ -32,8 +31,8 @@ use Rattle.studio_write.specs.ReadsBack.{sixRecords}
 -- the rules of one chunk and of its children, in the order of the records
 own-obeys : {p : Parent} {seen : List ℕ} {id : ℕ} {own : List ℕ} →
     inPlace p id own ≡ true → notTwice p seen id ≡ true → namesFit p id own ≡ true → ownDataExact p id own ≡ true → numbersFinite p id own ≡ true →
-    faceNumbersBelow p id own ≡ true → Own p seen id own
-own-obeys a b c d e f = record { in-place = a; not-twice = b; names-fit = c; own-data-exact = d; numbers-finite = e; face-numbers-below = f }
+    faceNumbersBelow p id own ≡ true → fatherEarlier p id own ≡ true → Own p seen id own
+own-obeys a b c d e f g = record { in-place = a; not-twice = b; names-fit = c; own-data-exact = d; numbers-finite = e; face-numbers-below = f; father-earlier = g }
 
 children-obey : {q : Parent} {kids : Run} → childrenInPlus q kids ≡ true → noneMissing q kids ≡ true → cornersBelow q kids ≡ true → mappingMatches q kids ≡ true → Children q kids
 children-obey a b c d = record { in-plus = a; none-missing = b; corners-below = c; mapping-matches = d }
@@ -51,16 +50,16 @@ module _ (name vertices faces : List ℕ) where
   pub obeys : Exact → Obeys (file 0) [] (figure (sixChunks name vertices faces))
   unfolding every rows atMostOne atLeastOne under shape plus limits needs
   obeys x =
-      let top = own-obeys refl refl refl refl refl refl in
+      let top = own-obeys refl refl refl refl refl refl refl in
       let in-figure = children-obey refl refl refl refl in
-      let scene = own-obeys refl refl refl refl refl refl in
+      let scene = own-obeys refl refl refl refl refl refl refl in
       let in-scene = children-obey refl refl refl refl in
-      let object = own-obeys refl refl (x .name-fits) (eq-eqb _ _ (x .name-ends)) refl refl in
+      let object = own-obeys refl refl (x .name-fits) (eq-eqb _ _ (x .name-ends)) refl refl refl in
       let in-object = children-obey refl refl refl refl in
-      let mesh = own-obeys refl refl refl refl refl refl in
+      let mesh = own-obeys refl refl refl refl refl refl refl in
       let in-mesh = children-obey refl refl (x .corners-below) refl in
-      let vertex-list = own-obeys refl refl refl (eq-eqb _ _ (x .vertices-exact)) (both _ _ (x .numbers-finite) refl) refl in
-      let face-list = own-obeys refl refl refl (eq-eqb _ _ (x .faces-exact)) refl refl in
+      let vertex-list = own-obeys refl refl refl (eq-eqb _ _ (x .vertices-exact)) (both _ _ (x .numbers-finite) refl) refl refl in
+      let face-list = own-obeys refl refl refl (eq-eqb _ _ (x .faces-exact)) refl refl refl in
       let no-children = children-obey refl refl refl refl in
       let no-children′ = children-obey refl refl refl refl in
       (top, in-figure, (scene, in-scene, (object, in-object, (mesh, in-mesh, (vertex-list, no-children, tt, (face-list, no-children′, tt, tt)), tt), tt), tt), tt)
@@ -89,6 +88,8 @@ module _ (name vertices faces : List ℕ) where
     vertices = vertexNumbers vertices;
     faceCount = count faces;
     corners = faceCorners faces;
+    pairCount = 0;
+    mapping = [];
   }
 
 -- ---- the calls of the reader, of a file that is accepted with this layout
@@ -102,9 +103,9 @@ module _ (s name vertices faces : List ℕ) (e : verdict s ≡ accepted (sixChun
   unfolding nameCall
   no-other k = ap (ofMesh Named.Refused nameOf (suc k)) e
 
-  pub tables-call : (rows : Rows Float ℕ) → tablesCall floatRow plainRow s 0 rows ≡ tablesOf floatRow plainRow rows (mesh name vertices faces)
+  pub tables-call : (rows : Rows Float ℕ Float) → tablesCall inNumbers s 0 rows ≡ tablesOf inNumbers rows (mesh name vertices faces)
   unfolding tablesCall
-  tables-call rows = ap (ofMesh (λ r. leaving (Tabled.Refused r) rows) (tablesOf floatRow plainRow rows) 0) e
+  tables-call rows = ap (ofMesh (λ r. leaving (Tabled.Refused r) rows) (tablesOf inNumbers rows) 0) e
 
   pub list-call : (k n f : ℕ) → length name ≡ 1 + k → length vertices ≡ 2 + 12 * n → length faces ≡ 2 + 8 * f → (row : List ℕ) → 6 * recordNumbers ≤ length row →
       listCall flatRecords s row ≡

@@ -28,9 +28,8 @@ use Rattle.shared_words.specs.Conditions.{accepted}
 use Rattle.studio_rules.specs.Walk.{verdict}
 use Rattle.shared_words.specs.Floats.{float}
 use Rattle.studio_rules.specs.Gives.{Mesh}
-use Rattle.shared_words.specs.Encodings.{floatRow, plainRow}
 use Rattle.shared_words.specs.Effects.{Effect, leaving, filled}
-use Rattle.studio_rules.specs.Calls.{Rows, tablesOf, tablesCall, nameCall}
+use Rattle.studio_rules.specs.Calls.{Rows, inNumbers, sizesOf, rowsWith, tablesOf, tablesCall, nameCall}
 use Rattle.shared_words.proofs.Bools.{both}
 use Rattle.shared_words.proofs.Bytes.{bytes-drop, word-small}
 use Rattle.shared_words.proofs.Conditions.{Met}
@@ -98,21 +97,25 @@ own-bytes name vertices faces b =
 
 -- ---- what the reader's calls fill
 
-module _ (rows : Rows Float ℕ) (m : Mesh) where
-  abbrev done : Effect Tabled (Rows Float ℕ)
-  done =
-      leaving (Tabled.Filled record { vertices = m .vertexCount; faces = m .faceCount })
-      record { vertices = filled (map float (m .vertices)) (rows .vertices); corners = filled (m .corners) (rows .corners) }
+module _ (rows : Rows Float ℕ Float) (m : Mesh) where
+  abbrev done : Effect Tabled (Rows Float ℕ Float)
+  done = leaving (Tabled.Filled (sizesOf m)) (rowsWith inNumbers rows m)
 
-  filled-rows : (sizes : Sizes) → tablesOf floatRow plainRow rows m .answer ≡ Tabled.Filled sizes → tablesOf floatRow plainRow rows m ≡ done
-  filled-rows sizes e = go (leb (length (m .vertices)) (length (rows .vertices))) (leb (length (m .corners)) (length (rows .corners))) e
+  abbrev no-room : ℕ → Effect Tabled (Rows Float ℕ Float)
+  no-room n = leaving (Tabled.Refused (NoRoom n)) rows
+
+  filled-rows : (sizes : Sizes) → tablesOf inNumbers rows m .answer ≡ Tabled.Filled sizes → tablesOf inNumbers rows m ≡ done
+  filled-rows sizes e = go (leb (length (m .vertices)) (length (rows .vertices))) (leb (length (m .corners)) (length (rows .corners))) (leb (length (m .mapping)) (length (rows .mapping))) e
     where
-      go : (v c : Bool) →
-          cond v (cond c done (leaving (Tabled.Refused (NoRoom (length (m .corners)))) rows)) (leaving (Tabled.Refused (NoRoom (length (m .vertices)))) rows) .answer ≡ Tabled.Filled sizes →
-          cond v (cond c done (leaving (Tabled.Refused (NoRoom (length (m .corners)))) rows)) (leaving (Tabled.Refused (NoRoom (length (m .vertices)))) rows) ≡ done
-      go true true e = refl
-      go true false e = let z : _≡_ {A = ℕ} 0 1 = cc in absurd (omega arith)
-      go false c e = let z : _≡_ {A = ℕ} 0 1 = cc in absurd (omega arith)
+      go : (v c p : Bool) → cond v (cond c (cond p done (no-room (length (m .mapping)))) (no-room (length (m .corners)))) (no-room (length (m .vertices))) .answer ≡ Tabled.Filled sizes →
+          cond v (cond c (cond p done (no-room (length (m .mapping)))) (no-room (length (m .corners)))) (no-room (length (m .vertices))) ≡ done
+      go true true true e = refl
+      go true true false e = let z : _≡_ {A = ℕ} 0 1 = cc in absurd (omega arith)
+      go true false p e = let z : _≡_ {A = ℕ} 0 1 = cc in absurd (omega arith)
+      go false c p e = let z : _≡_ {A = ℕ} 0 1 = cc in absurd (omega arith)
+
+same-sizes : {x y : Sizes} → Tabled.Filled x ≡ Tabled.Filled y → y ≡ x
+same-sizes e = cc
 
 front-name : (own name rest : List ℕ) → own ≡ nameData name → take (length own - 1) (own ++ rest) ≡ name
 front-name own name rest e =
@@ -126,13 +129,13 @@ module _ (s name vertices faces : List ℕ) (e : verdict s ≡ accepted (sixChun
       let q : span ≡ record { offset = 18; size = length name - 1 } = cc (name-call s name vertices faces e) in
       rw q (ap (λ (l : List ℕ). take (length name - 1) (drop 18 l)) (sym is) ∙ ap (take (length name - 1)) (name-place name vertices faces) ∙ front-name name short (behind name vertices faces) n)
 
-  read-tables : (rows : Rows Float ℕ) (sizes : Sizes) → tablesCall floatRow plainRow s 0 rows .answer ≡ Tabled.Filled sizes →
-      (take (3 * sizes .vertices) (tablesCall floatRow plainRow s 0 rows .rows .vertices) ≡ floats vertices) × (take (3 * sizes .faces) (tablesCall floatRow plainRow s 0 rows .rows .corners) ≡ faceCorners faces)
+  read-tables : (rows : Rows Float ℕ Float) (sizes : Sizes) → tablesCall inNumbers s 0 rows .answer ≡ Tabled.Filled sizes →
+      (take (3 * sizes .vertices) (tablesCall inNumbers s 0 rows .rows .vertices) ≡ floats vertices) × (take (3 * sizes .faces) (tablesCall inNumbers s 0 rows .rows .corners) ≡ faceCorners faces)
   read-tables rows sizes f =
       let m = mesh name vertices faces in
       let t = tables-call s name vertices faces e rows in
-      let d : tablesCall floatRow plainRow s 0 rows ≡ done rows m = t ∙ filled-rows rows m sizes (ap (λ (w : Effect Tabled (Rows Float ℕ)). w .answer) (sym t) ∙ f) in
-      let q : sizes ≡ record { vertices = count vertices; faces = count faces } = cc in (
+      let d : tablesCall inNumbers s 0 rows ≡ done rows m = t ∙ filled-rows rows m sizes (ap (λ (w : Effect Tabled (Rows Float ℕ Float)). w .answer) (sym t) ∙ f) in
+      let q : sizes ≡ sizesOf m = same-sizes (ap (λ (w : Effect Tabled (Rows Float ℕ Float)). w .answer) (sym d) ∙ f) in (
         rw (d, q) (take-at (floats vertices) _ (3 * count vertices) (length-floats vertices)),
         rw (d, q) (take-at (faceCorners faces) _ (3 * count faces) (length-corners (count faces) (drop 2 faces))),
       )

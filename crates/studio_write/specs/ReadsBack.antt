@@ -14,11 +14,10 @@ use Rattle.studio_rules.specs.Layout.{figure, bytes}
 use Rattle.studio_rules.specs.Rules.{Meets}
 use Rattle.shared_words.specs.Conditions.{accepted}
 use Rattle.studio_rules.specs.Walk.{verdict}
-use Rattle.shared_words.specs.Encodings.{floatRow, plainRow}
 use Rattle.studio_rules.specs.Gives.{recordNumbers}
 use Rattle.studio_rules.specs.Encodings.{flatRecords}
 use Rattle.shared_words.specs.Effects.{leaving, filled}
-use Rattle.studio_rules.specs.Calls.{listCall, Rows, tablesCall, nameCall}
+use Rattle.studio_rules.specs.Calls.{listCall, Rows, inNumbers, tablesCall, nameCall}
 use Rattle.shared_words.specs.declared.Written.the-variants.{Size}
 use Rattle.studio_write_judge.specs.Judged.{triples, figureSize}
 use Rattle.studio_write_bytes.specs.Bare.{bare}
@@ -55,10 +54,10 @@ pub record ReadsBack (name : List ℕ) (vertices : List Float) (corners s : List
   pub name-at : nameCall s 0 ≡ Named.At record { offset = 18; size = length name }
   pub name-is : take (length name) (drop 18 s) ≡ name
   -- the mesh's tables, bit for bit
-  pub tables : (rows : Rows Float ℕ) → length vertices ≤ length (rows .vertices) → length corners ≤ length (rows .corners) →
-      tablesCall floatRow plainRow s 0 rows ≡
-      leaving (Tabled.Filled record { vertices = triples vertices; faces = triples corners })
-      record { vertices = filled vertices (rows .vertices); corners = filled corners (rows .corners) }
+  pub tables : (rows : Rows Float ℕ Float) → length vertices ≤ length (rows .vertices) → length corners ≤ length (rows .corners) →
+      tablesCall inNumbers s 0 rows ≡
+      leaving (Tabled.Filled record { vertices = triples vertices; faces = triples corners; pairs = 0 })
+      record { vertices = filled vertices (rows .vertices); corners = filled corners (rows .corners); mapping = rows .mapping }
 
 -- WHAT IS WRITTEN READS BACK: for every name, rows and buffer that are not refused, the first `size` bytes of the buffer
 abbrev pub WrittenReadsBack : Type 0

@@ -19,9 +19,8 @@ use Rattle.studio_rules.specs.Layout.{Run, figure}
 use Rattle.shared_words.specs.Conditions.{accepted}
 use Rattle.studio_rules.specs.Walk.{verdict}
 use Rattle.studio_rules.specs.Gives.{list, skipped}
-use Rattle.shared_words.specs.Encodings.{floatRow, plainRow}
 use Rattle.shared_words.specs.Effects.{leaving, filled}
-use Rattle.studio_rules.specs.Calls.{Rows, tablesCall, nameCall}
+use Rattle.studio_rules.specs.Calls.{Rows, inNumbers, tablesCall, nameCall}
 use Rattle.shared_words.specs.declared.Written.the-variants.{Size}
 use Rattle.studio_write_bytes.specs.Bare.{sixChunks}
 use Rattle.studio_write.specs.Write.{writeCall}
@@ -47,11 +46,11 @@ pub record WereRead (s name : List ℕ) (vertices : List Float) (corners : List 
   pub span : Span
   pub name-at : nameCall s 0 ≡ Named.At span
   pub name-is : name ≡ take (span .size) (drop (span .offset) s)
-  pub rows : Rows Float ℕ
+  pub rows : Rows Float ℕ Float
   pub sizes : Sizes
-  pub rows-filled : tablesCall floatRow plainRow s 0 rows .answer ≡ Tabled.Filled sizes
-  pub vertices-are : vertices ≡ take (3 * sizes .vertices) (tablesCall floatRow plainRow s 0 rows .rows .vertices)
-  pub corners-are : corners ≡ take (3 * sizes .faces) (tablesCall floatRow plainRow s 0 rows .rows .corners)
+  pub rows-filled : tablesCall inNumbers s 0 rows .answer ≡ Tabled.Filled sizes
+  pub vertices-are : vertices ≡ take (3 * sizes .vertices) (tablesCall inNumbers s 0 rows .rows .vertices)
+  pub corners-are : corners ≡ take (3 * sizes .faces) (tablesCall inNumbers s 0 rows .rows .corners)
 
 -- WRITING AGAIN gives the same file, where there is room for it
 abbrev pub WritesAgain : Type 0

@@ -3,25 +3,31 @@ use c_codes::checked_code;
 use studio_rules::Record;
 ghost use mathlib.Core.Path.{_≡_};
 ghost use Prim.Native.Nat.{_/_, _%_};
-ghost use Rattle.shared_words.specs.Encodings.{numberBytes};
-ghost use Rattle.studio_rules.specs.Encodings.{recordBytes};
-ghost use Rattle.studio_rules.specs.Calls.{checkCall, listCall, tablesCall, nameCall, boxCall};
+ghost use Rattle.studio_rules.specs.Encodings.{recordBytes, partBytes};
+ghost use Rattle.studio_rules.specs.Calls.{checkCall, listCall, inBytes, mappingInBytes, tablesCall, nameCall, boxCall, partsCall};
 ghost use Rattle.studio_list_table.specs.Listed.{inTable, inRow};
-ghost use Rattle.studio_mesh_tables.specs.Rows.{rows};
+ghost use Rattle.shared_words.specs.Encodings.{numberBytes};
+ghost use Rattle.studio_mesh_tables.specs.Rows.{twoRows, mappingRow};
 ghost use Rattle.studio_write.specs.Write.{writeCall};
 ghost use Rattle.c_version.specs.Version.{versionCode};
-ghost use Rattle.c_codes.specs.Codes.{recordsOr, sizesOr, sizeOr};
+ghost use Rattle.c_codes.specs.Codes.{recordsOr, sizesOr, numbersOr, sizeOr};
 ghost use Rattle.c_answers.specs.Given.{countsGiven, nameGiven, boxGiven};
+ghost use Rattle.c4d_rules.specs.Calls.{objectBytes, twoRows as objectRows, c4dCheckCall, c4dListCall};
+ghost use Rattle.c_c4d.specs.Codes.{objectsOr};
 ghost use Rattle.slip_sums.specs.Fletcher.{sumOf};
 ghost use Rattle.slip_sums.specs.Passes.{sumsCall, matchOf};
 ghost use Rattle.slip_rules.specs.Calls.{byteRow, slipReadCall, givenBytes, slipWriteCall};
+ghost use Rattle.cob_rules.specs.Calls.{checkCall as cobCheckCall, listCall as cobListCall, sizesCall as cobSizesCall, tablesCall as cobTablesCall, recordBytes as cobRecords};
+ghost use Rattle.cob_tables.specs.Rows.{rows as cobRows};
 ghost use Rattle.c_slip.specs.Codes.{entriesOr};
+ghost use Rattle.c_parts.specs.Codes.{partsOr};
+ghost use Rattle.c_cob.specs.Codes.{countOr};
 ghost use Rattle.c_sums.specs.Numbers.{sumsOr, zeroOr, sumIn, withPartNumber, joinNumbers};
 
 // The version of the library.
 #[no_mangle]
 pub extern "C" fn tds_version() -> u64
-    ensures { λ n. ⌜ n ≡ versionCode 2 0 0 ⌝ }
+    ensures { λ n. ⌜ n ≡ versionCode 2 4 0 ⌝ }
 {
     c_version::version()
 }
@@ -56,10 +62,19 @@ pub extern "C" fn tds_records(file: &[u8], row: &mut [u32], table: &mut [Record]
 // The vertices plus 65,536 times the faces of a mesh, whose tables now stand in the front of the slices, or a refusal.
 #[no_mangle]
 pub extern "C" fn tds_tables(file: &[u8], mesh: u32, vertices: &mut [u8], corners: &mut [u8]) -> u64
-    ensures answer { λ n. ⌜ n ≡ sizesOr (tablesCall (numberBytes 4) (numberBytes 2) (now (file .entry)) mesh (rows (now (vertices .entry)) (now (corners .entry))) .answer) ⌝ }
-    ensures rows { λ _. ⌜ rows (now (vertices .exit)) (now (corners .exit)) ≡ tablesCall (numberBytes 4) (numberBytes 2) (now (file .entry)) mesh (rows (now (vertices .entry)) (now (corners .entry))) .rows ⌝ }
+    ensures answer { λ n. ⌜ n ≡ sizesOr (tablesCall inBytes (now (file .entry)) mesh (twoRows (now (vertices .entry)) (now (corners .entry))) .answer) ⌝ }
+    ensures rows { λ _. ⌜ twoRows (now (vertices .exit)) (now (corners .exit)) ≡ tablesCall inBytes (now (file .entry)) mesh (twoRows (now (vertices .entry)) (now (corners .entry))) .rows ⌝ }
 {
     c_codes::tabled_code(studio_mesh_tables::tables_bytes(file, mesh, vertices, corners))
+}
+
+// How many numbers the mapping of a mesh has, which now stands in the front of the slice, or a refusal.
+#[no_mangle]
+pub extern "C" fn tds_mapping(file: &[u8], mesh: u32, mapping: &mut [u8]) -> u64
+    ensures answer { λ n. ⌜ n ≡ numbersOr (tablesCall mappingInBytes (now (file .entry)) mesh (mappingRow (now (mapping .entry))) .answer) ⌝ }
+    ensures row { λ _. ⌜ mappingRow (now (mapping .exit)) ≡ tablesCall mappingInBytes (now (file .entry)) mesh (mappingRow (now (mapping .entry))) .rows ⌝ }
+{
+    c_codes::mapped_code(studio_mesh_tables::mapping_bytes(file, mesh, mapping))
 }
 
 // The three byte counts, or a refusal.
@@ -87,6 +102,15 @@ pub extern "C" fn tds_box(file: &[u8], mesh: u32, out: &mut [u8]) -> u64
     ensures out { λ _. ⌜ now (out .exit) ≡ boxGiven (now (out .entry)) (boxCall (now (file .entry)) mesh) .rows ⌝ }
 {
     c_answers::give_box(studio_mesh_calls::bounding_box(file, mesh), out)
+}
+
+// The count of parts whose fathers and depths now stand in the front of the slice, 8 bytes each, or a refusal.
+#[no_mangle]
+pub extern "C" fn tds_parts(file: &[u8], parts: &mut [u8]) -> u64
+    ensures answer { λ n. ⌜ n ≡ partsOr (partsCall partBytes (now (file .entry)) (now (parts .entry)) .answer) ⌝ }
+    ensures parts { λ _. ⌜ now (parts .exit) ≡ partsCall partBytes (now (file .entry)) (now (parts .entry)) .rows ⌝ }
+{
+    c_parts::parts_code(studio_parts::parts_bytes(file, parts))
 }
 
 // The size of the figure that now stands in the front of out, or a refusal.
@@ -158,4 +182,66 @@ pub extern "C" fn tds_slip_write(names: &[u8], entries: &[u8], out: &mut [u8]) -
     ensures out { λ _. ⌜ now (out .exit) ≡ slipWriteCall (now (names .entry)) (givenBytes (now (entries .entry))) (now (out .entry)) .rows ⌝ }
 {
     c_codes::written_code(slip_write::write(names, entries, out))
+}
+
+// ---- Cinema 4D figures
+
+// The count of objects, or a refusal.
+#[no_mangle]
+pub extern "C" fn tds_c4d_check(file: &[u8]) -> u64
+    ensures { λ n. ⌜ n ≡ objectsOr (c4dCheckCall (now (file .entry))) ⌝ }
+{
+    c_c4d::found_code(c4d_check::check(file))
+}
+
+// The count of objects that now stand in the front of the first slice, 12 bytes each, their materials in the front of the
+// second, or a refusal.
+#[no_mangle]
+pub extern "C" fn tds_c4d_list(file: &[u8], objects: &mut [u8], materials: &mut [u8]) -> u64
+    ensures answer { λ n. ⌜ n ≡ objectsOr (c4dListCall objectBytes (numberBytes 4) (now (file .entry)) (now (objects .entry)) (now (materials .entry)) .answer) ⌝ }
+    ensures rows { λ _. ⌜ objectRows (now (objects .exit)) (now (materials .exit)) ≡ c4dListCall objectBytes (numberBytes 4) (now (file .entry)) (now (objects .entry)) (now (materials .entry)) .rows ⌝ }
+{
+    c_c4d::found_code(c4d_list::list(file, objects, materials))
+}
+
+// ---- Caligari figures
+
+// The count of records, or a refusal.
+#[no_mangle]
+pub extern "C" fn tds_cob_check(file: &[u8]) -> u64
+    ensures { λ n. ⌜ n ≡ countOr (cobCheckCall (now (file .entry))) ⌝ }
+{
+    c_cob::answered_code(cob_check::check(file))
+}
+
+// The count of records that now stand in the front of the slice, 24 bytes each, or a refusal.
+#[no_mangle]
+pub extern "C" fn tds_cob_list(file: &[u8], records: &mut [u8]) -> u64
+    ensures answer { λ n. ⌜ n ≡ countOr (cobListCall cobRecords (now (file .entry)) (now (records .entry)) .answer) ⌝ }
+    ensures records { λ _. ⌜ now (records .exit) ≡ cobListCall cobRecords (now (file .entry)) (now (records .entry)) .rows ⌝ }
+{
+    c_cob::answered_code(cob_list::list(file, records))
+}
+
+// 2, where the counts of vertices and of faces now stand in the front of the slice, four bytes each; or a refusal.
+#[no_mangle]
+pub extern "C" fn tds_cob_sizes(file: &[u8], mesh: u32, sizes: &mut [u8]) -> u64
+    ensures answer { λ n. ⌜ n ≡ countOr (cobSizesCall (numberBytes 4) (now (file .entry)) mesh (now (sizes .entry)) .answer) ⌝ }
+    ensures sizes { λ _. ⌜ now (sizes .exit) ≡ cobSizesCall (numberBytes 4) (now (file .entry)) mesh (now (sizes .entry)) .rows ⌝ }
+{
+    c_cob::answered_code(cob_tables::sizes(file, mesh, sizes))
+}
+
+// The count of vertices that now stand in the front of the first slice, and corners in the second, or a refusal.
+#[no_mangle]
+pub extern "C" fn tds_cob_tables(
+    file: &[u8],
+    mesh: u32,
+    vertices: &mut [u8],
+    corners: &mut [u8],
+) -> u64
+    ensures answer { λ n. ⌜ n ≡ countOr (cobTablesCall (numberBytes 4) (now (file .entry)) mesh (cobRows (now (vertices .entry)) (now (corners .entry))) .answer) ⌝ }
+    ensures rows { λ _. ⌜ cobRows (now (vertices .exit)) (now (corners .exit)) ≡ cobTablesCall (numberBytes 4) (now (file .entry)) mesh (cobRows (now (vertices .entry)) (now (corners .entry))) .rows ⌝ }
+{
+    c_cob::answered_code(cob_tables::tables(file, mesh, vertices, corners))
 }

@@ -98,7 +98,12 @@ const OTHERS: [Other; 5] = [
 ];
 
 /// The calls over figures that have landed later than others, or will.
-const LATER: [(&str, bool); 1] = [("mapping pairs", cfg!(feature = "mapping"))];
+const LATER: [(&str, bool); 4] = [
+    ("mapping pairs", cfg!(feature = "mapping")),
+    ("parts", cfg!(feature = "parts")),
+    ("places of all meshes", cfg!(feature = "meshes")),
+    ("rescues", cfg!(feature = "rescue")),
+];
 
 /// Many cases from a seed, over figures and then over all other formats.
 fn grown<L: Boundary, R: Boundary>(plan: Plan, pair: &mut Pair<L, R>) -> Result<(), String> {

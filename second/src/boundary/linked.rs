@@ -51,6 +51,19 @@ extern "C" {
         mapping: *mut u8,
         mapping_len: usize,
     ) -> u64;
+    #[cfg(feature = "meshes")]
+    fn tds_meshes(file: *const u8, file_len: usize, meshes: *mut u8, meshes_len: usize) -> u64;
+    #[cfg(feature = "rescue")]
+    fn tds_rescue(
+        file: *const u8,
+        file_len: usize,
+        cuts: *mut u8,
+        cuts_len: usize,
+        out: *mut u8,
+        out_len: usize,
+    ) -> u64;
+    #[cfg(feature = "parts")]
+    fn tds_parts(file: *const u8, file_len: usize, parts: *mut u8, parts_len: usize) -> u64;
 }
 
 /// The address of a slice that is only read; of a stand-in if it is empty.
@@ -135,5 +148,28 @@ impl Boundary for Tds {
         let (len, mut some) = (numbers.len(), [0; 8]);
         let numbers = lend(numbers, &mut some);
         unsafe { tds_mapping(read(file, &[0]), file.len(), mesh, numbers, len) }
+    }
+
+    #[cfg(feature = "parts")]
+    fn parts(&self, file: &[u8], numbers: &mut [u8]) -> u64 {
+        let (len, mut some) = (numbers.len(), [0; 8]);
+        let numbers = lend(numbers, &mut some);
+        unsafe { tds_parts(read(file, &[0]), file.len(), numbers, len) }
+    }
+
+    #[cfg(feature = "meshes")]
+    fn meshes(&self, file: &[u8], numbers: &mut [u8]) -> u64 {
+        let (len, mut some) = (numbers.len(), [0; 8]);
+        let numbers = lend(numbers, &mut some);
+        unsafe { tds_meshes(read(file, &[0]), file.len(), numbers, len) }
+    }
+
+    #[cfg(feature = "rescue")]
+    fn rescue(&self, file: &[u8], cuts: &mut [u8], out: &mut [u8]) -> u64 {
+        let (n, m) = (cuts.len(), out.len());
+        let (mut some, mut more) = ([0; 8], [0; 8]);
+        let cuts = lend(cuts, &mut some);
+        let out = lend(out, &mut more);
+        unsafe { tds_rescue(read(file, &[0]), file.len(), cuts, n, out, m) }
     }
 }

@@ -31,10 +31,20 @@ pub use figures::{FigureRight, Figures, Rows, FIGURES_LINKED};
 pub use slips::{SlipRight, Slips, ENTRY_BYTES, SLIPS_LINKED};
 pub use sums::{SumRight, Summing, SUMS_LINKED};
 
-use crate::{bounding_box, check, list, mapping, name, tables, write, Refusal, RECORD};
+use crate::{bounding_box, check, list, mapping, meshes, name, parts, rescue, tables, write};
+use crate::{Cut, MeshPlaces, Number, Refusal, RECORD};
 
 /// The bytes of one record on the boundary.
 pub const RECORD_BYTES: usize = 4 * RECORD;
+
+/// The bytes of one part on the boundary.
+pub const PART_BYTES: usize = 8;
+
+/// The bytes of one mesh's places on the boundary.
+pub const PLACES_BYTES: usize = 32;
+
+/// The bytes of one cut on the boundary.
+pub const CUT_BYTES: usize = 12;
 
 /// One record of the list as a struct, as C lays it out.
 #[repr(C)]
@@ -108,6 +118,18 @@ pub trait Boundary {
     /// The count of mapping numbers, now in the slice.
     fn mapping(&self, file: &[u8], mesh: u32, numbers: &mut [u8]) -> u64 {
         Second.mapping(file, mesh, numbers)
+    }
+    /// The count of parts, their fathers and depths now in the slice.
+    fn parts(&self, file: &[u8], numbers: &mut [u8]) -> u64 {
+        Second.parts(file, numbers)
+    }
+    /// The count of meshes, where they stand now in the slice.
+    fn meshes(&self, file: &[u8], numbers: &mut [u8]) -> u64 {
+        Second.meshes(file, numbers)
+    }
+    /// The count of cuts, now in the slice, and the mended figure in the other.
+    fn rescue(&self, file: &[u8], cuts: &mut [u8], out: &mut [u8]) -> u64 {
+        Second.rescue(file, cuts, out)
     }
 }
 
@@ -200,6 +222,48 @@ impl Boundary for Second {
         }
         answer(filled)
     }
+
+    fn parts(&self, file: &[u8], numbers: &mut [u8]) -> u64 {
+        let all = parts(file);
+        let each = all.map(|all| {
+            all.iter()
+                .map(|part| [part.father.into(), part.depth])
+                .collect()
+        });
+        many(each, numbers)
+    }
+
+    fn meshes(&self, file: &[u8], numbers: &mut [u8]) -> u64 {
+        let all = meshes(file);
+        let each = all.map(|all| all.iter().map(eight).collect());
+        many(each, numbers)
+    }
+
+    fn rescue(&self, file: &[u8], cuts: &mut [u8], out: &mut [u8]) -> u64 {
+        let rescued = rescue(file).and_then(|rescued| {
+            let (count, size) = (rescued.cuts.len(), rescued.figure.len());
+            Number::NoRoom.unless(count <= cuts.len() / CUT_BYTES, count)?;
+            Number::NoRoom.unless(size <= out.len(), size)?;
+            out[..size].copy_from_slice(&rescued.figure);
+            Ok(rescued.cuts)
+        });
+        let three = |cut: &Cut| [cut.offset as u32, cut.number, cut.bytes as u32];
+        many(rescued.map(|all| all.iter().map(three).collect()), cuts)
+    }
+}
+
+/// The eight numbers of a mesh.
+fn eight(mesh: &MeshPlaces) -> [u32; 8] {
+    let MeshPlaces {
+        name,
+        vertices,
+        faces,
+        mapping,
+    } = *mesh;
+    let pairs = [name, vertices, faces, mapping].map(|(a, b)| [a as u32, b as u32]);
+    let mut numbers = [0; 8];
+    numbers.copy_from_slice(pairs.as_flattened());
+    numbers
 }
 
 /// The answer of a call: what it counts to, or its refusal.
@@ -231,9 +295,22 @@ fn put<const N: usize>(bytes: &mut [u8], numbers: impl Iterator<Item = [u8; N]>)
 /// The answer of a call that fills a few numbers, whose room is judged last.
 fn few<const N: usize>(result: Result<[u32; N], Refusal>, bytes: &mut [u8]) -> u64 {
     let filled = result.and_then(|numbers| {
-        crate::Number::NoRoom.unless(bytes.len() / 4 >= N, N)?;
+        Number::NoRoom.unless(bytes.len() / 4 >= N, N)?;
         put(bytes, numbers.iter().map(|number| number.to_le_bytes()));
         Ok(N)
+    });
+    answer(filled)
+}
+
+/// The answer of a call that fills so many numbers for each of many, whose room
+/// is counted in wholes and judged last.
+fn many<const N: usize>(result: Result<Vec<[u32; N]>, Refusal>, bytes: &mut [u8]) -> u64 {
+    let filled = result.and_then(|all| {
+        let fits = all.len() <= bytes.len() / (4 * N);
+        Number::NoRoom.unless(fits, all.len())?;
+        let numbers = all.as_flattened().iter();
+        put(bytes, numbers.map(|number| number.to_le_bytes()));
+        Ok(all.len())
     });
     answer(filled)
 }

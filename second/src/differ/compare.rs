@@ -4,8 +4,9 @@
 use super::lent::{inside, spoken, Buffers, Difference, Lender, Lent};
 use super::random::Random;
 use super::run::{count, Tally};
-use crate::boundary::{refusal, Boundary, Chunk, RECORD_BYTES};
-use crate::RECORD;
+use crate::boundary::{refusal, Boundary, Chunk};
+use crate::boundary::{CUT_BYTES, PART_BYTES, PLACES_BYTES, RECORD_BYTES};
+use crate::{rescue, RECORD};
 
 /// One call, with the bytes it lends; of a row and a table, the elements.
 #[derive(Clone, Copy, Debug, PartialEq, Eq)]
@@ -18,6 +19,10 @@ pub enum Call {
     Name(u32, usize),
     Box(u32, usize),
     Mapping(u32, usize),
+    Parts(usize),
+    Meshes(usize),
+    /// Cuts, and the mended figure.
+    Rescue(usize, usize),
 }
 
 /// Two sides, and the bytes they are lent.
@@ -48,7 +53,7 @@ impl<L: Boundary, R: Boundary> Pair<L, R> {
             Lent {
                 call: &|| format!("{call:?}"),
                 bytes: call.lent(),
-                filled: &|answer| call.filled(answer),
+                filled: &|answer| call.filled(answer, file),
             },
             |buffers| make(left, file, call, buffers),
             |buffers| make(right, file, call, buffers),
@@ -70,6 +75,9 @@ fn make(side: &impl Boundary, file: &[u8], call: Call, buffers: &mut Buffers) ->
         Call::Name(mesh, _) => side.name(file, mesh, first),
         Call::Box(mesh, _) => side.bounding_box(file, mesh, first),
         Call::Mapping(mesh, _) => side.mapping(file, mesh, first),
+        Call::Parts(_) => side.parts(file, first),
+        Call::Meshes(_) => side.meshes(file, first),
+        Call::Rescue(..) => side.rescue(file, first, second),
     }
 }
 
@@ -107,19 +115,27 @@ impl Call {
         match self {
             Call::Check => [0, 0],
             Call::List(bytes) | Call::Counts(bytes) => [bytes, 0],
+            Call::Parts(bytes) | Call::Meshes(bytes) => [bytes, 0],
             Call::Records(row, table) => [4 * row, RECORD_BYTES * table],
             Call::Name(_, bytes) | Call::Box(_, bytes) | Call::Mapping(_, bytes) => [bytes, 0],
             Call::Tables(_, vertices, corners) => [vertices, corners],
+            Call::Rescue(cuts, out) => [cuts, out],
         }
     }
 
     /// The bytes that an answer says are filled.
-    fn filled(self, answer: u64) -> [usize; 2] {
+    fn filled(self, answer: u64, file: &[u8]) -> [usize; 2] {
         let count = answer as usize;
         match self {
             _ if refusal(answer).is_some() => [0, 0],
             Call::Check => [0, 0],
             Call::List(_) => [RECORD_BYTES * count, 0],
+            Call::Parts(_) => [PART_BYTES * count, 0],
+            Call::Meshes(_) => [PLACES_BYTES * count, 0],
+            Call::Rescue(..) => {
+                let mended = rescue(file).map_or(0, |rescued| rescued.figure.len());
+                [CUT_BYTES * count, mended]
+            }
             Call::Records(..) => [RECORD_BYTES * count; 2],
             Call::Tables(..) => [12 * (count & 0xFFFF), 6 * (count >> 16)],
             Call::Counts(_) | Call::Name(..) | Call::Box(..) | Call::Mapping(..) => [4 * count, 0],
@@ -132,6 +148,7 @@ impl<L: Boundary, R: Boundary> Pair<L, R> {
     /// the check, if both sides agree in all.
     pub fn whole(&mut self, file: &[u8], random: &mut Random) -> Result<u64, Difference> {
         let answer = self.ask(file, Call::Check)?;
+        self.rescued(file, random)?;
         if refusal(answer).is_some() {
             self.refused(file, answer, some_calls(random))?;
             return Ok(answer);
@@ -143,7 +160,20 @@ impl<L: Boundary, R: Boundary> Pair<L, R> {
         self.records(file, answer as usize, random)?;
         self.ask(file, Call::Counts(12 + random.below(6)))?;
         self.ask(file, Call::Counts(random.below(12)))?;
+        let parts = PART_BYTES * self.wanting(file, Call::Parts(0))?;
+        for bytes in [parts.saturating_sub(1), parts, parts + random.below(20)] {
+            self.ask(file, Call::Parts(bytes))?;
+        }
         let count = self.ask(file, Call::Name(u32::MAX, 8))? as u32;
+        let places = PLACES_BYTES * count as usize;
+        for bytes in [
+            0,
+            places.saturating_sub(1),
+            places,
+            places + random.below(40),
+        ] {
+            self.ask(file, Call::Meshes(bytes))?;
+        }
         self.meshes(file, count, random)?;
         Ok(answer)
     }
@@ -223,7 +253,7 @@ impl<L: Boundary, R: Boundary> Pair<L, R> {
         for bytes in [36 + random.below(6), 32 + random.below(4), random.below(36)] {
             self.ask(file, Call::Box(mesh, bytes))?;
         }
-        let m = self.pairs(file, mesh)?;
+        let m = self.wanting(file, Call::Mapping(mesh, 0))?;
         let less = (4 * m).saturating_sub(1 + random.below(8));
         for bytes in [4 * m, 4 * m + random.below(9), less] {
             self.ask(file, Call::Mapping(mesh, bytes))?;
@@ -231,24 +261,23 @@ impl<L: Boundary, R: Boundary> Pair<L, R> {
         Ok(())
     }
 
-    /// The mapping numbers of a mesh, learned in the same way.
-    pub fn pairs(&mut self, file: &[u8], mesh: u32) -> Result<usize, Difference> {
-        let answer = self.ask(file, Call::Mapping(mesh, 0))?;
+    /// What a call that is lent nothing says is needed.
+    pub fn wanting(&mut self, file: &[u8], call: Call) -> Result<usize, Difference> {
+        let answer = self.ask(file, call)?;
         Ok(refusal(answer).map_or(0, |(_, place)| place as usize))
     }
 
-    /// The numbers that a mesh's tables need, learned from what no room
-    /// answers; a mesh of an accepted file has no faces without vertices.
+    /// The numbers that a mesh's tables need; a mesh of an accepted file has no
+    /// faces without vertices.
     pub fn sizes(&mut self, file: &[u8], mesh: u32) -> Result<(usize, usize), Difference> {
-        let needed = |answer| refusal(answer).map_or(0, |(_, place)| place as usize);
-        let n = needed(self.ask(file, Call::Tables(mesh, 0, 0))?);
-        let f = needed(self.ask(file, Call::Tables(mesh, 4 * n, 0))?);
+        let n = self.wanting(file, Call::Tables(mesh, 0, 0))?;
+        let f = self.wanting(file, Call::Tables(mesh, 4 * n, 0))?;
         Ok((n, f))
     }
 }
 
 /// All calls but the check, with rooms as they come.
-fn some_calls(random: &mut Random) -> [Call; 7] {
+fn some_calls(random: &mut Random) -> [Call; 9] {
     let mesh = random.pick(&[0, 1, 2, u32::MAX]);
     [
         Call::List(random.below(200)),
@@ -258,5 +287,7 @@ fn some_calls(random: &mut Random) -> [Call; 7] {
         Call::Name(mesh, random.below(12)),
         Call::Box(mesh, random.below(44)),
         Call::Mapping(mesh, random.below(20)),
+        Call::Parts(random.below(20)),
+        Call::Meshes(random.below(80)),
     ]
 }

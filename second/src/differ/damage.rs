@@ -70,7 +70,7 @@ fn word(file: &mut [u8], at: usize, word: u16) {
 
 fn identifier(random: &mut Random) -> u16 {
     match random.chance(60) {
-        true => random.pick(&LISTED),
+        true => random.pick(LISTED),
         false => unlisted(random),
     }
 }

@@ -4,7 +4,7 @@
 use super::compare::Pair;
 use super::lent::{spoken, Difference};
 use super::node::Node;
-use crate::boundary::{refusal, Boundary, RECORD_BYTES};
+use crate::boundary::{refusal, Boundary, PART_BYTES, PLACES_BYTES, RECORD_BYTES};
 use crate::{record, row, OLD_MAPPING, RECORD};
 
 /// One mesh: its tables and the span of its name.
@@ -15,6 +15,8 @@ pub struct Mesh {
     /// None before Q-6.
     pub mapping: Vec<u8>,
     pub name: [u32; 2],
+    /// Where it stands: name, vertices, faces, pairs.
+    pub places: [u32; 8],
 }
 
 impl Mesh {
@@ -30,12 +32,15 @@ pub struct Facts {
     pub records: Vec<[u32; RECORD]>,
     pub counts: [u32; 3],
     pub meshes: Vec<Mesh>,
+    /// Father and depth of each part.
+    pub parts: Vec<[u32; 2]>,
 }
 
 /// The room that is lent when facts are asked for.
 #[derive(Clone, Debug, Default, PartialEq, Eq)]
 pub struct Rooms {
     records: usize,
+    parts: usize,
     /// Bytes for the vertices, the corners and the pairs of each mesh.
     tables: Vec<[usize; 3]>,
 }
@@ -46,6 +51,7 @@ impl Rooms {
         let meshes = facts.meshes.iter();
         Rooms {
             records: facts.records.len(),
+            parts: facts.parts.len(),
             tables: meshes
                 .map(|mesh| [&mesh.vertices, &mesh.corners, &mesh.mapping].map(Vec::len))
                 .collect(),
@@ -64,19 +70,23 @@ pub fn ask(side: &impl Boundary, file: &[u8], rooms: &Rooms) -> Result<Facts, St
     let records = accepted("list", side.list(file, &mut bytes))?;
     let mut counts = [0; 12];
     accepted("counts", side.counts(file, &mut counts))?;
+    let mut parts = vec![0; PART_BYTES * rooms.parts];
+    let hung = accepted("parts", side.parts(file, &mut parts))?;
     let mut facts = Facts {
         records: numbers(&bytes),
         counts: numbers(&counts)[0],
         meshes: Vec::with_capacity(rooms.tables.len()),
+        parts: numbers(&parts),
     };
     facts.records.truncate(records as usize);
+    facts.parts.truncate(hung as usize);
     for (number, tables) in rooms.tables.iter().enumerate() {
         let [vertices, corners, mapping] = tables.map(|bytes| vec![0xA5; bytes]);
         let mut mesh = Mesh {
             vertices,
             corners,
             mapping,
-            name: [0; 2],
+            ..Mesh::default()
         };
         let filled = side.tables(file, number as u32, &mut mesh.vertices, &mut mesh.corners);
         let filled = accepted("tables", filled)? as usize;
@@ -91,6 +101,11 @@ pub fn ask(side: &impl Boundary, file: &[u8], rooms: &Rooms) -> Result<Facts, St
         accepted("name", side.name(file, number as u32, &mut span))?;
         mesh.name = numbers(&span)[0];
         facts.meshes.push(mesh);
+    }
+    let mut places = vec![0; PLACES_BYTES * rooms.meshes()];
+    accepted("meshes", side.meshes(file, &mut places))?;
+    for (mesh, places) in facts.meshes.iter_mut().zip(numbers(&places)) {
+        mesh.places = places;
     }
     Ok(facts)
 }
@@ -120,6 +135,7 @@ pub fn rooms(side: &impl Boundary, file: &[u8]) -> Rooms {
     Rooms {
         tables: tables.collect(),
         records: side.check(file) as u32 as usize,
+        parts: needed(side.parts(file, &mut [])),
     }
 }
 
@@ -195,19 +211,34 @@ impl Facts {
         next
     }
 
-    /// Notes what a chunk says of a mesh; an object is one until its end.
+    /// Notes what a chunk says of a mesh or a part; an object is a mesh until
+    /// its end.
     fn note(&mut self, node: &Node, at: usize) {
         let own = &node.own;
+        if node.identifier == 0xB010 {
+            let father = u16::from_le_bytes([own[own.len() - 2], own[own.len() - 1]]);
+            let above = self.parts.get(usize::from(father));
+            let depth = above.map_or(0, |above| above[1] + 1);
+            self.parts.push([u32::from(father), depth]);
+        }
         if node.identifier == 0x4000 {
             let name = [at as u32 + 6, own.len() as u32 - 1];
             self.meshes.push(Mesh {
                 name,
+                places: [name[0], name[1], 0, 0, 0, 0, 0, 0],
                 ..Mesh::default()
             });
         }
         let Some(mesh) = self.meshes.last_mut() else {
             return;
         };
+        if let Some(list) = [0x4110, 0x4120, 0x4140]
+            .iter()
+            .position(|id| *id == node.identifier)
+        {
+            let count = u32::from(u16::from_le_bytes([own[0], own[1]]));
+            mesh.places[2 + 2 * list..][..2].copy_from_slice(&[count, at as u32 + 8]);
+        }
         match node.identifier {
             0x4110 => mesh.vertices = own[2..].to_vec(),
             0x4140 if OLD_MAPPING => mesh.mapping = own[2..].to_vec(),

@@ -10,7 +10,7 @@ use super::lent::Difference;
 use super::node::Node;
 use super::random::Random;
 use super::writing::Writing;
-use super::{damage, harm, long, rows, versions};
+use super::{damage, harm, long, parts, rescues, rows, swaps, versions};
 use crate::boundary::Boundary;
 use crate::{row, LIMIT};
 
@@ -22,8 +22,11 @@ pub enum Family {
     Faults,
     Names,
     Versions,
+    Parts,
+    Rescues,
     Damage,
     Gaps,
+    Swaps,
     Boxes,
     Soup,
     Noise,
@@ -33,14 +36,17 @@ pub enum Family {
 }
 
 /// Each family, its share of all cases in ten thousand, and what it is.
-pub const FAMILIES: [(Family, u64, &str); 13] = [
+pub const FAMILIES: [(Family, u64, &str); 16] = [
     (Family::Grown, 1_700, "valid figures"),
     (Family::Rows, 1_500, "each row in each place"),
     (Family::Faults, 2_000, "each two faults at one chunk"),
     (Family::Names, 400, "names that no label takes"),
     (Family::Versions, 800, "versions and mapping lists"),
+    (Family::Parts, 400, "parts that hang on each other"),
+    (Family::Rescues, 800, "several faults at once"),
     (Family::Damage, 1_800, "bits, lengths, bytes damaged"),
     (Family::Gaps, 700, "private chunks in gaps"),
+    (Family::Swaps, 300, "neighbours in the 3D3D exchanged"),
     (Family::Boxes, 300, "boxes of floats of note"),
     (Family::Soup, 1_200, "legal parents, all else free"),
     (Family::Noise, 277, "bytes of no sense"),
@@ -60,11 +66,13 @@ pub enum Subject {
 pub fn make(family: Family, index: u64, random: &mut Random) -> Subject {
     let spread = |cases: usize| (index.wrapping_mul(1_000_003) % cases as u64) as usize;
     let file = match family {
-        Family::Grown | Family::Gaps => figure(random, Fill::Some).bytes(),
+        Family::Grown | Family::Gaps | Family::Swaps => figure(random, Fill::Some).bytes(),
         Family::Rows => rows::tried(spread(rows::CASES), random).bytes(),
         Family::Faults => faulty(spread(harm::CASES), random),
         Family::Names => harm::misnamed(random).bytes(),
         Family::Versions => versions::figure(random).bytes(),
+        Family::Parts => parts::figure(random).bytes(),
+        Family::Rescues => rescues::damaged(random).bytes(),
         Family::Damage => damaged(random),
         Family::Boxes => floats(random),
         Family::Soup => soup(0x4D4D, 0, random).bytes(),
@@ -93,6 +101,7 @@ pub fn judge<L: Boundary, R: Boundary>(
             let file = &lent[shift..shift + file.len()];
             match family {
                 Family::Gaps => gap(file, random, pair),
+                Family::Swaps => swap(file, random, pair),
                 _ => pair.whole(file, random),
             }
         }
@@ -123,6 +132,25 @@ fn gap<L: Boundary, R: Boundary>(
     tried.judge(&pair.left, "left")?;
     tried.judge(&pair.right, "right")?;
     pair.ask(&tried.after, Call::Check)
+}
+
+/// Neighbours in the 3D3D exchanged, one pair after the other, judged on both
+/// sides.
+fn swap<L: Boundary, R: Boundary>(
+    file: &[u8],
+    random: &mut Random,
+    pair: &mut Pair<L, R>,
+) -> Result<u64, Difference> {
+    let mut file = file.to_vec();
+    for _ in 0..random.from_to(1, 4) {
+        let Some(tried) = swaps::prepare(&pair.left, &file, random) else {
+            break;
+        };
+        tried.judge(&pair.left, "left")?;
+        tried.judge(&pair.right, "right")?;
+        file = tried.after;
+    }
+    pair.ask(&file, Call::Check)
 }
 
 /// A figure with faults put in on purpose, or with the file's own faults.
@@ -182,13 +210,13 @@ fn soup(identifier: u16, depth: usize, random: &mut Random) -> Node {
     if holds == 0 || depth > 5 {
         return node;
     }
-    let legal = LISTED.into_iter();
+    let legal = LISTED.iter().copied();
     let legal: Vec<u16> = legal
         .filter(|inside| row(*inside).is_some_and(|row| row.under & holds != 0))
         .collect();
     for _ in 0..random.below(if depth < 2 { 3 } else { 4 }) {
         let inside = match random.below(20) {
-            0 => random.pick(&LISTED),
+            0 => random.pick(LISTED),
             1 | 2 => unlisted(random),
             // a camera may hold children, but none that are listed
             _ if legal.is_empty() => unlisted(random),
@@ -200,6 +228,7 @@ fn soup(identifier: u16, depth: usize, random: &mut Random) -> Node {
     let needed = match identifier {
         0x4D4D => 0x3D3D,
         0xAFFF => 0xA000,
+        0xB002 => 0xB010,
         _ => return node,
     };
     if node.child(needed).is_none() && random.chance(95) {
@@ -231,7 +260,7 @@ pub fn sweep<L: Boundary, R: Boundary>(
     mut tally: impl FnMut(u64),
 ) -> Result<(), (Vec<u8>, Difference)> {
     let mut random = Random::of_case(0, 0, 1);
-    for holder in rows::HOLDERS {
+    for holder in rows::HOLDERS.iter().copied() {
         for body in [0, 4] {
             let chunk = Node::leaf(0x1234, vec![0; body]);
             let root = rows::in_holder(holder, vec![chunk], &mut random);

@@ -57,7 +57,7 @@ impl Try {
 }
 
 /// The spots of a known chunk: behind its own data and behind each child.
-fn spots(file: &[u8], record: &[u32; RECORD]) -> Vec<usize> {
+pub fn spots(file: &[u8], record: &[u32; RECORD]) -> Vec<usize> {
     let [identifier, offset, length, _, _, own, ..] = record.map(|number| number as usize);
     if row(identifier as u16).is_none_or(|row| row.holds == 0) {
         return vec![];
@@ -163,6 +163,14 @@ fn expect(before: &Facts, changes: &[Change]) -> Facts {
     for mesh in &mut after.meshes {
         let offset = mesh.name[0];
         mesh.name[0] = moved(offset, &|change| change.spot <= offset as usize);
+        mesh.places[0] = mesh.name[0];
+        // A list that is there moves with its chunk, whose header and count word
+        // stand before it: a list of none ends where it begins.
+        for which in [3, 5, 7] {
+            if let Some(chunk) = mesh.places[which].checked_sub(8) {
+                mesh.places[which] = 8 + moved(chunk, &|change| change.spot <= chunk as usize);
+            }
+        }
     }
     after
 }

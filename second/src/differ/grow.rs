@@ -4,20 +4,23 @@
 use super::names;
 use super::node::Node;
 use super::random::Random;
-use crate::{row, Own, OLD_MAPPING};
+use crate::{row, Own, OLD_MAPPING, PARTS_LISTED, ROOT};
 
-/// All identifiers with a row, in the table's order.
-pub const LISTED: [u16; 43] = [
+/// All identifiers with a row, in the table's order, those of Q-7 last.
+const ALL: [u16; 47] = [
     0x4D4D, 0x0002, 0x3D3D, 0x3D3E, 0x1400, 0x1450, 0x1460, 0x1420, 0x1470, 0x2100, 0xAFFF, 0xA000,
     0xA010, 0xA020, 0xA030, 0xA040, 0x0010, 0x0013, 0x0011, 0x0012, 0x0030, 0x0031, 0x4000, 0x4010,
     0x4012, 0x4013, 0x4015, 0x4017, 0x4100, 0x4110, 0x4120, 0x4130, 0x4150, 0x4140, 0x4160, 0x4165,
-    0x4600, 0x4610, 0x4620, 0x4651, 0x4653, 0x4656, 0x4700,
+    0x4600, 0x4610, 0x4620, 0x4651, 0x4653, 0x4656, 0x4700, 0xB000, 0xB008, 0xB002, 0xB010,
 ];
 
+/// Those that are in force.
+pub const LISTED: &[u16] = ALL.split_at(if PARTS_LISTED { 47 } else { 43 }).0;
+
 /// Identifiers without a row that a careless reader might take for one.
-const NEARLY: [u16; 14] = [
+const NEARLY: [u16; 18] = [
     0xB000, 0x3E3D, 0x8123, 0x0000, 0xFFFF, 0x4111, 0x4D4E, 0x4170, 0x4611, 0x0001, 0xA200, 0xA001,
-    0x1451, 0x4001,
+    0x1451, 0x4001, 0xB001, 0xB003, 0xB009, 0xB020,
 ];
 
 const COLOURS: [u16; 4] = [0x0010, 0x0011, 0x0012, 0x0013];
@@ -66,6 +69,8 @@ impl Grower<'_> {
         match identifier {
             0x4100 => return self.mesh(),
             0x4120 => return self.faces(0, 0),
+            0xB000 => return self.keyframer(),
+            0xB002 => return self.part(ROOT),
             _ => (),
         }
         let own = self.own(identifier, 0);
@@ -84,7 +89,9 @@ impl Grower<'_> {
             0x4D4D => {
                 // The version grows before the meshes; without one the figure is old.
                 self.old = OLD_MAPPING;
-                [self.some(&[0x0002], 1), vec![0x3D3D]].concat()
+                let keyed = PARTS_LISTED && (self.fill == Fill::Full || self.random.chance(40));
+                let keyframer = if keyed { vec![0xB000] } else { vec![] };
+                [self.some(&[0x0002], 1), vec![0x3D3D], keyframer].concat()
             }
             0x3D3D => {
                 let objects = match self.fill {
@@ -143,6 +150,7 @@ impl Grower<'_> {
             Some(Own::Name) => self.name(),
             Some(Own::Smoothing) => self.random.bytes(4 * faces),
             Some(Own::Group) => self.group(faces),
+            Some(Own::Part) => self.called(ROOT),
             _ => vec![0, 0],
         }
     }
@@ -170,6 +178,43 @@ impl Grower<'_> {
         let mut name = names::name(length, self.random);
         name.push(0);
         name
+    }
+
+    /// A keyframer whose parts hang on earlier ones.
+    fn keyframer(&mut self) -> Node {
+        let all = self.fill == Fill::Full;
+        let many = match self.random.below(40) {
+            0 => self.random.below(300),
+            _ if all => 3,
+            _ => self.random.below(6),
+        };
+        let mut parts = Vec::with_capacity(many + 4);
+        for number in 0..many {
+            let father = match number == 0 || self.random.chance(25) {
+                true => ROOT,
+                false => self.index(number),
+            };
+            parts.push(self.part(father));
+        }
+        if all || self.random.chance(50) {
+            let frames = Node::leaf(0xB008, self.random.bytes(8));
+            parts.insert(self.random.below(parts.len() + 1), frames);
+        }
+        self.sprinkle(&mut parts);
+        Node::holding(0xB000, vec![], parts)
+    }
+
+    /// A part of a father.
+    fn part(&mut self, father: u16) -> Node {
+        let mut inside = vec![Node::leaf(0xB010, self.called(father))];
+        self.sprinkle(&mut inside);
+        Node::holding(0xB002, vec![], inside)
+    }
+
+    /// Name, two words and the father.
+    fn called(&mut self, father: u16) -> Vec<u8> {
+        let (name, words) = (self.name(), self.random.bytes(4));
+        [&name[..], &words, &father.to_le_bytes()].concat()
     }
 
     /// A face group: name, count, face numbers.
@@ -293,7 +338,7 @@ impl Grower<'_> {
 pub fn unlisted(random: &mut Random) -> u16 {
     let choice = match random.below(3) {
         0 => random.pick(&NEARLY),
-        1 => random.pick(&LISTED) ^ (1 << random.below(16)),
+        1 => random.pick(LISTED) ^ (1 << random.below(16)),
         _ => random.word(),
     };
     match row(choice) {
@@ -308,7 +353,7 @@ pub fn private(random: &mut Random) -> Node {
     let length = random.below(24);
     let body = match random.below(8) {
         0..3 => vec![],
-        3 => Node::leaf(random.pick(&LISTED), random.bytes(4)).bytes(),
+        3 => Node::leaf(random.pick(LISTED), random.bytes(4)).bytes(),
         4 => [&[0x10, 0x41], &random.bytes(length)[..]].concat(),
         5 => vec![0xFF; length],
         _ => random.bytes(length),

@@ -5,7 +5,7 @@ use super::grow::{figure, grower, unlisted, Fill, LISTED};
 use super::names;
 use super::node::{Node, Path};
 use super::random::Random;
-use crate::{row, Own};
+use crate::{row, Own, PARTS_LISTED};
 
 /// What can be done to a chunk, mostly named after the refusal it aims at.
 #[derive(Clone, Copy, Debug, PartialEq, Eq)]
@@ -46,7 +46,11 @@ pub const HARMS: [Harm; 13] = [
 const PARTS: [u16; 6] = [0x4100, 0x4110, 0x4120, 0x4130, 0x4140, 0x4150];
 
 /// The chunks that have names.
-const NAMED: [u16; 4] = [0xA000, 0x4000, 0x4130, 0x4653];
+const NAMED: &[u16] = if PARTS_LISTED {
+    &[0xA000, 0x4000, 0x4130, 0x4653, 0xB010]
+} else {
+    &[0xA000, 0x4000, 0x4130, 0x4653]
+};
 
 /// The chunks that are harmed: all, and the parts of a mesh five times more.
 const TARGETS: usize = LISTED.len() + 5 * PARTS.len();
@@ -80,7 +84,7 @@ pub fn harmed(case: usize, random: &mut Random) -> Node {
 /// A figure with a name that no label takes, and perhaps another fault there.
 pub fn misnamed(random: &mut Random) -> Node {
     let mut root = figure(random, Fill::Full);
-    let identifier = random.pick(&NAMED);
+    let identifier = random.pick(NAMED);
     let paths = root.paths(&|node| node.identifier == identifier);
     let mut path = paths[random.below(paths.len())].clone();
     if random.chance(60) {
@@ -107,7 +111,8 @@ pub fn misnamed(random: &mut Random) -> Node {
 
 /// Takes away what may go and is not on the way to the chunk.
 fn prune(node: &mut Node, path: &mut Path, step: usize, random: &mut Random) {
-    const NEEDED: [u16; 5] = [0x3D3D, 0xA000, 0x4110, 0x4120, 0x4100];
+    // Those of a keyframer hang on each other.
+    const NEEDED: [u16; 7] = [0x3D3D, 0xA000, 0x4110, 0x4120, 0x4100, 0xB002, 0xB010];
     let on_the_way = path.get(step).copied();
     let mut kept = Vec::with_capacity(node.children.len());
     for (at, child) in std::mem::take(&mut node.children).into_iter().enumerate() {
@@ -147,7 +152,7 @@ pub fn harm_at(harm: Harm, root: &mut Node, path: &mut Path, random: &mut Random
 /// Puts a copy of the chunk under another parent, or another in its place.
 fn misplace(root: &mut Node, path: &mut Path, random: &mut Random) {
     if path.is_empty() || random.chance(30) {
-        let mut other = random.pick(&LISTED);
+        let mut other = random.pick(LISTED);
         if other == 0x4D4D && path.is_empty() {
             other = 0x4D4C;
         }
@@ -185,7 +190,7 @@ fn repeat(root: &mut Node, path: &mut Path, random: &mut Random) {
 /// Takes the zero out of a name.
 fn unname(chunk: &mut Node, random: &mut Random) {
     let own = row(chunk.identifier).map(|row| row.own);
-    if matches!(own, Some(Own::Name | Own::Group)) {
+    if matches!(own, Some(Own::Name | Own::Group | Own::Part)) {
         let length = random.below(8);
         chunk.own = random.bytes(length);
         chunk.own.iter_mut().for_each(|byte| *byte |= 1);
@@ -199,7 +204,7 @@ fn unname(chunk: &mut Node, random: &mut Random) {
 fn mistext(chunk: &mut Node, random: &mut Random) {
     let own = row(chunk.identifier).map(|row| row.own);
     let zero = chunk.own.iter().position(|byte| *byte == 0);
-    if let (Some(Own::Name | Own::Group), Some(zero)) = (own, zero) {
+    if let (Some(Own::Name | Own::Group | Own::Part), Some(zero)) = (own, zero) {
         let behind = chunk.own.split_off(zero);
         names::spoil(&mut chunk.own, random);
         chunk.own.extend(behind);
@@ -249,7 +254,7 @@ fn not_a_number(chunk: Option<&mut Node>, random: &mut Random) {
     let floats = chunk.own.len().saturating_sub(2) / 4;
     if floats > 0 {
         let at = 2 + 4 * random.below(floats);
-        let low = random.pick(&[0, 1, 0x40_0000, 0x7F_FFFF]);
+        let low = random.pick(&[0, 0, 0, 1, 0x40_0000, 0x7F_FFFF]);
         let bits: u32 = random.pick(&[0x7F80_0000, 0xFF80_0000]) | low;
         chunk.own[at..at + 4].copy_from_slice(&bits.to_le_bytes());
     }
@@ -308,7 +313,7 @@ fn strip(root: &mut Node, path: &[usize], random: &mut Random) {
 
 /// Takes a needed child from a chunk on the way, or hides it.
 fn bereave(root: &mut Node, path: &mut Path, random: &mut Random) {
-    let needed = |node: &Node| matches!(node.identifier, 0x3D3D | 0xA000);
+    let needed = |node: &Node| matches!(node.identifier, 0x3D3D | 0xA000 | 0xB010);
     let mut paths = root.paths(&needed);
     let near = |way: &[usize]| path.starts_with(way);
     paths.retain(|way| way.split_last().is_some_and(|(_, parent)| near(parent)));

@@ -20,6 +20,8 @@ pub enum Kind {
     FaceNumber,
     /// A float of a 4140.
     Mapping,
+    /// The father of a B010.
+    Father,
     /// Any name, its zero among it.
     Name,
     /// All other own data: flag words, 4150, and what has a fixed size.
@@ -41,6 +43,7 @@ impl Kind {
             Kind::Corner => "corner (4120)",
             Kind::FaceNumber => "face number (4130)",
             Kind::Mapping => "mapping float (4140)",
+            Kind::Father => "father (B010)",
             Kind::Name => "name",
             Kind::Fixed => "other own data",
             Kind::UnlistedIdentifier => "identifier, unlisted chunk",
@@ -85,6 +88,7 @@ fn own_kinds(identifier: u16, own: &[u8]) -> Vec<Kind> {
     let (name, entry): (usize, &[Kind]) = match shape {
         Own::Bytes(_) | Own::Smoothing => return vec![Kind::Fixed; own.len()],
         Own::Name => return vec![Kind::Name; own.len()],
+        Own::Part => return part(own.len()),
         Own::Vertices => (0, &[Kind::Coordinate; 12]),
         Own::Faces => (0, &FACE),
         Own::Group => (name_length(own).unwrap_or(0), &[Kind::FaceNumber; 2]),
@@ -97,6 +101,14 @@ fn own_kinds(identifier: u16, own: &[u8]) -> Vec<Kind> {
         entry.repeat(count),
     ]
     .concat()
+}
+
+/// A name, two words and the father.
+fn part(length: usize) -> Vec<Kind> {
+    let mut kinds = vec![Kind::Name; length - 6];
+    kinds.extend([Kind::Fixed; 4]);
+    kinds.extend([Kind::Father; 2]);
+    kinds
 }
 
 /// Three corners and a flag word.

@@ -4,12 +4,13 @@
 use super::build;
 use super::names;
 use super::node::Node;
+use super::parts;
 use super::random::Random;
 use super::writing::{room, Writing};
-use crate::{LABELS_JUDGED, LIMIT};
+use crate::{LABELS_JUDGED, LIMIT, ROOT};
 
 /// How many kinds of long figure there are.
-pub const KINDS: usize = 15;
+pub const KINDS: usize = 16;
 
 /// A long figure of one kind, perhaps a little damaged.
 pub fn figure(kind: usize, random: &mut Random) -> Vec<u8> {
@@ -21,13 +22,17 @@ pub fn figure(kind: usize, random: &mut Random) -> Vec<u8> {
         4 => named(random),
         5 => vec![object(b"", 65_535, 20_000)],
         6 => vec![object(b"", 20_000, 65_535)],
-        7 => vec![Node::leaf(0xB000, random.bytes(500_000))],
+        7 => vec![Node::leaf(0x8123, random.bytes(500_000))],
         8 => late(random),
         9 => vec![bare(); random.from_to(65_530, 80_000)],
+        15 => vec![],
         10..=12 => vec![mapped(kind % KINDS - 10, random)],
         _ => vec![painted(kind % KINDS == 13, random)],
     };
     let mut root = build::figure(children);
+    if kind % KINDS == 15 {
+        root.children.push(hung(random));
+    }
     // The kinds behind the tenth are about long lists, and are left as they are.
     let lists = kind % KINDS >= 10;
     if !lists {
@@ -121,6 +126,19 @@ fn painted(right: bool, random: &mut Random) -> Node {
         Node::holding(0x4120, faces(9, f), inside),
     ];
     build::meshed("", parts)
+}
+
+/// A keyframer of very many parts: the first in a chain, so that depths pass a
+/// byte, and those behind on the one before or on any.
+fn hung(random: &mut Random) -> Node {
+    let chain = random.chance(50);
+    let father = |number: usize, random: &mut Random| match number {
+        0 => ROOT,
+        _ if chain || number < 1_000 => number as u16 - 1,
+        _ => random.below(number) as u16,
+    };
+    let parts = (0..40_000).map(|number| parts::part("", father(number, random)));
+    Node::holding(0xB000, vec![], parts.collect())
 }
 
 /// Many small objects.

@@ -1,12 +1,12 @@
 //! The comparison of two readers over many files, long and short, valid and
 //! damaged, all grown from one seed.
 
-/// Names the cases of an enum once, those of a later request under its feature,
+/// Names the cases of an enum once, those of a later request with when they are on,
 /// and lists all that are on.
 macro_rules! listed {
     (
         $(#[$about:meta])* $name:ident, $all:ident: $($case:ident)*
-        $(; $feature:literal: $($later:ident)*)*
+        $(; $when:meta: $($later:ident)*)*
     ) => {
         $(#[$about])*
         #[derive(Clone, Copy, Debug, PartialEq, Eq)]
@@ -15,7 +15,7 @@ macro_rules! listed {
         /// All of them.
         pub const $all: &[$name] = &[
             $($name::$case,)*
-            $($(#[cfg(feature = $feature)] $name::$later,)*)*
+            $($(#[cfg($when)] $name::$later,)*)*
         ];
     };
 }
@@ -38,14 +38,17 @@ pub mod long;
 pub mod named;
 pub mod names;
 pub mod node;
+pub mod parts;
 pub mod random;
 pub mod real;
+pub mod rescues;
 pub mod rows;
 pub mod run;
 pub mod seeded;
 pub mod shrink;
 pub mod slips;
 pub mod sums;
+pub mod swaps;
 pub mod turned;
 pub mod versions;
 pub mod writing;

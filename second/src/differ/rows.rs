@@ -3,14 +3,19 @@
 
 use super::grow::LISTED;
 use super::node::Node;
+use super::parts::called;
 use super::random::Random;
-use crate::row;
+use crate::{row, PARTS_LISTED, ROOT};
 
-/// The identifiers whose rows end in "+".
-pub const HOLDERS: [u16; 13] = [
+/// The identifiers whose rows end in "+", those of Q-7 last; but for the camera,
+/// in which no listed chunk may stand.
+const ALL: [u16; 15] = [
     0x4D4D, 0x3D3D, 0x2100, 0xAFFF, 0xA010, 0xA020, 0xA030, 0xA040, 0x4000, 0x4100, 0x4120, 0x4600,
-    0x4610,
+    0x4610, 0xB000, 0xB002,
 ];
+
+/// Those that are in force.
+pub const HOLDERS: &[u16] = ALL.split_at(if PARTS_LISTED { 15 } else { 13 }).0;
 
 /// Body lengths tried: up to one more than the longest fixed row.
 const LENGTHS: usize = 66;
@@ -19,7 +24,7 @@ const LENGTHS: usize = 66;
 const FILLS: usize = 5;
 
 /// How many chunks of one kind in one place there are.
-const PLACES: usize = 71;
+const PLACES: usize = if PARTS_LISTED { 77 } else { 71 };
 
 /// How many cases there are.
 pub const CASES: usize = PLACES * LENGTHS * FILLS;
@@ -28,10 +33,11 @@ pub const CASES: usize = PLACES * LENGTHS * FILLS;
 /// each; those in other places are swept over elsewhere.
 fn places() -> Vec<(u16, u16)> {
     let mut places = Vec::with_capacity(PLACES);
-    for holder in HOLDERS {
-        let legal = LISTED.into_iter().filter(|inside| under(*inside, holder));
+    for holder in HOLDERS.iter().copied() {
+        let all = LISTED.iter().copied();
+        let legal = all.filter(|inside| under(*inside, holder));
         places.extend(legal.map(|identifier| (identifier, holder)));
-        places.push((0xB000, holder));
+        places.push((0xB001, holder));
     }
     places
 }
@@ -79,7 +85,8 @@ pub fn around(holder: u16, children: Vec<Node>, put: &mut dyn FnMut(&mut Node, N
     match holder {
         0x4D4D => node,
         _ => {
-            let parent = HOLDERS.into_iter().find(|parent| under(holder, *parent));
+            let mut parents = HOLDERS.iter().copied();
+            let parent = parents.find(|parent| under(holder, *parent));
             around(parent.unwrap_or(0x4D4D), vec![node], put)
         }
     }
@@ -109,6 +116,7 @@ fn needed(holder: u16) -> Option<Node> {
     match holder {
         0x4D4D => Some(Node::leaf(0x3D3D, vec![])),
         0xAFFF => Some(Node::leaf(0xA000, vec![0])),
+        0xB002 => Some(called("", ROOT)),
         0x4100 => Some(Node::leaf(0x4110, [&[2, 0][..], &[0; 24]].concat())),
         _ => None,
     }

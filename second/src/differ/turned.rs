@@ -5,6 +5,7 @@ use super::compare::{Call, Pair};
 use super::facts::{self, Facts, Rooms};
 use super::kinds::{kinds, Kind};
 use super::lent::{spoken, Difference};
+use super::random::Random;
 use crate::boundary::{refusal, Boundary};
 use std::collections::BTreeMap;
 
@@ -41,6 +42,9 @@ pub fn turned<L: Boundary, R: Boundary>(
     let mut bytes = file.to_vec();
     for bit in 0..8 * file.len() {
         bytes[bit / 8] ^= 1 << (bit % 8);
+        if cfg!(feature = "rescue") {
+            pair.rescued(&bytes, &mut Random::of_case(0, 0, bit as u64))?;
+        }
         let counts = if refusal(pair.ask(&bytes, Call::Check)?).is_some() {
             Counts {
                 refused: 1,

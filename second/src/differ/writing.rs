@@ -145,7 +145,9 @@ impl Writing {
                 corners: words.collect(),
                 mapping: vec![],
                 name: [18, name as u32],
+                places: [18, name, n, mesh + 14, f, mesh + 22 + 12 * n, 0, 0].map(|k| k as u32),
             }],
+            parts: vec![],
         }
     }
 

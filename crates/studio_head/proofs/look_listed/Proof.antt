@@ -30,28 +30,28 @@ add-from-2 : tie.Need-add-from-2
 add-from-2 c =
     let x = c .before .before .before .before .before in
     let g = c .before .size .given in
-    let f = judged-ends (x .args .file .now) (x .args .at) (x .args .id) (x .args .stop) (x .args .count) (x .pre .0) (x .pre .1) (x .pre .2) _ (c .before .before .before .judge .ensures) (g .0 .0) (g .1) in
+    let f = judged-ends (x .args .file .now) (x .args .at) (x .args .id) (x .args .stop) (x .args .count) (x .pre .0) (x .pre .1) (x .pre .2) _ (x .pre .3) (c .before .before .before .judge .ensures) (g .0 .0) (g .1) in
     omega arith
 
 may-have-children-requires : tie.Need-may-have-children-requires
 may-have-children-requires c κs = search needs
 
-add-count-of : tie.Need-add-count-of
-add-count-of c = search needs
+add-bound-inside : tie.Need-add-bound-inside
+add-bound-inside c = search needs
 
-count-of-requires : tie.Need-count-of-requires
-count-of-requires c κs =
+bound-inside-requires : tie.Need-bound-inside-requires
+bound-inside-requires c κs =
     let x = c .before .before .before .before .before .before .before in
     let g = c .before .before .before .size .given in
-    let f = judged-ends (x .args .file .now) (x .args .at) (x .args .id) (x .args .stop) (x .args .count) (x .pre .0) (x .pre .1) (x .pre .2) _ (c .before .before .before .before .before .judge .ensures) (g .0 .0) (g .1) in
+    let f = judged-ends (x .args .file .now) (x .args .at) (x .args .id) (x .args .stop) (x .args .count) (x .pre .0) (x .pre .1) (x .pre .2) _ (x .pre .3) (c .before .before .before .before .before .judge .ensures) (g .0 .0) (g .1) in
     omega arith
 
 returns : tie.Need-returns
 returns c =
     let x = c .before .before .before .before .before in
     let g = c .before .r .given in (
-      λ p rest h. opened-fault p (x .args .at) (x .args .id) (slice (x .args .at + 6) (x .args .stop) (x .args .file .now)) rest (g .0 .0)
-          (subst (Judges p (x .args .at) (x .args .id) (slice (x .args .at + 6) (x .args .stop) (x .args .file .now))) (g .1) (c .before .before .before .judge .ensures p h)),
+      λ p seen rest u h o. opened-fault p seen (x .args .at) (x .args .id) (slice (x .args .at + 6) (x .args .stop) (x .args .file .now)) rest (g .0 .0)
+          (subst (Judges p (x .args .at) (x .args .id) (slice (x .args .at + 6) (x .args .stop) (x .args .file .now))) (g .1) (c .before .before .before .judge .ensures p u h)),
       tt,
     )
 
@@ -59,26 +59,25 @@ returns-2 : tie.Need-returns-2
 returns-2 c =
     let x = c .before .before .before .before .before .before .before .before in
     let g = c .before .before .before .before .size .given in
-    let f = judged-ends (x .args .file .now) (x .args .at) (x .args .id) (x .args .stop) (x .args .count) (x .pre .0) (x .pre .1) (x .pre .2) _ (c .before .before .before .before .before .before .judge .ensures) (g .0 .0) (g .1) in
-    let u = sym (plus-is (x .args .id) (x .pre .3)) ∙ ap plusIn (sym (x .pre .4)) ∙ sym (c .before .before .may-have-children .ensures) ∙ c .before .if1 .taken in
-    let n = c .count-of .ensures in (
-      λ p rest h. subst (λ (y : Step). HeadIs (x .args .at) y (Head.Enter (x .args .id) (x .args .row) (c .count-of .result) (x .args .at + 6 + g .0 .0) (x .args .stop)))
-          (sym (opened-enters p (x .args .at) (x .args .id) (slice (x .args .at + 6) (x .args .stop) (x .args .file .now)) rest (g .0 .0)
-          (subst (Judges p (x .args .at) (x .args .id) (slice (x .args .at + 6) (x .args .stop) (x .args .file .now))) (g .1) (c .before .before .before .before .before .before .judge .ensures p h))))
-          (head-enter (x .args .file .now) (x .args .at) (x .args .stop) (g .0 .0) (x .args .id) (x .args .row) rest (x .pre .0) (x .pre .1) f u (x .pre .4) (c .count-of .result) n),
-      (omega arith, omega arith, omega arith, n .small),
+    let f = judged-ends (x .args .file .now) (x .args .at) (x .args .id) (x .args .stop) (x .args .count) (x .pre .0) (x .pre .1) (x .pre .2) _ (x .pre .3) (c .before .before .before .before .before .before .judge .ensures) (g .0 .0) (g .1) in
+    let pl = sym (plus-is (x .args .id) (x .pre .3)) ∙ ap plusIn (sym (x .pre .4)) ∙ sym (c .before .before .may-have-children .ensures) ∙ c .before .if1 .taken in (
+      λ p seen rest u h o. subst (λ (y : Step). HeadIs p seen (x .args .at) y (Head.Enter (x .args .id) (x .args .row) (c .bound-inside .result) (x .args .at + 6 + g .0 .0) (x .args .stop)))
+          (sym (opened-enters p seen (x .args .at) (x .args .id) (slice (x .args .at + 6) (x .args .stop) (x .args .file .now)) rest (g .0 .0)
+          (subst (Judges p (x .args .at) (x .args .id) (slice (x .args .at + 6) (x .args .stop) (x .args .file .now))) (g .1) (c .before .before .before .before .before .before .judge .ensures p u h))))
+          (head-enter p seen (x .args .file .now) (x .args .at) (x .args .stop) (g .0 .0) (x .args .id) (x .args .row) rest (x .pre .0) (x .pre .1) f pl (x .pre .4) (c .bound-inside .result) (c .bound-inside .ensures p seen o)),
+      (omega arith, omega arith, omega arith),
     )
 
 returns-3 : tie.Need-returns-3
 returns-3 c =
     let x = c .before .before .before .before .before .before .before in
     let g = c .before .before .before .size .given in
-    let f = judged-ends (x .args .file .now) (x .args .at) (x .args .id) (x .args .stop) (x .args .count) (x .pre .0) (x .pre .1) (x .pre .2) _ (c .before .before .before .before .before .judge .ensures) (g .0 .0) (g .1) in
-    let u = sym (plus-is (x .args .id) (x .pre .3)) ∙ ap plusIn (sym (x .pre .4)) ∙ sym (c .before .may-have-children .ensures) ∙ c .if1 .left in (
-      λ p rest h. subst (λ (y : Step). HeadIs (x .args .at) y (Head.Leaf (x .args .stop)))
-          (sym (opened-enters p (x .args .at) (x .args .id) (slice (x .args .at + 6) (x .args .stop) (x .args .file .now)) rest (g .0 .0)
-          (subst (Judges p (x .args .at) (x .args .id) (slice (x .args .at + 6) (x .args .stop) (x .args .file .now))) (g .1) (c .before .before .before .before .before .judge .ensures p h))))
-          (head-leaf (x .args .file .now) (x .args .at) (x .args .stop) (g .0 .0) (x .args .id) (x .args .row) rest (x .pre .0) (x .pre .1) f u),
+    let f = judged-ends (x .args .file .now) (x .args .at) (x .args .id) (x .args .stop) (x .args .count) (x .pre .0) (x .pre .1) (x .pre .2) _ (x .pre .3) (c .before .before .before .before .before .judge .ensures) (g .0 .0) (g .1) in
+    let pl = sym (plus-is (x .args .id) (x .pre .3)) ∙ ap plusIn (sym (x .pre .4)) ∙ sym (c .before .may-have-children .ensures) ∙ c .if1 .left in (
+      λ p seen rest u h o. subst (λ (y : Step). HeadIs p seen (x .args .at) y (Head.Leaf (x .args .stop)))
+          (sym (opened-enters p seen (x .args .at) (x .args .id) (slice (x .args .at + 6) (x .args .stop) (x .args .file .now)) rest (g .0 .0)
+          (subst (Judges p (x .args .at) (x .args .id) (slice (x .args .at + 6) (x .args .stop) (x .args .file .now))) (g .1) (c .before .before .before .before .before .judge .ensures p u h))))
+          (head-leaf p seen (x .args .file .now) (x .args .at) (x .args .stop) (g .0 .0) (x .args .id) (x .args .row) rest (x .pre .0) (x .pre .1) f pl),
       (omega arith, omega arith),
     )
 
@@ -92,8 +91,8 @@ look-listed-spec =
     add-from
     add-from-2
     may-have-children-requires
-    add-count-of
-    count-of-requires
+    add-bound-inside
+    bound-inside-requires
     returns
     returns-2
     returns-3)

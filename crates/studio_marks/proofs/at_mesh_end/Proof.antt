@@ -53,7 +53,7 @@ returns-2 c =
     let x = c .before .before .before .before .before .before .before .before .before .before in
     let n = c .before .before .before .before .before .before .count-at .ensures .0 in
     let e = ap (λ (m : ℕ). cornersAt (x .args .file .now) (getD (x .args .marks .now) 1 0) m) (sym n) ∙ sym (c .before .before .before .before .corners-fine .ensures) ∙ not-false _ (c .before .before .before .if1 .left) in
-    let f = ap (λ (m : ℕ). pairsAt (x .args .file .now) (getD (x .args .marks .now) 2 0) m) (sym n) ∙ sym (c .before .pairs-fine .ensures) ∙ not-true _ (c .if2 .taken) in
+    let f = ap (λ (m : ℕ). pairsAt (x .args .file .now) (getD (x .args .marks .now) 2 0) (x .args .as-many) m) (sym n) ∙ sym (c .before .pairs-fine .ensures) ∙ not-true _ (c .if2 .taken) in
     subst (λ (y : Option Refusal). ShutIs y (Shut.Fault (Refusal.Count (getD (x .args .marks .now) 2 0)))) (sym (broken-later _ _ _ e ∙ broken-here _ _ _ f)) refl
 
 returns-3 : tie.Need-returns-3
@@ -61,7 +61,7 @@ returns-3 c =
     let x = c .before .before .before .before .before .before .before .before .before .before in
     let n = c .before .before .before .before .before .before .count-at .ensures .0 in
     let e = ap (λ (m : ℕ). cornersAt (x .args .file .now) (getD (x .args .marks .now) 1 0) m) (sym n) ∙ sym (c .before .before .before .before .corners-fine .ensures) ∙ not-false _ (c .before .before .before .if1 .left) in
-    let f = ap (λ (m : ℕ). pairsAt (x .args .file .now) (getD (x .args .marks .now) 2 0) m) (sym n) ∙ sym (c .before .pairs-fine .ensures) ∙ not-false _ (c .if2 .left) in
+    let f = ap (λ (m : ℕ). pairsAt (x .args .file .now) (getD (x .args .marks .now) 2 0) (x .args .as-many) m) (sym n) ∙ sym (c .before .pairs-fine .ensures) ∙ not-false _ (c .if2 .left) in
     subst (λ (y : Option Refusal). ShutIs y Shut.Fine) (sym (unbroken _ (e, (f, tt)))) refl
 
 pub at-mesh-end-spec : {M : Type 1} → statement M

@@ -18,7 +18,11 @@ word-at-requires c κs = ⊎-elim (λ e. absurd (c .if1 .left e)) (λ e. omega a
 
 returns-2 : tie.Need-returns-2
 unfolding pairsAt
-returns-2 c = rw (ne-eqb _ _ (c .before .if1 .left), c .word-at .ensures .is)
+returns-2 c = rw (ne-eqb _ _ (c .before .before .if1 .left), c .if2 .taken, c .before .word-at .ensures .is)
+
+returns-3 : tie.Need-returns-3
+unfolding pairsAt
+returns-3 c = rw (ne-eqb _ _ (c .before .before .if1 .left), c .if2 .left, c .before .word-at .ensures .is)
 
 pub pairs-fine-spec : {M : Type 1} → statement M
-pairs-fine-spec = tie.close (tie.spec returns add-word-at word-at-requires returns-2)
+pairs-fine-spec = tie.close (tie.spec returns add-word-at word-at-requires returns-2 returns-3)

@@ -5,7 +5,7 @@ use Prim.Native.Nat.{ℕ, _-_, _≤_}
 use native.Mathlib.Omega.{arith}
 use Rattle.studio_rules.specs.Layout.{Run}
 use Rattle.studio_rules.specs.Rules.{Parent}
-use Rattle.studio_mesh_find.specs.Runs.{Spans}
+use Rattle.studio_child.specs.Runs.{Spans}
 use Rattle.studio_mesh_find.proofs.Parts.{all-listed}
 use Rattle.studio_mesh_find.proofs.Meshes.{MeshesBefore, none-before, all-before, nth-beyond}
 use Rattle.studio_mesh_find.proofs.Objects.{object-begins, next-on, rest-here, without-mesh, with-mesh, mesh-begins, mesh-found}

@@ -6,8 +6,9 @@ use borrow.Author.Needs.{needs}
 use Rattle.studio_rules.specs.Rules.{file}
 use Rattle.studio_rules.specs.Gives.{Mesh}
 use Rattle.studio_mesh_find.specs.Places.{FoundIs}
+use Rattle.studio_child.proofs.Figure.{figure-kids}
 use Rattle.studio_mesh_find.proofs.Parts.{all-listed}
-use Rattle.studio_mesh_find.proofs.Meshes.{figure-kids, objects-header, objects-spans, meshes-are}
+use Rattle.studio_mesh_find.proofs.Meshes.{objects-header, objects-spans, meshes-are}
 use Rattle.studio_mesh_find.proofs.find_mesh.Statement.{statement}
 use Rattle.studio_mesh_find.proofs.find_mesh.Tie as tie
 

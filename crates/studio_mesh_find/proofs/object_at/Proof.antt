@@ -5,7 +5,7 @@ use native.Mathlib.Omega.{arith}
 use borrow.Author.Needs.{needs}
 use lib.ListN.{length}
 use Rattle.studio_rules.specs.Layout.{offsetOf}
-use Rattle.studio_mesh_find.proofs.Runs.{header-here, kids-at}
+use Rattle.studio_child.proofs.Runs.{header-here, kids-at}
 use Rattle.studio_mesh_find.proofs.Parts.{all-listed, name-there, name-some}
 use Rattle.studio_mesh_find.proofs.object_at.Statement.{statement}
 use Rattle.studio_mesh_find.proofs.object_at.Tie as tie

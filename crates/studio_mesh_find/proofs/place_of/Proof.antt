@@ -2,7 +2,7 @@
 use Prim.Native.Nat.{_+_}
 use native.Mathlib.Omega.{arith}
 use borrow.Author.Needs.{needs}
-use Rattle.studio_mesh_find.proofs.Runs.{header-here, kids-at}
+use Rattle.studio_child.proofs.Runs.{header-here, kids-at}
 use Rattle.studio_mesh_find.proofs.Parts.{all-listed, mesh-own, vertices-counted, faces-counted, place-there}
 use Rattle.studio_mesh_find.proofs.place_of.Statement.{statement}
 use Rattle.studio_mesh_find.proofs.place_of.Tie as tie
@@ -44,17 +44,31 @@ elements-of-requires-2 c κs =
     let z = mesh-own (b .0) (b .1) (b .2) (b .3) (x .args .file .now) (x .args .at) (b .4) (b .5) in
     (all-listed .4, (_, faces-counted), (_, _, kids-at (b .0) (x .args .file .now) (x .args .at) (b .4) 0x4100 (b .1) (b .2) (b .3) (b .5) (x .args .at + 6) (w .result) (omega arith) (w .ensures .is)))
 
+add-mapping-of : tie.Need-add-mapping-of
+add-mapping-of c = search needs
+
+mapping-of-requires : tie.Need-mapping-of-requires
+mapping-of-requires c κs =
+    let x = c .before .before .before .before in
+    let b = x .pre in
+    let w = c .before .before .long-at in
+    let z = mesh-own (b .0) (b .1) (b .2) (b .3) (x .args .file .now) (x .args .at) (b .4) (b .5) in
+    (_, _, kids-at (b .0) (x .args .file .now) (x .args .at) (b .4) 0x4100 (b .1) (b .2) (b .3) (b .5) (x .args .at + 6) (w .result) (omega arith) (w .ensures .is))
+
 returns : tie.Need-returns
 returns c =
-    let x = c .before .before .before .before in
+    let x = c .before .before .before .before .before in
     let s = x .args .file .now in
     let a = x .args .at in
-    let w = c .before .before .long-at in
+    let w = c .before .before .before .long-at in
+    let v = c .before .before .elements-of in
+    let f = c .before .elements-of2 in
     λ p own kids rest stop h.
     let z = mesh-own p own kids rest s a stop h in
     let k = kids-at p s a stop 0x4100 own kids rest h (a + 6) (w .result) (omega arith) (w .ensures .is) in
-    place-there _ (k .seen) kids s (k .obeys) (x .args .name) (x .args .size) (c .before .elements-of .result) (c .elements-of2 .result)
-    (c .before .elements-of .ensures _ _ 12 vertices-counted k) (c .elements-of2 .ensures _ _ 8 faces-counted k)
+    let vs = v .ensures _ _ 12 vertices-counted k in
+    place-there _ (k .seen) kids s (k .obeys) (p .version) (h .obeys .1 .mapping-matches) (x .args .name) (x .args .size) (v .result) (f .result) (c .mapping-of .result)
+    vs (f .ensures _ _ 8 faces-counted k) (c .mapping-of .ensures _ _ (vs .count-is) k)
 
 pub place-of-spec : {M : Type 1} → statement M
 place-of-spec =
@@ -68,4 +82,6 @@ place-of-spec =
     elements-of-requires
     add-elements-of-2
     elements-of-requires-2
+    add-mapping-of
+    mapping-of-requires
     returns)

@@ -39,14 +39,14 @@ words-below-requires c κs = let x = c .before .before .before .before in
     omega arith
 
 returns : tie.Need-returns
-returns c = λ p h.
+returns c = λ p u h.
     let x = c .before .before .before .before .before in
     c .words-below .ensures ∙
     words-below (x .args .file .now) (x .args .at) (x .args .stop) (x .pre .0) (x .pre .1) (x .args .id) (x .pre .2)
-    (c .before .before .before .if1 .taken) (c .before .before .name-size .result) (c .before .before .name-size .ensures) p (x .args .f) (c .before .word-at .result) h (c .before .word-at .ensures .is)
+    (c .before .before .before .if1 .taken) (c .before .before .name-size .result) (c .before .before .name-size .ensures) p (x .args .f) (c .before .word-at .result) u h (c .before .word-at .ensures .is)
 
 returns-2 : tie.Need-returns-2
-returns-2 c = λ p h.
+returns-2 c = λ p u h.
     let a = c .before .before .args in
     other-below (a .id) (c .if1 .left) p (slice (a .at) (a .stop) (a .file .now))
 

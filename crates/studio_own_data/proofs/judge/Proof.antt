@@ -25,13 +25,13 @@ add-if2 : tie.Need-add-if2
 add-if2 c = search needs
 
 returns-2 : tie.Need-returns-2
-returns-2 c = λ p h.
+returns-2 c = λ p u h.
     let x = c .before .before .before .before .before in
     plain-chunk-fine (x .args .file .now) (x .args .at) (x .args .stop) (x .args .id) (x .args .row) (c .before .size .result) (x .pre .0) (x .pre .1) (x .pre .3) (x .pre .4)
     (sym (c .before .before .before .is-plain .ensures) ∙ not-false _ (c .before .before .if1 .left)) (c .before .size .ensures .is) p (c .if2 .taken)
 
 returns-3 : tie.Need-returns-3
-returns-3 c = λ p h.
+returns-3 c = λ p u h.
     let x = c .before .before .before .before .before in
     plain-chunk-fault (x .args .file .now) (x .args .at) (x .args .stop) (x .args .id) (x .args .row) (c .before .size .result) (x .pre .0) (x .pre .1) (x .pre .3) (x .pre .4)
     (sym (c .before .before .before .is-plain .ensures) ∙ not-false _ (c .before .before .if1 .left)) (c .before .size .ensures .is) p (c .if2 .left)

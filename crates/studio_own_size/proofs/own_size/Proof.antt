@@ -2,11 +2,11 @@
 use mathlib.Core.Path.{refl, sym, _∙_}
 use native.Mathlib.Omega.{arith}
 use borrow.Author.Needs.{needs}
-use Rattle.studio_rules.specs.Table.{fixed, name, counted, each, named-words}
+use Rattle.studio_rules.specs.Table.{fixed, name, counted, each, named-words, named}
 use Rattle.studio_row.specs.Packed.{sizeIn}
 use mathlib.Core.List.{[]}
 use lib.Seq.{slice}
-use Rattle.studio_own_size.proofs.Sizes.{product-small, fixed-is, each-is, kind-fixed, kind-name, kind-counted, kind-each, kind-words, name-fine, fit-any}
+use Rattle.studio_own_size.proofs.Sizes.{product-small, fixed-is, each-is, kind-fixed, kind-name, kind-counted, kind-each, kind-words, kind-named, name-fine, fit-any}
 use Rattle.studio_own_size.proofs.own_size.Statement.{statement}
 use Rattle.studio_own_size.proofs.own_size.Tie as tie
 
@@ -46,6 +46,12 @@ fitting-requires-2 c κs = search needs
 named-words-size-requires : tie.Need-named-words-size-requires
 named-words-size-requires c κs = search needs
 
+size-requires-4 : tie.Need-size-requires-4
+size-requires-4 c κs = search needs
+
+named-size-requires : tie.Need-named-size-requires
+named-size-requires c κs = search needs
+
 returns : tie.Need-returns
 returns c = λ around h.
     let a = c .before .before .before .before .before .args in
@@ -79,10 +85,17 @@ returns-4 c = λ around h.
 returns-5 : tie.Need-returns-5
 returns-5 c = λ around h.
     let a = c .before .before .before .before .args in
-    let k = c .before .before .kind .ensures in
-    let out = c .before .match .rest in
-    rw (kind-words (a .row) (λ e. out .0 .0 .0 .1 (k ∙ e)) (λ e. out .0 .0 .1 (k ∙ e)) (λ e. out .0 .1 (k ∙ e)) (λ e. out .1 (k ∙ e)))
+    rw (kind-words (a .row) (sym (c .before .before .kind .ensures) ∙ c .before .match .keys5))
     (fit-any named-words (λ x y body. refl) around (slice (a .at) (a .stop) (a .file .now)) (c .named-words-size .result) (c .named-words-size .ensures))
+
+returns-6 : tie.Need-returns-6
+returns-6 c = λ around h.
+    let a = c .before .before .before .before .before .args in
+    let k = c .before .before .before .kind .ensures in
+    let out = c .before .before .match .rest in
+    let z = c .before .size4 .ensures .is in
+    rw (kind-named (a .row) (λ e. out .0 .0 .0 .0 .1 (k ∙ e)) (λ e. out .0 .0 .0 .1 (k ∙ e)) (λ e. out .0 .0 .1 (k ∙ e)) (λ e. out .0 .1 (k ∙ e)) (λ e. out .1 (k ∙ e)))
+    (fit-any (named (sizeIn (a .row))) (λ x y body. refl) around (slice (a .at) (a .stop) (a .file .now)) (c .named-size .result) (rw z at (c .named-size .ensures)))
 
 pub own-size-spec : {M : Type 1} → statement M
 own-size-spec =
@@ -100,8 +113,11 @@ own-size-spec =
     sub-fitting-2
     fitting-requires-2
     named-words-size-requires
+    size-requires-4
+    named-size-requires
     returns
     returns-2
     returns-3
     returns-4
-    returns-5)
+    returns-5
+    returns-6)

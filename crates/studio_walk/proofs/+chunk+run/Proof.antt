@@ -12,7 +12,7 @@ use Rattle.shared_words.specs.Bytes.{Bytes}
 use Rattle.studio_rules.specs.Rules.{Parent, inside}
 use Rattle.studio_rules.specs.Walk.{step, walk}
 use Rattle.studio_rules.proofs.Steps.{step-says}
-use Rattle.studio_marks.specs.Marks.{noMarks}
+use Rattle.studio_marks.specs.Marks.{noMarks, RuleIs}
 use Rattle.studio_head.specs.declared.Head.{Head}
 use Rattle.studio_walk.specs.declared.Ran.{Ran}
 use Rattle.studio_head.specs.Heads.{HeadIs, HeadWithin}
@@ -38,10 +38,10 @@ use Rattle.studio_walk.proofs.+chunk+run.{statement}
 use Rattle.studio_walk.proofs.+chunk+run.Tie.{close}
 
 abbrev μ-chunk : Measures 3 chunk-kinds.ps ℕ
-μ-chunk κs a = (a .1 .1 .1 .1 .1 .0 - a .1 .1 .1 .1 .0) * 2
+μ-chunk κs a = (a .1 .1 .1 .1 .1 .1 .0 - a .1 .1 .1 .1 .1 .0) * 2
 
 abbrev μ-run : Measures 3 run-kinds.ps ℕ
-μ-run κs a = (a .1 .1 .1 .1 .1 .0 - a .1 .1 .1 .1 .0) * 2 + 1
+μ-run κs a = (a .1 .1 .1 .1 .1 .1 .0 - a .1 .1 .1 .1 .1 .0) * 2 + 1
 
 abbrev chunk-at : ℕ → In 3 chunk-kinds.ps
 chunk-at t = and 3 chunk-kinds.ps (is 3 chunk-kinds.ps μ-chunk t) chunk.Pre
@@ -79,10 +79,10 @@ found-within t d e = subst (HeadWithin (d .before .before .before .before .args 
 -- and the step of the walk that it is, in each context of the run
 found : (t : ℕ) (d : chunk-lts.After-look (chunk-calls t) (chunk-at t) chunk.Post) {h : Head} → d .look .result ≡ h →
     let x = d .before .before .before .before .args in
-    (q : Parent) (seen : List ℕ) → Context q seen (x .parent) (x .count) (x .marks .now) → HeadIs (x .at) (step q seen (x .at) (slice (x .at) (x .end) (x .file .now))) h
+    (q : Parent) (seen : List ℕ) → Context q seen (x .parent) (x .count) (x .marks .now) → HeadIs q seen (x .at) (step q seen (x .at) (slice (x .at) (x .end) (x .file .now))) h
 found t d e q seen k =
     let x = d .before .before .before .before .args in
-    subst (HeadIs (x .at) (step q seen (x .at) (slice (x .at) (x .end) (x .file .now)))) e (d .look .ensures .0 q seen k)
+    subst (HeadIs q seen (x .at) (step q seen (x .at) (slice (x .at) (x .end) (x .file .now)))) e (d .look .ensures .0 q seen k)
 
 file-bytes : (t : ℕ) (d : chunk-lts.After-look (chunk-calls t) (chunk-at t) chunk.Post) → Bytes (d .before .before .before .before .args .file .now)
 file-bytes t d = bytes-all (d .before .before .before .before .args .file .now) (λ i. omega (arith, d .before .before .before .shared-slice-known .given i))
@@ -93,8 +93,8 @@ chunk-enum-known-r t c = search needs
 chunk-enum-known-stop : (t : ℕ) → chunk-lts.Need-enum-known-stop (chunk-calls t) (chunk-at t) chunk.Post
 chunk-enum-known-stop t c = search needs
 
-chunk-sub-t25 : (t : ℕ) → chunk-lts.Need-sub-t25 (chunk-calls t) (chunk-at t) chunk.Post
-chunk-sub-t25 t c =
+chunk-sub-t26 : (t : ℕ) → chunk-lts.Need-sub-t26 (chunk-calls t) (chunk-at t) chunk.Post
+chunk-sub-t26 t c =
     let v = found-within t (c .before .before .before .before .before) (c .before .stop .given .1) in
     omega arith
 
@@ -130,10 +130,10 @@ chunk-run-requires : (t : ℕ) → chunk-lts.Need-run-requires (chunk-calls t) (
 chunk-run-requires t c κs =
     let x = c .before .before .before .before .before .before .before .before .before .before in
     let p = x .pre .1 .3 in
-    let e = opened t (c .before .before) (p .0) (p .1) (p .2) in
+    let e = opened t (c .before .before) (p .0) (p .1) (p .3) in
     let v = e .within in
-    let room : Room (c .before .before .id .given .0 .1 .1 .1 .1 .0) (c .before .before .id .given .0 .1 .1 .0) (x .args .file .now) noMarks = record { ends = omega (arith, x .pre .1 .2 .ends, v .2); short = x .pre .1 .2 .short; word = v .3; five = refl } in
-    (omega (arith, v .0, v .1, v .2, x .pre), (v .1, omega (arith, v .0), room, (inside (p .0) (p .1) (c .before .before .id .given .0 .0) (ent e .own), [], inner-context e), x .pre .1 .4))
+    let room : Room (c .before .before .id .given .0 .1 .1 .1 .1 .0) (c .before .before .id .given .0 .1 .1 .0) (x .args .file .now) noMarks = record { ends = omega (arith, x .pre .1 .2 .ends, v .2); short = x .pre .1 .2 .short; word = inner-context e .bound-is .small; six = refl } in
+    (omega (arith, v .0, v .1, v .2, x .pre), (v .1, omega (arith, v .0), room, (inside (p .0) (p .1) (c .before .before .id .given .0 .0) (ent e .own), [], p .2, inner-context e), x .pre .1 .4))
 
 chunk-enum-known-r-2 : (t : ℕ) → chunk-lts.Need-enum-known-r-2 (chunk-calls t) (chunk-at t) chunk.Post
 chunk-enum-known-r-2 t c = search needs
@@ -148,9 +148,9 @@ chunk-at-end-requires : (t : ℕ) → chunk-lts.Need-at-end-requires (chunk-call
 chunk-at-end-requires t c κs =
     let x = c .before .before .before .before .before .before .before .before .before .before .before .before .before .before .before .before in
     let p = x .pre .1 .3 in
-    let e = opened t (c .before .before .before .before .before .before .before .before) (p .0) (p .1) (p .2) in
+    let e = opened t (c .before .before .before .before .before .before .before .before) (p .0) (p .1) (p .3) in
     let y = c .before .before .before .before .before .run in
-    (y .ensures .1 .0, enter-placed e (children e (y .ensures .0) (c .before .before .records .given .1)))
+    (y .ensures .1 .0, enter-placed e (children e (p .2) (y .ensures .0) (c .before .before .records .given .1)))
 
 chunk-enum-known-r-3 : (t : ℕ) → chunk-lts.Need-enum-known-r-3 (chunk-calls t) (chunk-at t) chunk.Post
 chunk-enum-known-r-3 t c = search needs
@@ -165,8 +165,8 @@ children-within : (t : ℕ) (d : chunk-lts.After-records (chunk-calls t) (chunk-
     RunWithin (g .1 .1 .1 .0) (g .1 .1 .1 .1 .0) (Ran.Done (h .0) (h .1 .0) (h .1 .1 .0))
 children-within t d = subst (RunWithin _ _) (d .records .given .1) (d .before .before .before .run .ensures .1 .1)
 
-chunk-add-t34 : (t : ℕ) → chunk-lts.Need-add-t34 (chunk-calls t) (chunk-at t) chunk.Post
-chunk-add-t34 t c =
+chunk-add-t35 : (t : ℕ) → chunk-lts.Need-add-t35 (chunk-calls t) (chunk-at t) chunk.Post
+chunk-add-t35 t c =
     let x = c .before .before .before .before .before .before .before .before .before .before .before .before .before .before .before .before .before .before .before .pre .1 .2 in
     let v = found-within t (c .before .before .before .before .before .before .before .before .before .before .before .before .before .before .before) (c .before .before .before .before .before .before .before .before .before .before .before .id .given .1) in
     let z = children-within t (c .before .before .before .before .before) in
@@ -181,7 +181,7 @@ chunk-returns t c =
     let x = d .before .before .before .before .args in
     let ms = d .look .last .1 .1 .1 .1 .1 .1 .0 in
     let g = c .before .r .given in
-    (λ q seen k. chunk-fault q seen (x .at) (x .marks .now) ms (step q seen (x .at) (slice (x .at) (x .end) (x .file .now))) (g .0 .0) (found t d (g .1) q seen k), (d .look .ensures .1 .1 .0, tt))
+    (λ q seen rule k. chunk-fault q seen (x .at) (x .marks .now) ms (step q seen (x .at) (slice (x .at) (x .end) (x .file .now))) (g .0 .0) (found t d (g .1) q seen k), (d .look .ensures .1 .1 .0, tt))
 
 chunk-same-length-2 : (t : ℕ) → chunk-lts.Need-same-length-2 (chunk-calls t) (chunk-at t) chunk.Post
 chunk-same-length-2 t c = search needs
@@ -193,7 +193,7 @@ chunk-returns-2 t c =
     let ms = d .look .last .1 .1 .1 .1 .1 .1 .0 in
     let g = c .before .stop .given in
     let v = found-within t d (g .1) in (
-      λ q seen k.
+      λ q seen rule k.
           chunk-skip q seen (x .at) (x .marks .now) ms (step q seen (x .at) (slice (x .at) (x .end) (x .file .now))) (g .0 .0) (found t d (g .1) q seen k) (d .look .ensures .1 .0 q seen k),
       (d .look .ensures .1 .1 .0, omega arith),
     )
@@ -209,7 +209,7 @@ chunk-returns-3 t c =
     let ms = d .look .last .1 .1 .1 .1 .1 .1 .0 in
     let g = c .before .stop2 .given in
     let v = found-within t d (g .1) in (
-      λ q seen k.
+      λ q seen rule k.
           chunk-leaf q seen body (x .at) (x .marks .now) ms (step q seen (x .at) body) (step-says q seen (x .at) body (bytes-slice (x .file .now) (x .at) (x .end) (file-bytes t d)))
           (g .0 .0) (found t d (g .1) q seen k) (d .look .ensures .1 .0 q seen k),
       (d .look .ensures .1 .1 .0, omega arith),
@@ -221,7 +221,7 @@ chunk-same-length-4 t c = search needs
 chunk-returns-4 : (t : ℕ) → chunk-lts.Need-returns-4 (chunk-calls t) (chunk-at t) chunk.Post
 chunk-returns-4 t c =
     let d = c .before .before .before .before .before .before .before in (
-      λ q seen k. let e = opened t d q seen k in enter-refused e (children e (c .before .before .before .before .run .ensures .0) (c .before .r2 .given .1)),
+      λ q seen rule k. let e = opened t d q seen k in enter-refused e (children e rule (c .before .before .before .before .run .ensures .0) (c .before .r2 .given .1)),
       (d .before .before .before .before .look .ensures .1 .1 .0, tt),
     )
 
@@ -231,10 +231,10 @@ chunk-same-length-5 t c = search needs
 chunk-returns-5 : (t : ℕ) → chunk-lts.Need-returns-5 (chunk-calls t) (chunk-at t) chunk.Post
 chunk-returns-5 t c =
     let d = c .before .before .before .before .before .before .before .before .before .before .before .before in (
-      λ q seen k.
+      λ q seen rule k.
           let e = opened t d q seen k in
-          let kids = children e (c .before .before .before .before .before .before .before .before .before .run .ensures .0) (c .before .before .before .before .before .before .records .given .1) in
-          enter-shut e kids (c .before .before .before .at-end .result) (c .before .before .before .at-end .ensures) (c .before .r3 .given .1),
+          let kids = children e rule (c .before .before .before .before .before .before .before .before .before .run .ensures .0) (c .before .before .before .before .before .before .records .given .1) in
+          enter-shut e kids rule (c .before .before .before .at-end .result) (c .before .before .before .at-end .ensures) (c .before .r3 .given .1),
       (d .before .before .before .before .look .ensures .1 .1 .0, tt),
     )
 
@@ -246,17 +246,17 @@ chunk-returns-6 t c =
     let d = c .before .before .before .before .before .before .before .before .before .before .before in
     let v = found-within t (d .before .before .before .before) (d .id .given .1) in
     let z = children-within t (c .before .before .before .before .before) in (
-      λ q seen k.
+      λ q seen rule k.
           let e = opened t d q seen k in
-          enter-done e (children e (c .before .before .before .before .before .before .before .before .run .ensures .0) (c .before .before .before .before .before .records .given .1)) (c .before .before .at-end .result) (c .before .before .at-end .ensures) (c .enum-told .given .1),
+          enter-done e (children e rule (c .before .before .before .before .before .before .before .before .run .ensures .0) (c .before .before .before .before .before .records .given .1)) rule (c .before .before .at-end .result) (c .before .before .at-end .ensures) (c .enum-told .given .1),
       (d .before .before .before .before .look .ensures .1 .1 .0, omega arith),
     )
 
 abbrev run-Inv-loop : run-lts.InvT-loop
-run-Inv-loop file table parent count at end marks₀ p₀ records₀ skipped₀ marks p records skipped = Sofar file parent count at end marks₀ marks p records skipped
+run-Inv-loop file table parent count as-many at end marks₀ p₀ records₀ skipped₀ marks p records skipped = Sofar file parent count as-many at end marks₀ marks p records skipped
 
 abbrev run-μ-loop : run-lts.MeasureT-loop
-run-μ-loop file table parent count at end marks₀ p₀ records₀ skipped₀ marks p records skipped = end - p
+run-μ-loop file table parent count as-many at end marks₀ p₀ records₀ skipped₀ marks p records skipped = end - p
 
 run-loop-holds :
     (t : ℕ) →
@@ -271,10 +271,10 @@ run-loop-holds t c =
     record {
       past = omega arith;
       before = x .pre .1 .0;
-      five = x .pre .1 .2 .five;
+      six = x .pre .1 .2 .six;
       within = omega arith;
       somewhere = x .pre .1 .3;
-      later = λ q seen k. record { seen′ = seen; context = k; tells = λ r ms′ h. h };
+      later = λ q seen rule k. record { seen′ = seen; context = k; tells = λ r ms′ h. h };
     }
 
 run-chunk-requires :
@@ -288,7 +288,7 @@ run-chunk-requires :
 run-chunk-requires t c κs =
     let x = c .before .before .before .before .before in
     let i = c .before .before .loop .inv in
-    (omega (arith, i .past, c .before .loop-test .taken, x .pre), (c .before .loop-test .taken, omega (arith, i .past, x .pre .1 .1), record { ends = x .pre .1 .2 .ends; short = x .pre .1 .2 .short; word = x .pre .1 .2 .word; five = i .five }, i .somewhere, x .pre .1 .4))
+    (omega (arith, i .past, c .before .loop-test .taken, x .pre), (c .before .loop-test .taken, omega (arith, i .past, x .pre .1 .1), record { ends = x .pre .1 .2 .ends; short = x .pre .1 .2 .short; word = x .pre .1 .2 .word; six = i .six }, i .somewhere, x .pre .1 .4))
 
 run-enum-known-r :
     (t : ℕ) →
@@ -314,25 +314,25 @@ run-same-length t c = search needs
 came : (t : ℕ) (d : run-lts.After-chunk (run-calls t) (run-at t) run.Post run-Inv-loop run-μ-loop) {r : Ran} → d .chunk .result ≡ r →
     let x = d .before .before .before .before .before .before .args in
     let i = d .before .before .before .loop in
-    (q : Parent) (seen : List ℕ) → Context q seen (x .parent) (x .count) (i .marks) →
-    ChunkIs q seen (i .p) (step q seen (i .p) (slice (i .p) (x .end) (x .file .now))) r (i .marks) (d .chunk .last .1 .1 .1 .1 .1 .1 .0)
-came t d e q seen k =
+    (q : Parent) (seen : List ℕ) → RuleIs q (x .as-many) → Context q seen (x .parent) (x .count) (i .marks) →
+    ChunkIs q seen (i .p) (step q seen (i .p) (slice (i .p) (x .end) (x .file .now))) r (i .marks) (d .chunk .last .1 .1 .1 .1 .1 .1 .1 .0)
+came t d e q seen rule k =
     let x = d .before .before .before .before .before .before .args in
     let i = d .before .before .before .loop in
-    subst (λ r. ChunkIs q seen (i .p) (step q seen (i .p) (slice (i .p) (x .end) (x .file .now))) r (i .marks) (d .chunk .last .1 .1 .1 .1 .1 .1 .0)) e (d .chunk .ensures .0 q seen k)
+    subst (λ r. ChunkIs q seen (i .p) (step q seen (i .p) (slice (i .p) (x .end) (x .file .now))) r (i .marks) (d .chunk .last .1 .1 .1 .1 .1 .1 .1 .0)) e (d .chunk .ensures .0 q seen rule k)
 
 run-returns : (t : ℕ) → run-lts.Need-returns (run-calls t) (run-at t) run.Post run-Inv-loop run-μ-loop
 run-returns t c =
     let d = c .before .before .before .before .before in
     let x = d .before .before .before .before .before .before in
     let i = d .before .before .before .loop in
-    let ms = d .chunk .last .1 .1 .1 .1 .1 .1 .0 in
+    let ms = d .chunk .last .1 .1 .1 .1 .1 .1 .1 .0 in
     let g = c .before .r .given in (
-      λ q seen k.
-          let j = i .inv .later q seen k in
+      λ q seen rule k.
+          let j = i .inv .later q seen rule k in
           j .tells (Ran.Refused (g .0 .0)) ms
           (stops-here q (j .seen′) (x .args .file .now) (i .p) (x .args .end) (i .marks) (d .before .before .loop-test .taken) (x .pre .1 .2 .ends)
-          (i .records) (i .skipped) (g .0 .0) ms (came t d (g .1) q (j .seen′) (j .context))),
+          (i .records) (i .skipped) (g .0 .0) ms (came t d (g .1) q (j .seen′) rule (j .context))),
       (d .chunk .ensures .1 .0, tt),
     )
 
@@ -393,33 +393,33 @@ went-on : (t : ℕ) (c : run-lts.After-next (run-calls t) (run-at t) run.Post ru
     let x = c .before .before .before .before .before .before .before .before .before .before .args in
     let i = c .before .before .before .before .before .before .before .loop in
     let g = c .next .given .0 in
-    (q : Parent) (seen : List ℕ) → Context q seen (x .parent) (x .count) (i .marks) →
+    (q : Parent) (seen : List ℕ) → RuleIs q (x .as-many) → Context q seen (x .parent) (x .count) (i .marks) →
     GoesOn q seen (x .file .now) (i .p) (x .end) (i .marks) (x .parent) (x .count) (walk q seen (i .p) (slice (i .p) (x .end) (x .file .now)))
-    (g .0) (g .1 .0) (g .1 .1 .0) (c .before .before .before .before .chunk .last .1 .1 .1 .1 .1 .1 .0)
-went-on t c q seen k =
+    (g .0) (g .1 .0) (g .1 .1 .0) (c .before .before .before .before .chunk .last .1 .1 .1 .1 .1 .1 .1 .0)
+went-on t c q seen rule k =
     let x = c .before .before .before .before .before .before .before .before .before .before in
     let i = c .before .before .before .before .before .before .before .loop in
     let g = c .next .given in
     let s = x .args .file .now in
     let b = bytes-all s (λ n. omega (arith, c .before .before .before .before .before .before .before .before .before .shared-slice-known .given n)) in
-    goes-on q seen s (i .p) (x .args .end) (i .marks) (c .before .before .before .before .before .before .loop-test .taken) (x .pre .1 .2 .ends) (x .args .parent) (x .args .count) k (i .inv .five)
-    (omega (arith, i .inv .past, x .pre .1 .1)) b (g .0 .0) (g .0 .1 .0) (g .0 .1 .1 .0) (c .before .before .before .before .chunk .last .1 .1 .1 .1 .1 .1 .0) (came t (c .before .before .before .before) (g .1) q seen k)
+    goes-on q seen s (i .p) (x .args .end) (i .marks) (c .before .before .before .before .before .before .loop-test .taken) (x .pre .1 .2 .ends) (x .args .parent) (x .args .count) k (i .inv .six)
+    (omega (arith, i .inv .past, x .pre .1 .1)) b (g .0 .0) (g .0 .1 .0) (g .0 .1 .1 .0) (c .before .before .before .before .chunk .last .1 .1 .1 .1 .1 .1 .1 .0) (came t (c .before .before .before .before) (g .1) q seen rule k)
 
 run-loop-again : (t : ℕ) → run-lts.Need-loop-again (run-calls t) (run-at t) run.Post run-Inv-loop run-μ-loop
 run-loop-again t c =
     let i = c .before .before .before .before .before .before .before .before .loop in
     let f = stepped t (c .before) in
     let y = i .inv .somewhere in
-    let z = went-on t (c .before) (y .0) (y .1) (y .2) in
+    let z = went-on t (c .before) (y .0) (y .1) (y .2) (y .3) in
     record {
       past = omega arith;
       before = f .0 .1;
-      five = c .before .before .before .before .before .chunk .ensures .1 .0;
+      six = c .before .before .before .before .before .chunk .ensures .1 .0;
       within = omega arith;
-      somewhere = (y .0, z .seen′, z .context);
-      later = λ q seen k.
-          let j = i .inv .later q seen k in
-          let d = went-on t (c .before) q (j .seen′) (j .context) in
+      somewhere = (y .0, z .seen′, y .2, z .context);
+      later = λ q seen rule k.
+          let j = i .inv .later q seen rule k in
+          let d = went-on t (c .before) q (j .seen′) rule (j .context) in
           record { seen′ = d .seen′; context = d .context; tells = λ r ms′ h. j .tells r ms′ (d .tells (i .records) (i .skipped) r ms′ h) };
     }
 
@@ -439,10 +439,10 @@ run-returns-2 :
 run-returns-2 t c =
     let x = c .before .before .before .before in
     let i = c .before .loop in (
-      λ q seen k.
-          let j = i .inv .later q seen k in
+      λ q seen rule k.
+          let j = i .inv .later q seen rule k in
           j .tells (Ran.Done (x .args .end) (i .records) (i .skipped)) (i .marks) (run-ends q (j .seen′) (x .args .file .now) (i .p) (x .args .end) (i .records) (i .skipped) (i .marks) (c .loop-test .left)),
-      (i .inv .five, omega (arith, i .inv .within, i .inv .before, i .inv .past, c .loop-test .left)),
+      (i .inv .six, omega (arith, i .inv .within, i .inv .before, i .inv .past, c .loop-test .left)),
     )
 
 pub +chunk+run-spec : {M : Type 1} → statement M
@@ -452,7 +452,7 @@ pub +chunk+run-spec : {M : Type 1} → statement M
     (chunk-look-requires t)
     (chunk-enum-known-r t)
     (chunk-enum-known-stop t)
-    (chunk-sub-t25 t)
+    (chunk-sub-t26 t)
     (chunk-enum-known-stop-2 t)
     (chunk-enum-known-id t)
     (chunk-slice-aggregate-run t)
@@ -463,7 +463,7 @@ pub +chunk+run-spec : {M : Type 1} → statement M
     (chunk-at-end-requires t)
     (chunk-enum-known-r-3 t)
     (chunk-enum-told t)
-    (chunk-add-t34 t)
+    (chunk-add-t35 t)
     (chunk-same-length t)
     (chunk-returns t)
     (chunk-same-length-2 t)

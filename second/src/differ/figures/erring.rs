@@ -10,7 +10,7 @@ listed! {
     CornerAtCount SmoothingLost FlagWords ColoursExchanged MaterialsLast LimitOff RoomOff
     ClearsRest WritesBeforeRefusing;
 
-    "labels": TextNotJudged TextPlaceInAll TextAfterSameName
+    feature = "labels": TextNotJudged TextPlaceInAll TextAfterSameName
 }
 
 /// This library, with an error or without.

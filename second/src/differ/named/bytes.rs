@@ -15,6 +15,7 @@ fn case(name: &str, file: Vec<u8>, number: u32, place: usize) -> Case {
         subject: Subject::File(file),
         expected: refused(number, place),
         facts: None,
+        rescue: None,
     }
 }
 
@@ -84,6 +85,7 @@ fn limits() -> Vec<Case> {
         subject: Subject::File(filled(LIMIT)),
         expected: 5,
         facts: None,
+        rescue: None,
     };
     let mut other = filled(LIMIT + 1);
     other[0] = 0;

@@ -1,9 +1,10 @@
 //! Every call over one file, with just the room that is needed, a byte less
 //! and a byte more; of every mesh, and of some that are not there.
 
-use crate::boundary::{refusal, Boundary, RECORD_BYTES};
+use crate::boundary::{refusal, Boundary, PART_BYTES, PLACES_BYTES, RECORD_BYTES};
 use crate::differ::compare::{Call, Pair};
 use crate::differ::lent::Difference;
+use crate::differ::random::Random;
 use crate::RECORD;
 
 /// The check's answer, if both sides agree in all calls.
@@ -12,6 +13,7 @@ pub fn all<L: Boundary, R: Boundary>(
     pair: &mut Pair<L, R>,
 ) -> Result<u64, Difference> {
     let answer = pair.ask(file, Call::Check)?;
+    pair.rescued(file, &mut Random::of_case(0, 0, 0))?;
     if refusal(answer).is_some() {
         for room in [0, 999] {
             pair.refused(file, answer, refused_calls(room))?;
@@ -29,7 +31,15 @@ pub fn all<L: Boundary, R: Boundary>(
     for room in [11, 12, 13] {
         pair.ask(file, Call::Counts(room))?;
     }
+    let parts = PART_BYTES * pair.wanting(file, Call::Parts(0))?;
+    for room in [parts.saturating_sub(1), parts, parts + 1] {
+        pair.ask(file, Call::Parts(room))?;
+    }
     let count = pair.ask(file, Call::Name(u32::MAX, 8))? as u32;
+    let places = PLACES_BYTES * count as usize;
+    for room in [places.saturating_sub(1), places, places + 1] {
+        pair.ask(file, Call::Meshes(room))?;
+    }
     for mesh in count..count + 3 {
         absent(file, mesh, pair)?;
     }
@@ -41,7 +51,7 @@ pub fn all<L: Boundary, R: Boundary>(
 }
 
 /// All calls but the check, each with the same room.
-fn refused_calls(room: usize) -> [Call; 7] {
+fn refused_calls(room: usize) -> [Call; 9] {
     [
         Call::List(room),
         Call::Records(room, room),
@@ -50,6 +60,8 @@ fn refused_calls(room: usize) -> [Call; 7] {
         Call::Name(0, room),
         Call::Box(0, room),
         Call::Mapping(0, room),
+        Call::Parts(room),
+        Call::Meshes(room),
     ]
 }
 
@@ -92,7 +104,7 @@ fn one<L: Boundary, R: Boundary>(
     for room in [35, 36, 37] {
         pair.ask(file, Call::Box(mesh, room))?;
     }
-    let m = 4 * pair.pairs(file, mesh)?;
+    let m = 4 * pair.wanting(file, Call::Mapping(mesh, 0))?;
     for room in [m.saturating_sub(1), m, m + 1] {
         pair.ask(file, Call::Mapping(mesh, room))?;
     }

@@ -6,18 +6,22 @@ use super::tree::{accepted, refused_at};
 use super::Case;
 use crate::differ::build::{faces, figure, meshed, object};
 use crate::differ::node::{Node, Path};
-use crate::LABELS_JUDGED;
+use crate::{LABELS_JUDGED, PARTS_LISTED};
 
 /// A figure with a chunk that has a name, the way to it, and what stands behind
 /// the name's zero.
 type Place = (u16, fn(Node) -> Node, &'static [usize], &'static [u8]);
 
-const PLACES: [Place; 4] = [
+const ALL: [Place; 5] = [
     (0x4000, |chunk| figure(vec![chunk]), &[0, 0], &[]),
     (0xA000, material, &[0, 0, 0], &[]),
     (0x4130, grouped, &[0, 0, 0, 0, 0], &[0, 0]),
     (0x4653, spot, &[0, 0, 0, 0, 0], &[]),
+    (0xB010, hung, &[1, 0, 0], &[0, 0, 0, 0, 255, 255]),
 ];
+
+/// Those that are in force.
+const PLACES: &[Place] = ALL.split_at(if PARTS_LISTED { 5 } else { 4 }).0;
 
 fn material(name: Node) -> Node {
     figure(vec![Node::holding(0xAFFF, vec![], vec![name])])
@@ -33,6 +37,14 @@ fn spot(file: Node) -> Node {
         "lamp",
         vec![Node::holding(0x4600, vec![0; 12], vec![spot])],
     )])
+}
+
+fn hung(part: Node) -> Node {
+    let part = Node::holding(0xB002, vec![], vec![part]);
+    let mut root = figure(vec![]);
+    root.children
+        .push(Node::holding(0xB000, vec![], vec![part]));
+    root
 }
 
 pub fn cases() -> Vec<Case> {

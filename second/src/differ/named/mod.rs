@@ -5,7 +5,9 @@ mod accepted;
 mod bytes;
 mod calls;
 mod labels;
+mod parts;
 mod refused;
+mod rescues;
 mod rows;
 mod tree;
 mod versions;
@@ -15,6 +17,7 @@ use super::compare::Pair;
 use super::facts::Facts;
 use super::families::Subject;
 use super::lent::{spoken, Difference};
+use super::rescues::Cuts;
 use super::run::{count, Failure, Tally};
 use crate::boundary::Boundary;
 
@@ -27,6 +30,8 @@ pub struct Case {
     pub expected: u64,
     /// What is said of an accepted figure that was built as a tree.
     pub facts: Option<Facts>,
+    /// What is cut when it is rescued, where that is named.
+    pub rescue: Option<Cuts>,
 }
 
 /// All of them, the long ones last.
@@ -37,6 +42,8 @@ pub fn cases() -> Vec<Case> {
     cases.extend(rows::cases());
     cases.extend(labels::cases());
     cases.extend(versions::cases());
+    cases.extend(parts::cases());
+    cases.extend(rescues::cases());
     cases.extend(bytes::cases());
     cases.extend(writings::cases());
     cases
@@ -77,6 +84,9 @@ impl Case {
         };
         if let (Some(facts), Subject::File(file)) = (&self.facts, &self.subject) {
             facts.said_of(file, pair)?;
+        }
+        if let (Some(cuts), Subject::File(file)) = (&self.rescue, &self.subject) {
+            pair.cuts(file, cuts)?;
         }
         match answer == self.expected {
             true => Ok(answer),

@@ -5,17 +5,18 @@ use super::tree::{accepted, refused_at};
 use super::Case;
 use crate::differ::grow::LISTED;
 use crate::differ::node::{Node, Path};
+use crate::differ::parts::called;
 use crate::differ::rows::{around, under, HOLDERS};
-use crate::{row, Own, Row};
+use crate::{row, Own, Row, ROOT};
 
 /// The kinds of object, which count together.
 const KINDS: [u16; 3] = [0x4100, 0x4600, 0x4700];
 
 pub fn cases() -> Vec<Case> {
     let mut cases = Vec::with_capacity(2_048);
-    for identifier in LISTED {
+    for identifier in LISTED.iter().copied() {
         let Some(row) = row(identifier) else { continue };
-        for holder in HOLDERS {
+        for holder in HOLDERS.iter().copied() {
             match under(identifier, holder) {
                 false => cases.extend(misplaced(identifier, holder)),
                 true => {
@@ -44,10 +45,13 @@ fn good(identifier: u16, row: &Row) -> Node {
         Own::Group => vec![b'g', 0, 1, 0, 1, 0],
         Own::Smoothing => vec![0; 8],
         Own::Mapping => [&[2, 0][..], &[0; 16]].concat(),
+        Own::Part => called("p", ROOT).own,
     };
     let mut node = Node::leaf(identifier, own);
-    if identifier == 0xAFFF {
-        node.children.push(Node::leaf(0xA000, vec![0]));
+    match identifier {
+        0xAFFF => node.children.push(Node::leaf(0xA000, vec![0])),
+        0xB002 => node.children.push(called("", ROOT)),
+        _ => (),
     }
     node
 }

@@ -23,6 +23,7 @@ pub fn accepted(name: &str, root: &Node) -> [Case; 2] {
             subject: Subject::File(root.bytes()),
             expected: facts.records.len() as u64,
             facts: Some(facts),
+            rescue: None,
         }
     })
 }
@@ -54,6 +55,7 @@ fn refused_case(name: &str, root: &Node, number: u32, path: &[usize], behind: us
         subject: Subject::File(root.bytes()),
         expected: refused(number, root.offset(path) + behind),
         facts: None,
+        rescue: None,
     }
 }
 

@@ -15,6 +15,7 @@ fn case(name: &str, writing: Writing, refusal: Option<(u32, usize)>) -> Case {
         subject: Subject::Writing(writing),
         expected: refusal.map_or(size, |(number, place)| refused(number, place)),
         facts: None,
+        rescue: None,
     }
 }
 

@@ -73,6 +73,18 @@ impl Boundary for Seeded {
     fn mapping(&self, file: &[u8], mesh: u32, numbers: &mut [u8]) -> u64 {
         answer(self.mapped(file, mesh, numbers))
     }
+
+    fn parts(&self, file: &[u8], numbers: &mut [u8]) -> u64 {
+        answer(self.hung(file, numbers))
+    }
+
+    fn meshes(&self, file: &[u8], numbers: &mut [u8]) -> u64 {
+        answer(self.placed(file, numbers))
+    }
+
+    fn rescue(&self, file: &[u8], cuts: &mut [u8], out: &mut [u8]) -> u64 {
+        answer(self.mended(file, cuts, out))
+    }
 }
 
 /// Puts bytes at the beginning of a slice, as many as there is room for.
@@ -193,6 +205,87 @@ impl Seeded {
         put(vertices, &mesh.vertices);
         put(corners, &mesh.corners);
         Ok(n + 65_536 * f)
+    }
+
+    fn mended(self, file: &[u8], cuts: &mut [u8], out: &mut [u8]) -> Result<usize, Refusal> {
+        let (all, figure) = self.rescued(file)?;
+        let part = if self.makes(Error::CutRoomOfPart) {
+            11
+        } else {
+            0
+        };
+        let few = (cuts.len() + part) / 12 < all.len();
+        let small = out.len() < figure.len();
+        if small && self.makes(Error::CutRoomOfOutputFirst) {
+            return Err(Number::NoRoom.at(figure.len()));
+        }
+        if few {
+            return Err(Number::NoRoom.at(all.len()));
+        }
+        let numbers = all.as_flattened().iter();
+        let bytes: Vec<u8> = numbers.flat_map(|number| number.to_le_bytes()).collect();
+        if small {
+            if self.makes(Error::CutWritesBeforeRefusing) {
+                put(cuts, &bytes);
+            }
+            return Err(Number::NoRoom.at(figure.len()));
+        }
+        if self.makes(Error::CutRestCleared) {
+            out.fill(0);
+        }
+        put(cuts, &bytes);
+        put(out, &figure);
+        Ok(all.len())
+    }
+
+    fn placed(self, file: &[u8], numbers: &mut [u8]) -> Result<usize, Refusal> {
+        let read = read(self, file)?;
+        let needed = read.meshes.len();
+        let part = if self.makes(Error::PlacesRoomOfPart) {
+            31
+        } else {
+            0
+        };
+        if (numbers.len() + part) / 32 < needed {
+            let numbers = self.makes(Error::PlacesRoomInNumbers);
+            return Err(Number::NoRoom.at(if numbers { 8 * needed } else { needed }));
+        }
+        let first = self.makes(Error::PlacesOfFirst);
+        let meshes = read.meshes.iter();
+        let places = meshes.map(|mesh| {
+            if first {
+                read.meshes[0].places
+            } else {
+                mesh.places
+            }
+        });
+        let bytes = places.flatten().flat_map(|number| number.to_le_bytes());
+        put(numbers, &bytes.collect::<Vec<u8>>());
+        Ok(needed)
+    }
+
+    fn hung(self, file: &[u8], numbers: &mut [u8]) -> Result<usize, Refusal> {
+        let mut parts = read(self, file)?.parts;
+        let needed = parts.len();
+        let part = if self.makes(Error::PartsRoomOfPart) {
+            7
+        } else {
+            0
+        };
+        if (numbers.len() + part) / 8 < needed {
+            let numbers = self.makes(Error::PartsRoomInNumbers);
+            return Err(Number::NoRoom.at(if numbers { 2 * needed } else { needed }));
+        }
+        if self.makes(Error::PartsRootIsNone) {
+            let roots = parts.iter_mut().filter(|part| part[0] == 65_535);
+            roots.for_each(|part| part[0] = u32::MAX);
+        }
+        let bytes = parts
+            .as_flattened()
+            .iter()
+            .flat_map(|number| number.to_le_bytes());
+        put(numbers, &bytes.collect::<Vec<u8>>());
+        Ok(needed)
     }
 
     fn mapped(self, file: &[u8], mesh: u32, numbers: &mut [u8]) -> Result<usize, Refusal> {

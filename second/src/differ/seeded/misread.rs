@@ -3,7 +3,8 @@
 
 use super::Error;
 use crate::differ::grow::LISTED;
-use crate::{row, Own, Row};
+use crate::differ::rows::HOLDERS;
+use crate::{place, row as row_of, Own, Row};
 
 /// What is read wrongly of a row.
 #[derive(Clone, Copy, Debug, PartialEq, Eq)]
@@ -24,7 +25,7 @@ pub enum Misread {
 }
 
 /// A place that no row stands in, and a bit that no other row has.
-const NOWHERE: u16 = 1 << 15;
+const NOWHERE: u16 = place::H4700;
 const OWN_BIT: u8 = 1 << 7;
 
 impl Misread {
@@ -48,8 +49,10 @@ impl Misread {
 /// but its size, its "+" and its need, as it has no parent.
 pub fn errors() -> Vec<Error> {
     let mut errors = Vec::with_capacity(1_024);
-    for identifier in LISTED {
-        let Some(row) = row(identifier) else { continue };
+    for identifier in LISTED.iter().copied() {
+        let Some(row) = row_of(identifier) else {
+            continue;
+        };
         let mut ways = vec![
             Misread::Longer,
             Misread::Shorter,
@@ -57,7 +60,8 @@ pub fn errors() -> Vec<Error> {
             Misread::Needs,
             Misread::Unlisted,
         ];
-        ways.extend((1..14).map(|place| Misread::Place(1 << place)));
+        let places = HOLDERS.iter().filter_map(|holder| row_of(*holder));
+        ways.extend(places.map(|row| Misread::Place(row.holds)));
         ways.extend((identifier != 0x4D4D).then_some(Misread::Once));
         ways.retain(|way| way.of(*row) != Some(*row));
         errors.extend(ways.into_iter().map(|way| Error::Row(identifier, way)));

@@ -4,7 +4,10 @@
 mod calls;
 mod misread;
 mod own;
+mod parts;
+mod places;
 mod reader;
+mod rescue;
 mod text;
 mod version;
 mod writer;
@@ -13,10 +16,10 @@ pub use misread::{errors as misread_rows, Misread};
 
 use crate::{row, Row};
 
-/// Names the errors once, those of a later request under its feature, and lists
-/// them all.
+/// Names the errors once, those of a later request with when they are on, and
+/// lists them all.
 macro_rules! errors {
-    ($($name:ident)* $(; $feature:literal: $($later:ident)*)*) => {
+    ($($name:ident)* $(; $when:meta: $($later:ident)*)*) => {
         /// The errors it can make: some were made by others, all are easily made.
         #[derive(Clone, Copy, Debug, PartialEq, Eq)]
         pub enum Error {
@@ -29,7 +32,7 @@ macro_rules! errors {
         /// All of them but the misread rows, and those of requests that are off.
         pub const ERRORS: &[Error] = &[
             $(Error::$name,)*
-            $($(#[cfg(feature = $feature)] Error::$later,)*)*
+            $($(#[cfg($when)] Error::$later,)*)*
         ];
     };
 }
@@ -64,17 +67,33 @@ errors! {
     WriterRoomOff WriterInfinityAllowed WriterMinusInfinityAllowed WriterCountPlace
     WriterNumberPlace WriterIndexPlace WriterLimitOff WriterLimitNotJudged;
 
-    "next": NextWithoutOne NextIsCount NextOfUnlistedToo NextOfChildrenOnly;
+    feature = "next": NextWithoutOne NextIsCount NextOfUnlistedToo NextOfChildrenOnly;
 
-    "labels": TextNotJudged TextOf64 TextOf62 TextSpaceRefused TextTildeRefused Text127Allowed
+    feature = "labels": TextNotJudged TextOf64 TextOf62 TextSpaceRefused TextTildeRefused Text127Allowed
     Text128Allowed Text31Allowed TextBeforeName TextAfterLength TextBeforeTwice TextLongBeforeName
     TextOfGroupsUnjudged TextOfSpotsUnjudged TextOfMaterialsUnjudged TextOfObjectsUnjudged TextPlace
     TextFirst63Only WriterTextNotJudged WriterTextBeforeName WriterTextAfterCount
     WriterTextAtFirstBad WriterTextAt63 WriterTextOf64;
 
-    "mapping": VersionAbsentIsNew Version3IsOld Version2IsNew VersionSigned VersionIsAByte VersionOfLast
+    feature = "mapping": VersionAbsentIsNew Version3IsOld Version2IsNew VersionSigned VersionIsAByte VersionOfLast
     VersionOfAnyLength VersionStopsAtOther VersionBeforeEditOnly VersionInside VersionLostAtBadHeader
-    PairsWithoutList PairsNotCompleted PairsOfOnes PairsOfFirst PairsRoomInVertices PairsRoomOfPart
+    PairsWithoutList PairsNotCompleted PairsOfOnes PairsOfFirst PairsRoomInVertices PairsRoomOfPart;
+
+    feature = "parts": FatherUnjudged FatherIsOwn FatherFromOne FatherOfAllBlocks FatherIsAByte
+    FatherIsPrevious FatherIsFirstWord FatherSigned Father65534IsRoot FatherAtPart FatherBeforeLength
+    PartDepthOfRootIsOne PartDepthOfPrevious PartDepthIsFather PartDepthIsAByte PartDepthIsFathers
+    PartsRoomOfPart PartsRoomInNumbers PartsRootIsNone;
+
+    all(feature = "labels", feature = "parts"): TextOfPartsUnjudged;
+
+    feature = "meshes": PlacesOfChunk PlacesOfCount PlacesOfFewNone PlacesOfNameEnd PlacesTurned
+    PlacesOfAbsent PlacesInNumbers PlacesRoomOfPart PlacesRoomInNumbers PlacesOfFirst PlacesOfPairsLast;
+
+    feature = "rescue": CutFirstOnly CutBytesOfBody CutFigureLengthKept CutEditLengthKept CutInsideFirst
+    CutBehindUnjudged CutOutsidePlace CutOfHeaderOnly CutUnlisted CutAtInner CutOfDeepHeader CutNumber
+    CutRoomOfPart CutRoomOfOutputFirst CutWritesBeforeRefusing CutRestCleared;
+
+    all(feature = "rescue", feature = "mapping"): CutWithoutVersion
 }
 
 /// The plain reader, with an error or without.

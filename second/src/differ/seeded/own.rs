@@ -17,6 +17,7 @@ impl Reader<'_> {
                 let name = self.named(body, at, 3)?;
                 count(&body[name.min(body.len())..]).map(|count| name + 2 + 2 * count)
             }
+            Own::Part => Some(self.named(body, at, 7)? + 6),
             Own::Vertices => count(body).map(|count| 2 + 12 * count),
             Own::Faces | Own::Mapping => count(body).map(|count| 2 + 8 * count),
             Own::Smoothing if self.makes(Error::SmoothingFree) => Some(body.len()),
@@ -37,9 +38,13 @@ impl Reader<'_> {
             self.group(&body[..own], at)?;
         }
         let fits = own == body.len() || (own < body.len() && longer);
-        if fits && matches!(row.own, Own::Name | Own::Group) {
+        if fits && matches!(row.own, Own::Name | Own::Group | Own::Part) {
             let name = body.split(|byte| *byte == 0).next();
             self.text(name.unwrap_or_default(), at)?;
+        }
+        let father = row.own == Own::Part && self.makes(Error::FatherBeforeLength);
+        if father && own < body.len() && count(&body[own - 2..]) != Some(65_535) {
+            return Err(Number::Father.at(at));
         }
         match fits {
             true if row.holds == 0 => Ok(body.len()),
@@ -89,6 +94,7 @@ impl Reader<'_> {
                 false => return Err(refusal),
             }
         }
+        self.place(row.own, at, &data);
         match row.own {
             Own::Vertices => {
                 let vertices = floats.to_vec();
@@ -96,6 +102,7 @@ impl Reader<'_> {
             }
             Own::Mapping => self.parts.mapping = Some((at, data[2..].to_vec())),
             Own::Group => self.group(&data, at)?,
+            Own::Part => self.part(&data, at)?,
             Own::Faces => return self.faces(data, at),
             _ => (),
         }
@@ -218,6 +225,7 @@ impl Reader<'_> {
             corners,
             mapping,
             name: self.name,
+            places: self.places(parts.places),
         });
         Ok(())
     }

@@ -14,6 +14,8 @@ pub struct Read {
     /// How many unlisted chunks were passed over.
     pub passed: usize,
     pub meshes: Vec<Mesh>,
+    /// Father and depth of each.
+    pub parts: Vec<[u32; 2]>,
 }
 
 /// What is known of a mesh before its end.
@@ -23,6 +25,8 @@ pub struct Parts {
     pub faces: Vec<u8>,
     pub faces_at: usize,
     pub mapping: Option<(usize, Vec<u8>)>,
+    /// Count and offset of the vertices, the faces and the pairs.
+    pub places: [u32; 6],
     /// A refusal put off to the mesh's end, by mistake.
     pub put_off: Option<Refusal>,
 }
@@ -42,6 +46,9 @@ pub struct Reader<'a> {
     pub read: Read,
     pub name: [u32; 2],
     pub parts: Parts,
+    /// Blocks of all kinds met in a keyframer, and the last part.
+    pub blocks: usize,
+    pub part_at: usize,
     met_in_file: u8,
 }
 
@@ -69,17 +76,29 @@ fn begin(seeded: Seeded, file: &[u8]) -> Result<(), Refusal> {
     }
 }
 
-/// Reads a whole file.
-pub fn read(seeded: Seeded, file: &[u8]) -> Result<Read, Refusal> {
-    begin(seeded, file)?;
-    let mut reader = Reader {
+/// A reader that has read nothing.
+fn reader(seeded: Seeded, file: &[u8]) -> Reader<'_> {
+    Reader {
         seeded,
         file,
         read: Read::default(),
         name: [0; 2],
         parts: Parts::default(),
+        blocks: 0,
+        part_at: 0,
         met_in_file: 0,
-    };
+    }
+}
+
+/// The version of a whole file.
+pub fn version(seeded: Seeded, file: &[u8]) -> Option<u32> {
+    reader(seeded, file).version()
+}
+
+/// Reads a whole file.
+pub fn read(seeded: Seeded, file: &[u8]) -> Result<Read, Refusal> {
+    begin(seeded, file)?;
+    let mut reader = reader(seeded, file);
     let length = reader.length(0);
     if length < 6 && !seeded.makes(Error::TrailingBeforeShort) {
         return Err(Number::Short.at(0));
@@ -183,6 +202,10 @@ impl Reader<'_> {
             return Err(Number::Overrun.at(at));
         }
         let length = length.min(left);
+        if (0xB001..=0xB007).contains(&self.word(at)) {
+            self.blocks += 1;
+            self.part_at = at;
+        }
         let Some(row) = row else {
             return Ok(self.pass_over(length));
         };

@@ -12,9 +12,10 @@ impl Reader<'_> {
             Some(Error::TextNotJudged) => true,
             Some(Error::TextOfGroupsUnjudged) => self.word(at) == 0x4130,
             Some(Error::TextOfSpotsUnjudged) => self.word(at) == 0x4653,
+            Some(Error::TextOfPartsUnjudged) => self.word(at) == 0xB010,
             Some(Error::TextOfMaterialsUnjudged) => self.word(at) == 0xA000,
             Some(Error::TextOfObjectsUnjudged) => self.word(at) == 0x4000,
-            _ => !LABELS_JUDGED,
+            _ => false,
         };
         let most = match self.seeded.error {
             Some(Error::TextOf64) => 64,
@@ -28,7 +29,7 @@ impl Reader<'_> {
         };
         let good = name.len() <= most && looked_at.iter().all(|byte| self.printable(*byte));
         let behind = if self.makes(Error::TextPlace) { 6 } else { 0 };
-        Number::Text.unless(unjudged || good, at + behind)
+        Number::Text.unless(!LABELS_JUDGED || unjudged || good, at + behind)
     }
 
     fn printable(&self, byte: u8) -> bool {

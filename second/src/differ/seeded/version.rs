@@ -37,7 +37,7 @@ impl Reader<'_> {
     }
 
     /// That of the first 0002 of length 10 among the children of the figure.
-    fn version(&self) -> Option<u32> {
+    pub fn version(&self) -> Option<u32> {
         let (mut at, mut found) = (6, None);
         while at + 6 <= self.file.len() {
             let (identifier, length) = (self.word(at), self.length(at));

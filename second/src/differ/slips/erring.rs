@@ -10,7 +10,7 @@ listed! {
     NameOffsetOfEntry RoomOfPart RoomFirst PartOfEntryLost RepeatsWritten ThousandthRefused
     BadEntryAfterMany WritesBeforeRefusing;
 
-    "labels": TextNotJudged LongNotJudged TextBeforeSlip TextAtName TextWritten TextWrittenPlace
+    feature = "labels": TextNotJudged LongNotJudged TextBeforeSlip TextAtName TextWritten TextWrittenPlace
 }
 
 /// This library, with an error or without.

@@ -1,0 +1,248 @@
+-- A chunk entered: its order, what is inside, and what is then known.
+use mathlib.Core.Path.{_≡_, refl, sym, ap, _∙_, subst}
+use Prim.Native.Nat.{ℕ, _+_, _≤_}
+use native.Mathlib.Omega.{arith}
+use mathlib.Core.Bool.{Bool, true, false, not, _&&_, cond, true≢false, false≢true}
+use mathlib.Core.List.{List, [], _∷_, _++_, append-nil}
+use mathlib.Core.Option.{Option, none, some}
+use lib.Dec.{eqb}
+use lib.ListN.{length}
+use borrow.Author.Tests.{ne-eqb}
+use lib.Seq.{slice}
+use Rattle.shared_words.specs.declared.Refusal.{Refusal}
+use Rattle.shared_words.specs.declared.Refusal.the-variants.{Order}
+use Rattle.shared_words.specs.Conditions.{broken, Answer, refused, accepted}
+use Rattle.c4d_rules.specs.Blocks.{Block, chunkHeader, identifier}
+use Rattle.c4d_rules.specs.Kinds.{Kind, Platform, Materials, Objects, Other, kindOf}
+use Rattle.c4d_rules.specs.Layout.{plain, subs, Chunk}
+use Rattle.c4d_rules.specs.Rules.{nexts, Before, isNone, inOrder, after}
+use Rattle.c4d_rules.specs.Read.{walk}
+use Rattle.c4d_rules.specs.Walk.{materialGrammar, objectGrammar, withSubs, lookInside, blockKind, chunkGrammar}
+use Rattle.c4d_rules.specs.Gives.{Object, materialsOf, objectsFrom, cinema}
+use Rattle.c4d_rules.specs.Calls.{allMaterials}
+use Rattle.c4d_blocks.specs.Headers.{blockIn, Tells}
+use Rattle.c4d_blocks.proofs.Steps.{head-long, body-is}
+use Rattle.c4d_materials.specs.declared.Nexts.{Nexts}
+use Rattle.c4d_materials.specs.Counted.{countedFrom}
+use Rattle.c4d_held.specs.Held.{belowOf}
+use Rattle.c4d_objects.specs.declared.Tally.{Tally}
+use Rattle.c4d_objects.specs.Tally.{ends, tallyFrom}
+use Rattle.c4d_objects.proofs.Given.{length-objects, materials-given}
+use Rattle.c4d_chunks.specs.declared.Figure.{Figure}
+use Rattle.c4d_chunks.specs.declared.State.{State}
+use Rattle.c4d_chunks.specs.declared.Stepped.{Stepped}
+use Rattle.c4d_chunks.specs.Steps.{isListed, Given, Known, NextIs, StepIs}
+
+-- ---- the three identifiers
+
+module _ (id : ℕ) (n : id ≡ 0x504C_5446 → ⊥) (m : id ≡ 0x4D41_5434 → ⊥) where
+  kind-left : kindOf id ≡ cond (eqb id 0x4F42_4A35) Objects Other
+  kind-left = rw (ne-eqb id 0x504C_5446 n, ne-eqb id 0x4D41_5434 m)
+
+  pub listed-is : isListed (kindOf id) ≡ eqb id 0x4F42_4A35
+  listed-is = ap isListed kind-left ∙ go (eqb id 0x4F42_4A35)
+    where
+      go : (q : Bool) → isListed (cond q Objects Other) ≡ q
+      go true = refl
+      go false = refl
+
+  pub objects-left : isListed (kindOf id) ≡ true → kindOf id ≡ Objects
+  objects-left h = kind-left ∙ ap (λ (q : Bool). cond q Objects Other) (sym listed-is ∙ h)
+
+pub is-other : (k : Kind) → isListed k ≡ false → k ≡ Other
+is-other Platform e = absurd (true≢false e)
+is-other Materials e = absurd (true≢false e)
+is-other Objects e = absurd (true≢false e)
+is-other Other e = refl
+
+-- ---- what the runs answer, said of their walks
+
+counted-refused : (n : ℕ) (w : Answer (List Block)) (r : Refusal) → Nexts.Refused r ≡ countedFrom n w → w ≡ refused r
+counted-refused n (refused x) r e = let z : x ≡ r = cc in rw z
+counted-refused n (accepted bs) r e = let z : _≡_ {A = ℕ} 0 1 = cc in absurd (omega arith)
+
+pub record Counted (w : Answer (List Block)) (n : ℕ) : Type 0 where
+  pub blocks : List Block
+  pub is : w ≡ accepted blocks
+  pub count : n ≡ nexts blocks
+
+counted-all : (w : Answer (List Block)) (n : ℕ) → Nexts.Count n ≡ countedFrom 0 w → Counted w n
+counted-all (refused x) n e = let z : _≡_ {A = ℕ} 0 1 = cc in absurd (omega arith)
+counted-all (accepted bs) n e = let z : n ≡ 0 + nexts bs = cc in record { blocks = bs; is = refl; count = omega arith }
+
+tally-refused : (w : Answer (List Block)) (r : Refusal) → Tally.Refused r ≡ tallyFrom 0 0 w → w ≡ refused r
+tally-refused (refused x) r e = let z : x ≡ r = cc in rw z
+tally-refused (accepted bs) r e = let z : _≡_ {A = ℕ} 0 1 = cc in absurd (omega arith)
+
+pub record Tallied (w : Answer (List Block)) (n m : ℕ) : Type 0 where
+  pub blocks : List Block
+  pub is : w ≡ accepted blocks
+  pub count-ends : n ≡ ends blocks
+  pub count-textures : m ≡ length (materialsOf blocks)
+
+tally-all : (w : Answer (List Block)) (n m : ℕ) → Tally.Count n m ≡ tallyFrom 0 0 w → Tallied w n m
+tally-all (refused x) n m e = let z : _≡_ {A = ℕ} 0 1 = cc in absurd (omega arith)
+tally-all (accepted bs) n m e =
+    let y : n ≡ 0 + ends bs = cc in
+    let z : m ≡ 0 + length (materialsOf bs) = cc in
+    record { blocks = bs; is = refl; count-ends = omega arith; count-textures = omega arith }
+
+-- ---- a number that stands for the last material
+
+no-below : (last : Option ℕ) → belowOf last ≡ 0 → isNone last ≡ true
+no-below none e = refl
+no-below (some k) e = absurd (omega arith)
+
+some-below : (last : Option ℕ) → (belowOf last ≡ 0 → ⊥) → isNone last ≡ false
+some-below none e = absurd (e refl)
+some-below (some k) e = refl
+
+-- ---- one chunk
+
+module _ (s : List ℕ) (at id len : ℕ) (p : Before) (rs : List Object) (t : Tells chunkHeader s at (length s) id len) where
+  abbrev b : Block
+  b = blockIn chunkHeader s at (length s)
+
+  kind-is : (k : Kind) → kindOf id ≡ k → blockKind b ≡ k
+  kind-is k e = ap kindOf (sym (t .id-is)) ∙ e
+
+  pub out-of-order : (k : Kind) → kindOf id ≡ k → inOrder p k ≡ false → chunkGrammar .look p at b ≡ refused (Order at)
+  unfolding broken
+  out-of-order k e h = rw (kind-is k e, h)
+
+  pub in-order : (k : Kind) → kindOf id ≡ k → inOrder p k ≡ true → chunkGrammar .look p at b ≡ lookInside p at b k
+  unfolding broken
+  in-order k e h = rw (kind-is k e, h)
+
+  -- not looked into
+  abbrev plainChunk : Chunk
+  plainChunk = record { head = b .head; inside = plain (b .body) }
+
+  abbrev opened : List Block → Chunk
+  opened bs = record { head = b .head; inside = subs bs }
+
+  module _ (st : State) (g : Known s p st rs) where
+    pub platform-known : kindOf id ≡ Platform → p .any ≡ false → NextIs s p at b rs st
+    platform-known e h =
+        let k = kind-is Platform e in
+        record {
+          chunk = plainChunk;
+          taken = in-order Platform e (rw h);
+          known = rw (k, append-nil rs) record {
+            below-is = g .below-is;
+            below-small = g .below-small;
+            seen-is = g .seen-is;
+            none-yet = g .none-yet;
+            figure = g .figure;
+          };
+        }
+
+    pub other-known : kindOf id ≡ Other → NextIs s p at b rs st
+    other-known e =
+        let k = kind-is Other e in
+        record {
+          chunk = plainChunk;
+          taken = in-order Other e refl;
+          known = rw (k, append-nil rs) record {
+            below-is = g .below-is;
+            below-small = g .below-small;
+            seen-is = g .seen-is;
+            none-yet = g .none-yet;
+            figure = g .figure;
+          };
+        }
+
+    body-here : (end : ℕ) → end ≡ at + (8 + len) → b .body ≡ slice (at + 8) end s
+    body-here end q =
+        let z : at + 8 + len ≡ end = omega arith in
+        body-is chunkHeader s at (length s) id len t ∙ ap (λ (x : ℕ). slice (at + 8) x s) z
+
+    -- ---- MAT4
+
+    module _ (e : kindOf id ≡ Materials) (end : ℕ) (q : end ≡ at + (8 + len)) where
+      abbrev pub materialWalk : Answer (List Block)
+      materialWalk = walk (materialGrammar at) false (at + 8) (slice (at + 8) end s)
+
+      inside-materials : inOrder p Materials ≡ true → chunkGrammar .look p at b ≡ withSubs (b .head) materialWalk
+      inside-materials h = in-order Materials e h ∙ ap (λ (x : List ℕ). withSubs (b .head) (walk (materialGrammar at) false (at + 8) x)) (body-here end q)
+
+      pub materials-order : (st .below ≡ 0) → st .seen ≡ false → inOrder p Materials ≡ true
+      materials-order z n = rw (no-below (p .last) (sym (g .below-is) ∙ z), sym (g .seen-is) ∙ n)
+
+      pub materials-again : (st .below ≡ 0 → ⊥) → chunkGrammar .look p at b ≡ refused (Order at)
+      materials-again z = out-of-order Materials e (rw (some-below (p .last) (λ x. z (g .below-is ∙ x))))
+
+      pub materials-late : st .seen ≡ true → chunkGrammar .look p at b ≡ refused (Order at)
+      materials-late n = out-of-order Materials e (rw (sym (g .seen-is) ∙ n) (go (isNone (p .last))))
+        where
+          go : (x : Bool) → (x && false) ≡ false
+          go true = refl
+          go false = refl
+
+      pub materials-refused : inOrder p Materials ≡ true → (r : Refusal) → Nexts.Refused r ≡ countedFrom 0 materialWalk → chunkGrammar .look p at b ≡ refused r
+      materials-refused h r c = inside-materials h ∙ ap (withSubs (b .head)) (counted-refused 0 materialWalk r c)
+
+      pub materials-known : inOrder p Materials ≡ true → st .seen ≡ false → (n : ℕ) → n ≤ 0x7FFF_FFFF → Nexts.Count n ≡ countedFrom 0 materialWalk →
+          NextIs s p at b rs record { below = n + 1; seen = false; figure = st .figure }
+      materials-known h z n l c =
+          let k = kind-is Materials e in
+          let w = counted-all materialWalk n c in
+          let y = w .count in
+          record {
+            chunk = opened (w .blocks);
+            taken = inside-materials h ∙ ap (withSubs (b .head)) (w .is);
+            known = rw (k, append-nil rs) record {
+              below-is = omega arith;
+              below-small = omega arith;
+              seen-is = sym z ∙ g .seen-is;
+              none-yet = g .none-yet;
+              figure = g .figure;
+            };
+          }
+
+    -- ---- OBJ5
+
+    module _ (e : kindOf id ≡ Objects) (end : ℕ) (q : end ≡ at + (8 + len)) where
+      abbrev pub objectWalk : Answer (List Block)
+      objectWalk = walk (objectGrammar (p .last) at) none (at + 8) (slice (at + 8) end s)
+
+      inside-objects : st .seen ≡ false → chunkGrammar .look p at b ≡ withSubs (b .head) objectWalk
+      inside-objects z =
+          in-order Objects e (rw (sym (g .seen-is) ∙ z)) ∙
+          ap (λ (x : List ℕ). withSubs (b .head) (walk (objectGrammar (p .last) at) none (at + 8) x)) (body-here end q)
+
+      pub objects-again : st .seen ≡ true → chunkGrammar .look p at b ≡ refused (Order at)
+      objects-again n = out-of-order Objects e (rw (sym (g .seen-is) ∙ n))
+
+      pub objects-refused : st .seen ≡ false → (r : Refusal) → Tally.Refused r ≡ tallyFrom 0 0 objectWalk → chunkGrammar .look p at b ≡ refused r
+      objects-refused z r c = inside-objects z ∙ ap (withSubs (b .head)) (tally-refused objectWalk r c)
+
+      pub objects-known : st .seen ≡ false → (n m : ℕ) → Tally.Count n m ≡ tallyFrom 0 0 objectWalk →
+          NextIs s p at b rs record { below = st .below; seen = true; figure = record { objects = n; textures = m; from = at + 8; to = end } }
+      objects-known z n m c =
+          let k = kind-is Objects e in
+          let w = tally-all objectWalk n m c in
+          let f = t .fits in
+          let given : List Object = objectsFrom (at + 8) none (at + 8) (w .blocks) in
+          let y : rs ≡ [] = g .none-yet (sym (g .seen-is) ∙ z) in
+          let x : length (b .head) ≡ 8 = head-long chunkHeader s at (length s) (omega arith) (omega arith) in
+          record {
+            chunk = opened (w .blocks);
+            taken = inside-objects z ∙ ap (withSubs (b .head)) (w .is);
+            known = rw (k, y, x) record {
+              below-is = g .below-is;
+              below-small = g .below-small;
+              seen-is = refl;
+              none-yet = λ e. absurd (true≢false e);
+              figure = record {
+                last = p .last;
+                chunk = at;
+                blocks = w .blocks;
+                walked = w .is;
+                are = refl;
+                objects-are = w .count-ends ∙ sym (length-objects (w .blocks) (at + 8) none (at + 8));
+                textures-are = w .count-textures ∙ ap length (sym (materials-given (p .last) at (at + 8) (slice (at + 8) end s) (w .blocks) (w .is) (at + 8)));
+                whole = omega arith;
+              };
+            };
+          }

@@ -1,0 +1,106 @@
+-- At most one combination holds: of any two, one requires what has no place in the other. That is one computed test of the nine.
+use mathlib.Core.Path.{_≡_, refl, ap, sym, _∙_}
+use Prim.Native.Nat.{ℕ, _+_, _≤_}
+use native.Mathlib.Omega.{arith}
+use mathlib.Core.Bool.{Bool, true, false, not, _&&_, _||_, cond, true≢false, false≢true}
+use mathlib.Core.List.{List, [], _∷_}
+use lib.Dec.{eqb}
+use borrow.Author.Tests.{eqb-true}
+use Rattle.shared_words.specs.Lists.{every, among}
+use Rattle.shared_words.proofs.Bools.{and-parts}
+use Rattle.c4d_rules.specs.Kinds.{exclusive}
+use Rattle.c4d_rules.specs.Combinations.{required, optional, requiredWith, Combination, combinations, members, partThere, partsThere, holds, howMany}
+use Rattle.c4d_rules.specs.Theorems.{AtMostOne}
+
+-- what holds of each holds of one of them
+of-one : (p : ℕ → Bool) (x : ℕ) (xs : List ℕ) → every p xs ≡ true → among x xs ≡ true → p x ≡ true
+unfolding every
+of-one p x [] h a = absurd (false≢true a)
+of-one p x (y ∷ ys) h a = go (eqb x y) refl (of-one p x ys (and-parts (p y) (every p ys) h .1))
+  where
+    go : (q : Bool) → eqb x y ≡ q → (among x ys ≡ true → p x ≡ true) → p x ≡ true
+    go true e r = ap p (eqb-true x y e) ∙ and-parts (p y) (every p ys) h .0
+    go false e r = r (rw e at a)
+
+-- what is there has its place
+placed : (a b : Bool) → (not a || b) ≡ true → a ≡ true → b ≡ true
+placed true b h e = h
+placed false b h e = absurd (false≢true e)
+
+-- ---- two combinations
+
+-- c requires a sub-chunk that has its places, of which d is none
+lacks : Combination → Combination → Bool
+lacks [] d = false
+lacks (required id ∷ ps) d = (among id exclusive && not (among id (members d))) || lacks ps d
+lacks (optional id ∷ ps) d = lacks ps d
+lacks (requiredWith id others ∷ ps) d = lacks ps d
+
+module _ (there : ℕ → Bool) (d : Combination) (h : every (λ id. not (there id) || among id (members d)) exclusive ≡ true) where
+  lacks-law : (c : Combination) → lacks c d ≡ true → partsThere there c ≡ true → ⊥
+  unfolding lacks
+  lacks-law [] l t = false≢true l
+  lacks-law (required id ∷ ps) l t =
+      let u = and-parts (there id) (partsThere there ps) t in
+      go (among id exclusive) refl (among id (members d)) refl (λ k. lacks-law ps k (u .1))
+    where
+      go : (a : Bool) → among id exclusive ≡ a → (b : Bool) → among id (members d) ≡ b → (lacks ps d ≡ true → ⊥) → ⊥
+      go true e true e′ r = r (rw (e, e′) at l)
+      go true e false e′ r =
+          let u = and-parts (there id) (partsThere there ps) t in
+          false≢true (sym e′ ∙ placed (there id) (among id (members d)) (of-one (λ id. not (there id) || among id (members d)) id exclusive h e) (u .0))
+      go false e b e′ r = r (rw e at l)
+  lacks-law (optional id ∷ ps) l t = lacks-law ps l t
+  lacks-law (requiredWith id others ∷ ps) l t =
+      lacks-law ps l (and-parts (partThere there (requiredWith id others)) (partsThere there ps) t .1)
+
+clash : Combination → Combination → Bool
+clash c d = lacks c d || lacks d c
+
+clash-law : (c d : Combination) (there : ℕ → Bool) → clash c d ≡ true → holds c there ≡ true → holds d there ≡ true → ⊥
+unfolding clash holds
+clash-law c d there l h k = go (lacks c d) refl
+  where
+    go : (b : Bool) → lacks c d ≡ b → ⊥
+    go true e = lacks-law there d (and-parts (partsThere there d) _ k .1) c e (and-parts (partsThere there c) _ h .0)
+    go false e = lacks-law there c (and-parts (partsThere there c) _ h .1) d (rw e at l) (and-parts (partsThere there d) _ k .0)
+
+-- ---- all of them
+
+clashes : Combination → List Combination → Bool
+clashes c [] = true
+clashes c (d ∷ ds) = clash c d && clashes c ds
+
+apart : List Combination → Bool
+apart [] = true
+apart (c ∷ cs) = clashes c cs && apart cs
+
+-- where c holds, none that it clashes with does
+none-else : (c : Combination) (ds : List Combination) (there : ℕ → Bool) → clashes c ds ≡ true → holds c there ≡ true → howMany ds there ≡ 0
+unfolding clashes
+none-else c [] there l h = refl
+none-else c (d ∷ ds) there l h =
+    let u = and-parts (clash c d) (clashes c ds) l in
+    go (holds d there) refl (none-else c ds there (u .1) h)
+  where
+    go : (b : Bool) → holds d there ≡ b → howMany ds there ≡ 0 → cond b 1 0 + howMany ds there ≡ 0
+    go true e r = absurd (clash-law c d there (and-parts (clash c d) (clashes c ds) l .0) h e)
+    go false e r = omega arith
+
+one-of : (cs : List Combination) (there : ℕ → Bool) → apart cs ≡ true → howMany cs there ≤ 1
+unfolding apart
+one-of [] there l = omega arith
+one-of (c ∷ cs) there l =
+    let u = and-parts (clashes c cs) (apart cs) l in
+    go (holds c there) refl (one-of cs there (u .1))
+  where
+    go : (b : Bool) → holds c there ≡ b → howMany cs there ≤ 1 → cond b 1 0 + howMany cs there ≤ 1
+    go true e r = omega (arith, none-else c cs there (and-parts (clashes c cs) (apart cs) l .0) e)
+    go false e r = omega arith
+
+nine-apart : apart combinations ≡ true
+unfolding apart clashes clash lacks
+nine-apart = refl
+
+pub at-most-one : AtMostOne
+at-most-one there = one-of combinations there nine-apart

@@ -1,0 +1,10 @@
+pub mod Bytes
+pub mod Conditions
+pub mod Read
+pub mod Fuel
+pub mod Chunks
+pub mod Verdict
+pub mod PutIn
+pub mod Grouped
+pub mod Combinations
+pub mod Samples

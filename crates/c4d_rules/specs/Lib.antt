@@ -1,0 +1,13 @@
+pub mod Blocks
+pub mod Kinds
+pub mod Combinations
+pub mod Layout
+pub mod Rules
+pub mod Read
+pub mod Walk
+pub mod Gives
+pub mod Calls
+pub mod PutIn
+pub mod Grouped
+pub mod Theorems
+pub mod Samples

@@ -1,0 +1,10 @@
+pub mod Same
+pub mod Body
+pub mod Sound
+pub mod Complete
+pub mod Verdict
+pub mod Fuel
+pub mod Owners
+pub mod Apart
+pub mod PutIn
+pub mod Samples

@@ -1,0 +1,13 @@
+pub mod Fields
+pub mod Kinds
+pub mod Body
+pub mod Mesh
+pub mod Layout
+pub mod Rules
+pub mod Walk
+pub mod Gives
+pub mod Owners
+pub mod PutIn
+pub mod Calls
+pub mod Theorems
+pub mod Samples

@@ -1,0 +1,4 @@
+pub mod Finding
+pub mod Picks
+pub mod Faces
+pub mod Answers

@@ -1,0 +1,3 @@
+pub mod Fathers
+pub mod Before
+pub mod Trees

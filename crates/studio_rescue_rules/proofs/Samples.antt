@@ -1,0 +1,14 @@
+-- The worked cases, by computation.
+use mathlib.Core.Path.{refl}
+use Rattle.shared_words.specs.Lists.{every}
+use Rattle.studio_rules.specs.Table.{rows, atMostOne, atLeastOne, listed, under, shape, plus, limits, needs}
+use Rattle.shared_words.specs.Labels.{fitsLabel}
+use Rattle.shared_words.specs.Floats.{finite}
+use Rattle.shared_words.specs.Conditions.{broken}
+use Rattle.studio_rules.specs.Walk.{step, walk, versionIn}
+use Rattle.studio_rescue_rules.specs.Rescue.{sift, mend, mended, rescue}
+use Rattle.studio_rescue_rules.specs.Samples.{Samples}
+
+pub samples : Samples
+unfolding every rows atMostOne atLeastOne listed under shape plus limits needs finite fitsLabel broken step walk versionIn sift mend mended rescue
+samples = refl

@@ -1,0 +1,4 @@
+pub mod Scene
+pub mod Ungrouped
+pub mod Contents
+pub mod Passed

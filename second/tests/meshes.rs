@@ -1,0 +1,95 @@
+//! All meshes in one call: where their names and lists stand; asked of both
+//! sides.
+
+mod common;
+use common::{chunk, faces, figure, mapping, object, triangle, vertices};
+use second::boundary::{refused, Boundary, Right, Second};
+use second::{meshes, MeshPlaces};
+
+/// What both sides answer, which is the same, and what the lent bytes become.
+fn both(file: &[u8], room: usize) -> (u64, Vec<u8>) {
+    let [left, right] = [&Second as &dyn Boundary, &Right::default()].map(|side| {
+        let mut lent = vec![0xA5; room];
+        (side.meshes(file, &mut lent), lent)
+    });
+    assert_eq!(right, left, "right, left");
+    left
+}
+
+/// The numbers of some meshes as bytes.
+fn bytes(meshes: &[[u32; 8]]) -> Vec<u8> {
+    let numbers = meshes.as_flattened().iter();
+    numbers.flat_map(|number| number.to_le_bytes()).collect()
+}
+
+#[test]
+fn the_triangle() {
+    let known = bytes(&[[18, 1, 3, 34, 1, 78, 0, 0]]);
+    assert_eq!(both(&triangle(), 32), (1, known.clone()));
+    assert_eq!(
+        both(&triangle(), 63),
+        (1, [&known[..], &[0xA5; 31]].concat())
+    );
+    for room in [0, 31] {
+        assert_eq!(both(&triangle(), room), (refused(15, 1), vec![0xA5; room]));
+    }
+    assert_eq!(both(&triangle()[..85], 0).0, refused(5, 0));
+    assert_eq!(both(&figure(&[]), 0).0, 0);
+    let places = MeshPlaces {
+        name: (18, 1),
+        vertices: (3, 34),
+        faces: (1, 78),
+        mapping: (0, 0),
+    };
+    assert_eq!(meshes(&triangle()), Ok(vec![places]));
+}
+
+#[test]
+fn every_mesh_and_nothing_else() {
+    let private = chunk(0x8123, &[b"1041"]);
+    let light = chunk(0x4000, &[b"lamp\0", &chunk(0x4600, &[&[0; 12]])]);
+    let late = object(&[
+        &mapping(1),
+        &private,
+        &faces(&[[0; 3]; 2], &[]),
+        &vertices(&[1.0; 3]),
+    ]);
+    let empty = object(&[&vertices(&[]), &mapping(0), &faces(&[], &[])]);
+    let file = figure(&[&light, &late, &object(&[]), &private, &empty]);
+    let at = 12 + light.len();
+    let (second, third) = (at + late.len(), at + late.len() + 13 + private.len());
+    let known = [
+        [
+            at + 6,
+            0,
+            1,
+            at + 13 + 16 + 10 + 24 + 8,
+            2,
+            at + 13 + 16 + 10 + 8,
+            1,
+            at + 13 + 8,
+        ],
+        [second + 6, 0, 0, 0, 0, 0, 0, 0],
+        [
+            third + 6,
+            0,
+            0,
+            third + 13 + 8,
+            0,
+            third + 13 + 24,
+            0,
+            third + 13 + 16,
+        ],
+    ];
+    let known = known.map(|mesh| mesh.map(|number| number as u32));
+    assert_eq!(both(&file, 96), (3, bytes(&known)));
+    assert_eq!(both(&file, 95).0, refused(15, 3));
+}
+
+#[test]
+#[cfg(feature = "mapping")]
+fn pairs_as_they_stand() {
+    let file = figure(&[&object(&[&vertices(&[1.0; 6]), &mapping(1)])]);
+    let known = bytes(&[[18, 0, 2, 33, 0, 0, 1, 65]]);
+    assert_eq!(both(&file, 32), (1, known));
+}
