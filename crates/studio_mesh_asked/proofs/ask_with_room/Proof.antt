@@ -63,7 +63,10 @@ returns-3 c =
     let t = c .before .before .before .before .before .before .before .before .before .before in
     let q = asked-yes (t .before .before .ask .ensures) (t .place .given .1) in
     let x = t .before .before .before .before .args in
-    no-room-mapping (x .file .now) (x .mesh) (x .vertices) (x .corners) (x .mapping) (q .is) (q .placed) (sym (c .before .before .before .before .before .before .before .holds .ensures) ∙ not-false _ (c .before .before .before .before .before .before .if1 .left)) (sym (c .before .before .before .before .holds2 .ensures) ∙ not-false _ (c .before .before .before .if2 .left)) (sym (c .before .holds3 .ensures) ∙ not-true _ (c .if3 .taken))
+    no-room-mapping (x .file .now) (x .mesh) (x .vertices) (x .corners) (x .mapping) (q .is) (q .placed)
+    (sym (c .before .before .before .before .before .before .before .holds .ensures) ∙ not-false _ (c .before .before .before .before .before .before .if1 .left))
+    (sym (c .before .before .before .before .holds2 .ensures) ∙ not-false _ (c .before .before .before .if2 .left))
+    (sym (c .before .holds3 .ensures) ∙ not-true _ (c .if3 .taken))
 
 returns-4 : tie.Need-returns-4
 returns-4 c =
@@ -75,7 +78,10 @@ returns-5 c =
     let t = c .before .before .before .before .before .before .before .before .before .before in
     let q = asked-yes (t .before .before .ask .ensures) (t .place .given .1) in
     let x = t .before .before .before .before .args in
-    room-there (x .file .now) (x .mesh) (x .vertices) (x .corners) (x .mapping) (q .is) (q .placed) (sym (c .before .before .before .before .before .before .before .holds .ensures) ∙ not-false _ (c .before .before .before .before .before .before .if1 .left)) (sym (c .before .before .before .before .holds2 .ensures) ∙ not-false _ (c .before .before .before .if2 .left)) (sym (c .before .holds3 .ensures) ∙ not-false _ (c .if3 .left))
+    room-there (x .file .now) (x .mesh) (x .vertices) (x .corners) (x .mapping) (q .is) (q .placed)
+    (sym (c .before .before .before .before .before .before .before .holds .ensures) ∙ not-false _ (c .before .before .before .before .before .before .if1 .left))
+    (sym (c .before .before .before .before .holds2 .ensures) ∙ not-false _ (c .before .before .before .if2 .left))
+    (sym (c .before .holds3 .ensures) ∙ not-false _ (c .if3 .left))
 
 pub ask-with-room-spec : {M : Type 1} → statement M
 ask-with-room-spec =
