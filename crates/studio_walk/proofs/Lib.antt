@@ -4,3 +4,4 @@ pub mod Chunks
 pub mod Entering
 pub mod Runs
 pub mod Loop
+pub mod Passing

@@ -112,6 +112,11 @@ pub fn run(
                 p = next;
                 records += n;
                 skipped += k;
+                // unlisted chunks often stand together: one loop over them costs less than a look at each
+                if n == 0 {
+                    p = studio_head::pass_over(file, table, next, end);
+                    skipped += p - next;
+                }
             }
         }
     }

@@ -23,6 +23,7 @@ use Rattle.studio_walk.proofs.Chunks.{chunk-fault, chunk-skip, chunk-le
 use Rattle.studio_walk.proofs.Entering.{Opened, ent, inner-context, children, enter-refused, enter-placed, enter-shut, enter-done}
 use Rattle.studio_walk.proofs.Runs.{GoesOn, stops-here, goes-on, run-ends}
 use Rattle.studio_walk.proofs.Loop.{Sofar}
+use Rattle.studio_walk.proofs.Passing.{sofar-passed}
 use Prim.Native.Nat.{ℕ, _<_}
 use borrow.Fn.Kinds.{In}
 use borrow.Fn.PlainCycle.{Measures, is, falls, and}
@@ -34,6 +35,7 @@ use Rattle.studio_walk.proofs.run.Kinds as run-kinds
 use Rattle.studio_walk.proofs.+chunk+run.Lts-run as run-lts
 use Rattle.studio_marks.proofs.at_end.Reads as at-end-reads
 use Rattle.studio_head.proofs.look.Reads as look-reads
+use Rattle.studio_head.proofs.pass_over.Reads as pass-over-reads
 use Rattle.studio_walk.proofs.+chunk+run.{statement}
 use Rattle.studio_walk.proofs.+chunk+run.Tie.{close}
 
@@ -67,7 +69,7 @@ chunk-calls t = (
 )
 
 abbrev run-calls : ℕ → run-lts.Claims
-run-calls t = (chunk-below t, chunk.Post)
+run-calls t = (chunk-below t, chunk.Post, pass-over-reads.Asked, pass-over-reads.Learnt)
 
 chunk-look-requires : (t : ℕ) → chunk-lts.Need-look-requires (chunk-calls t) (chunk-at t) chunk.Post
 chunk-look-requires t c κs = let x = c .before .before .before .pre .1 in (x .0, x .2, x .4)
@@ -381,13 +383,6 @@ run-add-skipped t c =
     let f = stepped t (c .before) in
     omega arith
 
-run-loop-less :
-    (t : ℕ) →
-    run-lts.Need-loop-less (run-calls t) (run-at t) run.Post run-Inv-loop run-μ-loop
-run-loop-less t c =
-    let f = stepped t (c .before) in
-    omega arith
-
 -- where the run goes on, in each context
 went-on : (t : ℕ) (c : run-lts.After-next (run-calls t) (run-at t) run.Post run-Inv-loop run-μ-loop) →
     let x = c .before .before .before .before .before .before .before .before .before .before .args in
@@ -405,23 +400,65 @@ went-on t c q seen rule k =
     goes-on q seen s (i .p) (x .args .end) (i .marks) (c .before .before .before .before .before .before .loop-test .taken) (x .pre .1 .2 .ends) (x .args .parent) (x .args .count) k (i .inv .six)
     (omega (arith, i .inv .past, x .pre .1 .1)) b (g .0 .0) (g .0 .1 .0) (g .0 .1 .1 .0) (c .before .before .before .before .chunk .last .1 .1 .1 .1 .1 .1 .1 .0) (came t (c .before .before .before .before) (g .1) q seen rule k)
 
-run-loop-again : (t : ℕ) → run-lts.Need-loop-again (run-calls t) (run-at t) run.Post run-Inv-loop run-μ-loop
-run-loop-again t c =
-    let i = c .before .before .before .before .before .before .before .before .loop in
-    let f = stepped t (c .before) in
+-- how far the run has come behind the chunk
+behind : (t : ℕ) (c : run-lts.After-next (run-calls t) (run-at t) run.Post run-Inv-loop run-μ-loop) →
+    let x = c .before .before .before .before .before .before .before .before .before .before .args in
+    let i = c .before .before .before .before .before .before .before .loop in
+    let g = c .next .given .0 in
+    Sofar (x .file .now) (x .parent) (x .count) (x .as-many) (x .at) (x .end) (x .marks .now) (c .before .before .before .before .chunk .last .1 .1 .1 .1 .1 .1 .1 .0) (g .0) (i .records + g .1 .0) (i .skipped + g .1 .1 .0)
+behind t c =
+    let i = c .before .before .before .before .before .before .before .loop in
+    let f = stepped t c in
     let y = i .inv .somewhere in
-    let z = went-on t (c .before) (y .0) (y .1) (y .2) (y .3) in
+    let z = went-on t c (y .0) (y .1) (y .2) (y .3) in
     record {
       past = omega arith;
       before = f .0 .1;
-      six = c .before .before .before .before .before .chunk .ensures .1 .0;
+      six = c .before .before .before .before .chunk .ensures .1 .0;
       within = omega arith;
       somewhere = (y .0, z .seen′, y .2, z .context);
       later = λ q seen rule k.
           let j = i .inv .later q seen rule k in
-          let d = went-on t (c .before) q (j .seen′) rule (j .context) in
+          let d = went-on t c q (j .seen′) rule (j .context) in
           record { seen′ = d .seen′; context = d .context; tells = λ r ms′ h. j .tells r ms′ (d .tells (i .records) (i .skipped) r ms′ h) };
     }
+
+run-pass-over-requires : (t : ℕ) → run-lts.Need-pass-over-requires (run-calls t) (run-at t) run.Post run-Inv-loop run-μ-loop
+run-pass-over-requires t c κs =
+    let x = c .before .before .before .before .before .before .before .before .before .before .before .before in
+    let f = stepped t (c .before .before) in
+    (f .0 .1, x .pre .1 .2 .ends, x .pre .1 .4)
+
+run-sub-skipped : (t : ℕ) → run-lts.Need-sub-skipped (run-calls t) (run-at t) run.Post run-Inv-loop run-μ-loop
+run-sub-skipped t c = c .pass-over .ensures .1 .0
+
+run-add-skipped-2 : (t : ℕ) → run-lts.Need-add-skipped-2 (run-calls t) (run-at t) run.Post run-Inv-loop run-μ-loop
+run-add-skipped-2 t c =
+    let f = stepped t (c .before .before .before) in
+    let g = c .pass-over .ensures .1 in
+    omega arith
+
+run-loop-less : (t : ℕ) → run-lts.Need-loop-less (run-calls t) (run-at t) run.Post run-Inv-loop run-μ-loop
+run-loop-less t c =
+    let f = stepped t (c .before .before .before) in
+    let g = c .pass-over .ensures .1 in
+    omega arith
+
+run-loop-again : (t : ℕ) → run-lts.Need-loop-again (run-calls t) (run-at t) run.Post run-Inv-loop run-μ-loop
+run-loop-again t c =
+    let d = c .before .before .before in
+    let x = d .before .before .before .before .before .before .before .before .before .before in
+    let g = c .pass-over .ensures in
+    let b = bytes-all (x .args .file .now) (λ n. omega (arith, d .before .before .before .before .before .before .before .before .before .shared-slice-known .given n)) in
+    sofar-passed b (x .pre .1 .2 .ends) (g .1 .0) (g .1 .1) (g .0) (behind t d)
+
+run-loop-less-2 : (t : ℕ) → run-lts.Need-loop-less-2 (run-calls t) (run-at t) run.Post run-Inv-loop run-μ-loop
+run-loop-less-2 t c =
+    let f = stepped t (c .before .before) in
+    omega arith
+
+run-loop-again-2 : (t : ℕ) → run-lts.Need-loop-again-2 (run-calls t) (run-at t) run.Post run-Inv-loop run-μ-loop
+run-loop-again-2 t c = behind t (c .before .before)
 
 run-same-length-2 :
     (t : ℕ) →
@@ -490,7 +527,12 @@ pub +chunk+run-spec : {M : Type 1} → statement M
     (run-enum-known-next t)
     (run-add-records t)
     (run-add-skipped t)
+    (run-pass-over-requires t)
+    (run-sub-skipped t)
+    (run-add-skipped-2 t)
     (run-loop-less t)
     (run-loop-again t)
+    (run-loop-less-2 t)
+    (run-loop-again-2 t)
     (run-same-length-2 t)
     (run-returns-2 t)
