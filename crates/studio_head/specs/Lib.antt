@@ -1,2 +1,3 @@
 pub mod Heads
 pub mod Contexts
+pub mod Passes

@@ -18,6 +18,7 @@ ghost use Rattle.studio_lookup.specs.Slots.{slots};
 ghost use Rattle.studio_own_data.specs.Bounds.{BoundIs};
 ghost use Rattle.studio_head.specs.Heads.{HeaderIs, HeaderWithin, OrderIs, HeadIs, openedBy, MarksAre, HeadWithin};
 ghost use Rattle.studio_head.specs.Contexts.{Room, Context};
+ghost use Rattle.studio_head.specs.Passes.{Passes};
 
 // The header of a chunk: a fault, or its identifier and where the chunk ends.
 pub enum Header {
@@ -142,4 +143,24 @@ pub fn look(
             look_listed(file, id, row, count, order, at, stop)
         }
     }
+}
+
+// Where the unlisted chunks end that stand from at on one after another, in a run that ends at end: at a listed one, at a fault,
+// or at its end.
+pub fn pass_over(file: &[u8], table: &[u64; 128], at: usize, end: usize) -> usize
+    requires { ⌜ (at ≤ end) × (end ≤ length (now file)) × (now table ≡ slots) ⌝ }
+    ensures is { λ r. ⌜ ((p : Parent) (seen : List ℕ) → Passes p seen (now (file .entry)) at end r) ⌝ }
+    ensures within { λ r. ⌜ (at ≤ r) × (r ≤ end) ⌝ }
+{
+    let mut o = at;
+    while o < end {
+        let Header::Is { id, stop } = read_header(file, o, end) else {
+            return o;
+        };
+        if studio_lookup::row(table, id) != 0 {
+            return o;
+        }
+        o = stop;
+    }
+    o
 }

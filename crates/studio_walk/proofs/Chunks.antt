@@ -25,18 +25,28 @@ use Rattle.studio_rules.proofs.Steps.{Says}
 use Rattle.studio_rules.proofs.Fuel.{walk-nil}
 use Rattle.studio_row.specs.Packed.{rowOf, slotOf}
 use Rattle.studio_row.proofs.Facts.{leaf-is}
-use Rattle.studio_marks.specs.declared.Shut.{Shut}
 use Rattle.studio_own_data.specs.Bounds.{boundOf}
+use Rattle.studio_marks.specs.declared.Shut.{Shut}
 use Rattle.studio_marks.specs.Marks.{noted, noMarks, Kept, ShutIs}
 use Rattle.studio_head.specs.declared.Head.{Head}
 use Rattle.studio_walk.specs.declared.Ran.{Ran}
 use Rattle.studio_head.specs.Heads.{HeadIs, MarksAre}
-use Rattle.studio_walk.specs.Runs.{ClosedIs, ChunkIs, RunIs}
+use Rattle.studio_walk.specs.Runs.{ClosedIs, closedTo, ChunkIs, RunIs}
 use Rattle.studio_walk.proofs.Parts.{bytes-slice}
 
 -- nothing is two things at once
 pub clash : _≡_ {A = ℕ} 0 1 → ⊥
 clash z = omega arith
+
+-- ---- at its end
+
+pub closed-fault : (past n k : ℕ) (x : Option Refusal) (y : Refusal) → ShutIs x (Shut.Fault y) → Ran.Refused y ≡ closedTo past n k x
+closed-fault past n k (some z) y h = cc
+closed-fault past n k none y h = absurd (clash (cc))
+
+pub closed-fine : (past n k : ℕ) (x : Option Refusal) → ShutIs x Shut.Fine → Ran.Done past (n + 1) k ≡ closedTo past n k x
+closed-fine past n k (some z) h = absurd (clash (cc))
+closed-fine past n k none h = refl
 
 -- ---- without children
 
@@ -156,18 +166,12 @@ module _ (p : Parent) (seen : List ℕ) (at id : ℕ) (own kids rest ms : List �
   pub chunk-refused : (y : Refusal) → walk (inside p seen id own) [] (at + (6 + length own)) kids ≡ refused y → ChunkIs p seen at (enter id own kids rest) (Ran.Refused y) ms (noted (slotOf id) at ms)
   chunk-refused y e = (rw e, refl)
 
-  pub chunk-shut : (y : Refusal) (t : Run) → walk (inside p seen id own) [] (at + (6 + length own)) kids ≡ accepted t → ShutIs (broken (endConditions (inside p seen id own) at t)) (Shut.Fault y) →
-      ChunkIs p seen at (enter id own kids rest) (Ran.Refused y) ms (noted (slotOf id) at ms)
-  chunk-shut y t e h = (rw e (go (broken (endConditions (inside p seen id own) at t)) h), refl)
+  pub chunk-closed : (r : Ran) (t : Run) (n k : ℕ) → walk (inside p seen id own) [] (at + (6 + length own)) kids ≡ accepted t → n ≡ recordCount t → k ≡ skipped t → r ≡ closedTo past n k (broken (endConditions (inside p seen id own) at t)) →
+      ChunkIs p seen at (enter id own kids rest) r ms (noted (slotOf id) at ms)
+  chunk-closed r t n k e f g h = (rw e (go (broken (endConditions (inside p seen id own) at t)) h), refl)
     where
-      go : (x : Option Refusal) → ShutIs x (Shut.Fault y) → ClosedIs (at + (6 + length own + length kids)) (unless x (accepted t)) (Ran.Refused y)
-      go (some x) h = cc
-      go none h = absurd (clash (cc))
-
-  pub chunk-done : (t : Run) (n k : ℕ) → walk (inside p seen id own) [] (at + (6 + length own)) kids ≡ accepted t → n ≡ recordCount t → k ≡ skipped t → ShutIs (broken (endConditions (inside p seen id own) at t)) Shut.Fine →
-      ChunkIs p seen at (enter id own kids rest) (Ran.Done past (n + 1) k) ms (noted (slotOf id) at ms)
-  chunk-done t n k e f g h = (rw e (go (broken (endConditions (inside p seen id own) at t)) h), refl)
-    where
-      go : (x : Option Refusal) → ShutIs x Shut.Fine → ClosedIs (at + (6 + length own + length kids)) (unless x (accepted t)) (Ran.Done past (n + 1) k)
-      go (some x) h = absurd (clash (cc))
-      go none h = rw (q, f, g)
+      go : (x : Option Refusal) → r ≡ closedTo past n k x → ClosedIs (at + (6 + length own + length kids)) (unless x (accepted t)) r
+      go (some x) h = h
+      go none h =
+          let same : Ran.Done past (n + 1) k ≡ Ran.Done (at + (6 + length own + length kids)) (recordCount t + 1) (skipped t) = rw (q, f, g) in
+          h ∙ same

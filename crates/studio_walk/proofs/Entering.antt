@@ -9,22 +9,21 @@ use lib.Seq.{slice}
 use Rattle.shared_words.specs.declared.Refusal.{Refusal}
 use Rattle.shared_words.specs.Bytes.{Bytes}
 use Rattle.studio_rules.specs.Rules.{Parent, inside}
-use Rattle.shared_words.specs.Conditions.{broken}
-use Rattle.studio_rules.specs.Walk.{Step, enter, endConditions, step, walk}
+use Rattle.studio_rules.specs.Walk.{Step, enter, step, walk}
 use Rattle.studio_rules.proofs.Rows.{under-listed}
 use Rattle.studio_rules.proofs.Steps.{Says, Entered, step-says}
 use Rattle.studio_row.specs.Packed.{slotOf}
-use Rattle.studio_marks.specs.declared.Shut.{Shut}
-use Rattle.studio_marks.specs.Marks.{noted, noMarks, Kept, ShutIs, MeshPlaced, RuleIs, EndIs}
+use Rattle.studio_marks.specs.Marks.{noted, noMarks, Kept, MeshPlaced, RuleIs}
 use Rattle.studio_marks.proofs.Ends.{mesh-placed}
 use Rattle.studio_head.specs.declared.Head.{Head}
 use Rattle.studio_walk.specs.declared.Ran.{Ran}
 use Rattle.studio_head.specs.Heads.{HeadIs, MarksAre, HeadWithin}
 use Rattle.studio_head.specs.Contexts.{Context}
-use Rattle.studio_walk.specs.Runs.{ChunkIs, RunIs}
+use Rattle.studio_walk.specs.Runs.{ClosesBy, ChunkIs, RunIs}
 use Rattle.studio_walk.proofs.Contexts.{context-inside, own-bytes, bound-small}
 use Rattle.studio_walk.proofs.Parts.{bytes-slice, PartsAt, EnteredAt, step-parts}
-use Rattle.studio_walk.proofs.Chunks.{Entering, entering, Ran-well, run-refused, run-accepted, chunk-refused, chunk-shut, chunk-done}
+use Rattle.studio_walk.proofs.Chunks.{Entering, entering, Ran-well, run-refused, run-accepted, chunk-refused, chunk-closed}
+use Rattle.studio_walk.proofs.Runs.{run-ends}
 
 -- a chunk that may have children was met at `at`, in a run of q up to end: what was found at its start
 pub record Opened (s : List ℕ) (at end : ℕ) (q : Parent) (seen ms ms₁ : List ℕ) (id row word from past : ℕ) : Type 0 where
@@ -79,6 +78,10 @@ module _ {s : List ℕ} {at end : ℕ} {q : Parent} {seen ms ms₁ : List ℕ} {
   children {inner = inner} rule h e =
       record { are = subst (λ (x : Ran). RunIs past 0 0 from noMarks (walk (inside q seen id (ent .own)) [] from (slice from past s)) x inner) e (h (inside q seen id (ent .own)) [] rule inner-context) }
 
+  -- there are none
+  pub no-children : past ≤ from → Children (Ran.Done past 0 0) noMarks
+  no-children h = record { are = run-ends (inside q seen id (ent .own)) [] s from past 0 0 noMarks h }
+
   pub enter-refused : {y : Refusal} {inner : List ℕ} → Children (Ran.Refused y) inner → ChunkIs q seen at (step q seen at (slice at end s)) (Ran.Refused y) ms ms₁
   enter-refused {y} {inner} h =
       whole (Ran.Refused y)
@@ -95,17 +98,8 @@ module _ {s : List ℕ} {at end : ℕ} {q : Parent} {seen ms ms₁ : List ℕ} {
     enter-placed i = mesh-placed (inside q seen id (ent .own)) i (well .t) s from past inner (well .kept)
 
     -- what the end of the chunk was found to be
-    module _ {asMany : Bool} (rule : RuleIs q asMany) (shut : Shut) (ends : EndIs s id at asMany inner shut) where
-      at-end : ShutIs (broken (endConditions (inside q seen id (ent .own)) at (well .t))) shut
-      at-end = ends (inside q seen id (ent .own)) (well .t) past refl rule kept
-
-      pub enter-shut : {y : Refusal} → shut ≡ Shut.Fault y → ChunkIs q seen at (step q seen at (slice at end s)) (Ran.Refused y) ms ms₁
-      enter-shut {y} e =
-          whole (Ran.Refused y)
-          (chunk-shut q seen at id (ent .own) (ent .kids) (ent .rest) ms past (ent .past-is) y (well .t) (inner-walk ∙ well .is) (subst (ShutIs (broken (endConditions (inside q seen id (ent .own)) at (well .t)))) e at-end))
-
-      pub enter-done : shut ≡ Shut.Fine → ChunkIs q seen at (step q seen at (slice at end s)) (Ran.Done past (n + 1) k) ms ms₁
-      enter-done e =
-          whole (Ran.Done past (n + 1) k)
-          (chunk-done q seen at id (ent .own) (ent .kids) (ent .rest) ms past (ent .past-is) (well .t) n k (inner-walk ∙ well .is) (well .records-are) (well .skipped-are)
-          (subst (ShutIs (broken (endConditions (inside q seen id (ent .own)) at (well .t)))) e at-end))
+    pub enter-closed : {asMany : Bool} → RuleIs q asMany → (r : Ran) → ClosesBy s id at asMany inner past n k r → ChunkIs q seen at (step q seen at (slice at end s)) r ms ms₁
+    enter-closed rule r closes =
+        whole r
+        (chunk-closed q seen at id (ent .own) (ent .kids) (ent .rest) ms past (ent .past-is) r (well .t) n k (inner-walk ∙ well .is) (well .records-are) (well .skipped-are)
+        (closes (inside q seen id (ent .own)) (well .t) past refl rule kept))

@@ -26,7 +26,7 @@ use Rattle.studio_walk.proofs.Chunks.{clash, walk-tells}
 
 module _ (end records skips at : ℕ) (ms : List ℕ) (r : Ran) (ms′ : List ℕ) where
   -- a chunk that is skipped, and the rest
-  skip-on : (id : ℕ) (body : List ℕ) (a : Answer Run) → RunIs end (records + 0) (skips + (6 + length body)) (at + (6 + length body)) ms a r ms′ → RunIs end records skips at ms (withSkip id body a) r ms′
+  pub skip-on : (id : ℕ) (body : List ℕ) (a : Answer Run) → RunIs end (records + 0) (skips + (6 + length body)) (at + (6 + length body)) ms a r ms′ → RunIs end records skips at ms (withSkip id body a) r ms′
   skip-on id body (refused x) h = h
   skip-on id body (accepted t) h =
       let n : records + 0 + recordCount t ≡ records + recordCount t = omega arith in
@@ -97,7 +97,7 @@ module _ (p : Parent) (seen : List ℕ) (s : List ℕ) (at end : ℕ) (ms : List
 
 -- the same of the walk of a part that is not empty, by its first step
 module _ (p : Parent) (seen s : List ℕ) (at end : ℕ) (ms : List ℕ) (o : at < end) (l : end ≤ length s) where
-  begun : (records skips : ℕ) (r : Ran) (ms′ : List ℕ) → RunIs end records skips at ms (taken walk p seen at (step p seen at (slice at end s))) r ms′ → RunIs end records skips at ms (walk p seen at (slice at end s)) r ms′
+  pub begun : (records skips : ℕ) (r : Ran) (ms′ : List ℕ) → RunIs end records skips at ms (taken walk p seen at (step p seen at (slice at end s))) r ms′ → RunIs end records skips at ms (walk p seen at (slice at end s)) r ms′
   begun records skips r ms′ h = subst (λ (a : Answer Run). RunIs end records skips at ms a r ms′) (sym (walk-part s at end o l p seen)) h
 
   pub stops-here : (records skips : ℕ) (y : Refusal) (ms₁ : List ℕ) → ChunkIs p seen at (step p seen at (slice at end s)) (Ran.Refused y) ms ms₁ → RunIs end records skips at ms (walk p seen at (slice at end s)) (Ran.Refused y) ms₁

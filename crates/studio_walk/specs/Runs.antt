@@ -2,14 +2,16 @@
 use mathlib.Core.Path.{_≡_}
 use mathlib.Core.Bool.{Bool}
 use mathlib.Core.List.{List, []}
+use mathlib.Core.Option.{Option, none, some}
 use Prim.Native.Nat.{ℕ, _+_, _*_, _-_, _≤_, _<_}
 use lib.ListN.{length}
 use Rattle.studio_rules.specs.Rules.{Parent, inside}
 use Rattle.studio_rules.specs.Gives.{recordCount, skipped}
-use Rattle.shared_words.specs.Conditions.{Answer, refused, accepted}
-use Rattle.studio_rules.specs.Walk.{Step, stop, pass, enter, ended, walk}
+use Rattle.shared_words.specs.declared.Refusal.{Refusal}
+use Rattle.shared_words.specs.Conditions.{Answer, refused, accepted, broken}
+use Rattle.studio_rules.specs.Walk.{Step, stop, pass, enter, endConditions, ended, walk}
 use Rattle.studio_row.specs.Packed.{slotOf}
-use Rattle.studio_marks.specs.Marks.{noted, marksAfter, RuleIs}
+use Rattle.studio_marks.specs.Marks.{noted, marksAfter, Kept, RuleIs}
 use Rattle.studio_head.specs.Contexts.{Context}
 use Rattle.studio_walk.specs.declared.Ran.{Ran}
 use Rattle.studio_rules.specs.Layout.{Run}
@@ -22,6 +24,20 @@ SomeContext row word asMany marks = (p : Parent) × (seen : List ℕ) × RuleIs 
 abbrev pub ClosedIs : ℕ → Answer Run → Ran → Type 0
 ClosedIs past (refused x) r = r ≡ Ran.Refused x
 ClosedIs past (accepted t) r = r ≡ Ran.Done past (recordCount t + 1) (skipped t)
+
+-- a chunk at its end, by the first of its conditions there that is broken
+abbrev pub closedTo : ℕ → ℕ → ℕ → Option Refusal → Ran
+closedTo past records bytes (some x) = Ran.Refused x
+closedTo past records bytes none = Ran.Done past (records + 1) bytes
+
+-- a chunk of an identifier at its end, in whatever it stands: its children left these marks
+abbrev pub ClosesBy : List ℕ → ℕ → ℕ → Bool → List ℕ → ℕ → ℕ → ℕ → Ran → Type 0
+ClosesBy s id at asMany marks past records bytes r =
+    (q : Parent) (t : Run) (stop : ℕ) → q .id ≡ id → RuleIs q asMany → Kept q t s (at + (6 + length (q .own))) stop marks → r ≡ closedTo past records bytes (broken (endConditions q at t))
+
+abbrev pub ClosesWith : ℕ → ℕ → ℕ → Ran → Type 0
+ClosesWith past records bytes (Ran.Refused x) = Unit
+ClosesWith past records bytes (Ran.Done next n k) = (next ≡ past) × (n ≡ records + 1) × (k ≡ bytes)
 
 -- a chunk at `at`, after the children `seen`, by the step that meets it, and the marks before and after it
 abbrev pub ChunkIs : Parent → List ℕ → ℕ → Step → Ran → List ℕ → List ℕ → Type 0

@@ -12,9 +12,9 @@ ghost use lib.Seq.{slice};
 ghost use Rattle.studio_rules.specs.Rules.{Parent};
 ghost use Rattle.studio_rules.specs.Walk.{step, walk};
 ghost use Rattle.studio_lookup.specs.Slots.{slots};
-ghost use Rattle.studio_marks.specs.Marks.{RuleIs};
+ghost use Rattle.studio_marks.specs.Marks.{RuleIs, MeshPlaced};
 ghost use Rattle.studio_head.specs.Contexts.{Room, Context};
-ghost use Rattle.studio_walk.specs.Runs.{SomeContext, ChunkIs, ChunkWithin, RunIs, RunWithin};
+ghost use Rattle.studio_walk.specs.Runs.{SomeContext, ClosesBy, ClosesWith, ChunkIs, ChunkWithin, RunIs, RunWithin};
 
 // What a chunk or a run of chunks comes to: where it ends, how many records it has and how many bytes were skipped.
 pub enum Ran {
@@ -24,6 +24,31 @@ pub enum Ran {
         records: usize,
         skipped: usize,
     },
+}
+
+// A chunk at its end, which is stop: its children have so many records and skipped bytes, and left these marks.
+fn close(
+    file: &[u8],
+    id: usize,
+    at: usize,
+    as_many: bool,
+    stop: usize,
+    records: usize,
+    skipped: usize,
+    marks: &[u32],
+) -> Ran
+    requires { ⌜ (length (now marks) ≡ 6) × (id ≡ 0x4100 → MeshPlaced (now file) (now marks)) × (records < 4294967296) ⌝ }
+    ensures is { λ r. ⌜ ClosesBy (now (file .entry)) id at as_many (now (marks .entry)) stop records skipped r ⌝ }
+    ensures counts { λ r. ⌜ ClosesWith stop records skipped r ⌝ }
+{
+    match studio_marks::at_end(file, id, at, as_many, marks) {
+        Shut::Fault(r) => Ran::Refused(r),
+        Shut::Fine => Ran::Done {
+            next: stop,
+            records: records + 1,
+            skipped,
+        },
+    }
 }
 
 // The chunk at at, in a file in whose meshes mapping pairs are as many as vertices, or at most as many. Its children leave
@@ -63,20 +88,17 @@ fn chunk(
             stop,
         } => {
             let mut inner = [0u32; 6];
+            // without children there is nothing to walk
+            if from == stop {
+                return close(file, id, at, as_many, stop, 0, 0, &inner);
+            }
             match run(file, table, row, word, as_many, from, stop, &mut inner) {
                 Ran::Refused(r) => Ran::Refused(r),
                 Ran::Done {
                     next: _,
                     records,
                     skipped,
-                } => match studio_marks::at_end(file, id, at, as_many, &inner) {
-                    Shut::Fault(r) => Ran::Refused(r),
-                    Shut::Fine => Ran::Done {
-                        next: stop,
-                        records: records + 1,
-                        skipped,
-                    },
-                },
+                } => close(file, id, at, as_many, stop, records, skipped, &inner),
             }
         }
     }
@@ -112,6 +134,11 @@ pub fn run(
                 p = next;
                 records += n;
                 skipped += k;
+                // unlisted chunks often stand together: one loop over them costs less than a look at each
+                if n == 0 {
+                    p = studio_head::pass_over(file, table, next, end);
+                    skipped += p - next;
+                }
             }
         }
     }

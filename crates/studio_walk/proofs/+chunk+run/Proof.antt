@@ -17,12 +17,13 @@ use Rattle.studio_head.specs.declared.Head.{Head}
 use Rattle.studio_walk.specs.declared.Ran.{Ran}
 use Rattle.studio_head.specs.Heads.{HeadIs, HeadWithin}
 use Rattle.studio_head.specs.Contexts.{Room, Context}
-use Rattle.studio_walk.specs.Runs.{ChunkIs, ChunkWithin, RunWithin}
+use Rattle.studio_walk.specs.Runs.{ClosesWith, ChunkIs, ChunkWithin, RunWithin}
 use Rattle.studio_walk.proofs.Parts.{bytes-slice}
 use Rattle.studio_walk.proofs.Chunks.{chunk-fault, chunk-skip, chunk-leaf}
-use Rattle.studio_walk.proofs.Entering.{Opened, ent, inner-context, children, enter-refused, enter-placed, enter-shut, enter-done}
+use Rattle.studio_walk.proofs.Entering.{Opened, ent, inner-context, Children, children, no-children, enter-refused, enter-placed, enter-closed}
 use Rattle.studio_walk.proofs.Runs.{GoesOn, stops-here, goes-on, run-ends}
 use Rattle.studio_walk.proofs.Loop.{Sofar}
+use Rattle.studio_walk.proofs.Passing.{sofar-passed}
 use Prim.Native.Nat.{ℕ, _<_}
 use borrow.Fn.Kinds.{In}
 use borrow.Fn.PlainCycle.{Measures, is, falls, and}
@@ -32,8 +33,9 @@ use Rattle.studio_walk.proofs.+chunk+run.Lts-chunk as chunk-lts
 use Rattle.studio_walk.proofs.run.Reads as run
 use Rattle.studio_walk.proofs.run.Kinds as run-kinds
 use Rattle.studio_walk.proofs.+chunk+run.Lts-run as run-lts
-use Rattle.studio_marks.proofs.at_end.Reads as at-end-reads
+use Rattle.studio_walk.proofs.close.Reads as close-reads
 use Rattle.studio_head.proofs.look.Reads as look-reads
+use Rattle.studio_head.proofs.pass_over.Reads as pass-over-reads
 use Rattle.studio_walk.proofs.+chunk+run.{statement}
 use Rattle.studio_walk.proofs.+chunk+run.Tie.{close}
 
@@ -60,14 +62,14 @@ abbrev chunk-calls : ℕ → chunk-lts.Claims
 chunk-calls t = (
   look-reads.Asked,
   look-reads.Learnt,
+  close-reads.Asked,
+  close-reads.Learnt,
   run-below t,
   run.Post,
-  at-end-reads.Asked,
-  at-end-reads.Learnt,
 )
 
 abbrev run-calls : ℕ → run-lts.Claims
-run-calls t = (chunk-below t, chunk.Post)
+run-calls t = (chunk-below t, chunk.Post, pass-over-reads.Asked, pass-over-reads.Learnt)
 
 chunk-look-requires : (t : ℕ) → chunk-lts.Need-look-requires (chunk-calls t) (chunk-at t) chunk.Post
 chunk-look-requires t c κs = let x = c .before .before .before .pre .1 in (x .0, x .2, x .4)
@@ -93,8 +95,8 @@ chunk-enum-known-r t c = search needs
 chunk-enum-known-stop : (t : ℕ) → chunk-lts.Need-enum-known-stop (chunk-calls t) (chunk-at t) chunk.Post
 chunk-enum-known-stop t c = search needs
 
-chunk-sub-t26 : (t : ℕ) → chunk-lts.Need-sub-t26 (chunk-calls t) (chunk-at t) chunk.Post
-chunk-sub-t26 t c =
+chunk-sub-t25 : (t : ℕ) → chunk-lts.Need-sub-t25 (chunk-calls t) (chunk-at t) chunk.Post
+chunk-sub-t25 t c =
     let v = found-within t (c .before .before .before .before .before) (c .before .stop .given .1) in
     omega arith
 
@@ -103,9 +105,6 @@ chunk-enum-known-stop-2 t c = search needs
 
 chunk-enum-known-id : (t : ℕ) → chunk-lts.Need-enum-known-id (chunk-calls t) (chunk-at t) chunk.Post
 chunk-enum-known-id t c = search needs
-
-chunk-slice-aggregate-run : (t : ℕ) → chunk-lts.Need-slice-aggregate-run (chunk-calls t) (chunk-at t) chunk.Post
-chunk-slice-aggregate-run t c = search needs
 
 -- a chunk that is entered, as it was found, in each context of the run that it stands in
 opened : (t : ℕ) (d : chunk-lts.After-id (chunk-calls t) (chunk-at t) chunk.Post) →
@@ -126,14 +125,49 @@ opened t d q seen k =
       within = found-within t l (d .id .given .1);
     }
 
+chunk-slice-aggregate-close : (t : ℕ) → chunk-lts.Need-slice-aggregate-close (chunk-calls t) (chunk-at t) chunk.Post
+chunk-slice-aggregate-close t c = search needs
+
+-- a chunk without children is judged as one whose children were walked
+childless : (t : ℕ) (d : chunk-lts.Then1 (chunk-calls t) (chunk-at t) chunk.Post) →
+    let x = d .before .before .before .before .before .before .before .before .before .before .args in
+    let g = d .before .before .id .given .0 in
+    (q : Parent) (seen : List ℕ) (k : Context q seen (x .parent) (x .count) (x .marks .now)) → Children (opened t (d .before .before) q seen k) (Ran.Done (g .1 .1 .1 .1 .0) 0 0) noMarks
+childless t d q seen k = no-children (opened t (d .before .before) q seen k) (omega (arith, d .if1 .taken))
+
+chunk-close-requires : (t : ℕ) → chunk-lts.Need-close-requires (chunk-calls t) (chunk-at t) chunk.Post
+chunk-close-requires t c κs =
+    let d = c .before in
+    let p = d .before .before .before .before .before .before .before .before .before .before .pre .1 .3 in
+    (refl, enter-placed (opened t (d .before .before) (p .0) (p .1) (p .3)) (childless t d (p .0) (p .1) (p .3)), omega arith)
+
+chunk-same-length : (t : ℕ) → chunk-lts.Need-same-length (chunk-calls t) (chunk-at t) chunk.Post
+chunk-same-length t c = search needs
+
+-- what is left of the bytes, where a chunk was closed
+closed-within : (at end past n k : ℕ) (r : Ran) → ClosesWith past n k r → at < past → past ≤ end → 6 * (n + 1) + k ≤ past - at → ChunkWithin at end r
+closed-within at end past n k (Ran.Refused x) h o l m = tt
+closed-within at end past n k (Ran.Done next n′ k′) h o l m = (omega (arith, h .0), omega (arith, h .0), omega (arith, h .0, h .1, h .2))
+
+chunk-returns : (t : ℕ) → chunk-lts.Need-returns (chunk-calls t) (chunk-at t) chunk.Post
+chunk-returns t c =
+    let d = c .before .before .before .before in
+    let v = found-within t (d .before .before .before .before) (d .id .given .1) in (
+      λ q seen rule k. enter-closed (opened t d q seen k) (childless t (c .before .before) q seen k) rule (c .close .result) (c .close .ensures .0),
+      (d .before .before .before .before .look .ensures .1 .1 .0, closed-within _ _ _ 0 0 (c .close .result) (c .close .ensures .1) (omega arith) (omega arith) (omega arith)),
+    )
+
+chunk-slice-aggregate-run : (t : ℕ) → chunk-lts.Need-slice-aggregate-run (chunk-calls t) (chunk-at t) chunk.Post
+chunk-slice-aggregate-run t c = search needs
+
 chunk-run-requires : (t : ℕ) → chunk-lts.Need-run-requires (chunk-calls t) (chunk-at t) chunk.Post
 chunk-run-requires t c κs =
-    let x = c .before .before .before .before .before .before .before .before .before .before in
+    let x = c .before .before .before .before .before .before .before .before .before .before .before in
     let p = x .pre .1 .3 in
-    let e = opened t (c .before .before) (p .0) (p .1) (p .3) in
+    let e = opened t (c .before .before .before) (p .0) (p .1) (p .3) in
     let v = e .within in
-    let room : Room (c .before .before .id .given .0 .1 .1 .1 .1 .0) (c .before .before .id .given .0 .1 .1 .0) (x .args .file .now) noMarks = record { ends = omega (arith, x .pre .1 .2 .ends, v .2); short = x .pre .1 .2 .short; word = inner-context e .bound-is .small; six = refl } in
-    (omega (arith, v .0, v .1, v .2, x .pre), (v .1, omega (arith, v .0), room, (inside (p .0) (p .1) (c .before .before .id .given .0 .0) (ent e .own), [], p .2, inner-context e), x .pre .1 .4))
+    let room : Room (c .before .before .before .id .given .0 .1 .1 .1 .1 .0) (c .before .before .before .id .given .0 .1 .1 .0) (x .args .file .now) noMarks = record { ends = omega (arith, x .pre .1 .2 .ends, v .2); short = x .pre .1 .2 .short; word = inner-context e .bound-is .small; six = refl } in
+    (omega (arith, v .0, v .1, v .2, x .pre), (v .1, omega (arith, v .0), room, (inside (p .0) (p .1) (c .before .before .before .id .given .0 .0) (ent e .own), [], p .2, inner-context e), x .pre .1 .4))
 
 chunk-enum-known-r-2 : (t : ℕ) → chunk-lts.Need-enum-known-r-2 (chunk-calls t) (chunk-at t) chunk.Post
 chunk-enum-known-r-2 t c = search needs
@@ -141,53 +175,42 @@ chunk-enum-known-r-2 t c = search needs
 chunk-enum-known-records : (t : ℕ) → chunk-lts.Need-enum-known-records (chunk-calls t) (chunk-at t) chunk.Post
 chunk-enum-known-records t c = search needs
 
-chunk-slice-aggregate-at-end : (t : ℕ) → chunk-lts.Need-slice-aggregate-at-end (chunk-calls t) (chunk-at t) chunk.Post
-chunk-slice-aggregate-at-end t c = search needs
-
-chunk-at-end-requires : (t : ℕ) → chunk-lts.Need-at-end-requires (chunk-calls t) (chunk-at t) chunk.Post
-chunk-at-end-requires t c κs =
-    let x = c .before .before .before .before .before .before .before .before .before .before .before .before .before .before .before .before in
-    let p = x .pre .1 .3 in
-    let e = opened t (c .before .before .before .before .before .before .before .before) (p .0) (p .1) (p .3) in
-    let y = c .before .before .before .before .before .run in
-    (y .ensures .1 .0, enter-placed e (children e (p .2) (y .ensures .0) (c .before .before .records .given .1)))
-
-chunk-enum-known-r-3 : (t : ℕ) → chunk-lts.Need-enum-known-r-3 (chunk-calls t) (chunk-at t) chunk.Post
-chunk-enum-known-r-3 t c = search needs
-
-chunk-enum-told : (t : ℕ) → chunk-lts.Need-enum-told (chunk-calls t) (chunk-at t) chunk.Post
-chunk-enum-told t c = search needs
+chunk-slice-aggregate-close-2 : (t : ℕ) → chunk-lts.Need-slice-aggregate-close-2 (chunk-calls t) (chunk-at t) chunk.Post
+chunk-slice-aggregate-close-2 t c = search needs
 
 -- six bytes for each record of its children, and the skipped ones
 children-within : (t : ℕ) (d : chunk-lts.After-records (chunk-calls t) (chunk-at t) chunk.Post) →
-    let g = d .before .before .before .before .before .before .id .given .0 in
+    let g = d .before .before .before .before .before .before .before .id .given .0 in
     let h = d .records .given .0 in
     RunWithin (g .1 .1 .1 .0) (g .1 .1 .1 .1 .0) (Ran.Done (h .0) (h .1 .0) (h .1 .1 .0))
 children-within t d = subst (RunWithin _ _) (d .records .given .1) (d .before .before .before .run .ensures .1 .1)
 
-chunk-add-t35 : (t : ℕ) → chunk-lts.Need-add-t35 (chunk-calls t) (chunk-at t) chunk.Post
-chunk-add-t35 t c =
-    let x = c .before .before .before .before .before .before .before .before .before .before .before .before .before .before .before .before .before .before .before .pre .1 .2 in
-    let v = found-within t (c .before .before .before .before .before .before .before .before .before .before .before .before .before .before .before) (c .before .before .before .before .before .before .before .before .before .before .before .id .given .1) in
-    let z = children-within t (c .before .before .before .before .before) in
-    omega (arith, x .short, x .ends)
-
-chunk-same-length : (t : ℕ) → chunk-lts.Need-same-length (chunk-calls t) (chunk-at t) chunk.Post
-chunk-same-length t c = search needs
-
-chunk-returns : (t : ℕ) → chunk-lts.Need-returns (chunk-calls t) (chunk-at t) chunk.Post
-chunk-returns t c =
-    let d = c .before .before .before .before .before in
-    let x = d .before .before .before .before .args in
-    let ms = d .look .last .1 .1 .1 .1 .1 .1 .0 in
-    let g = c .before .r .given in
-    (λ q seen rule k. chunk-fault q seen (x .at) (x .marks .now) ms (step q seen (x .at) (slice (x .at) (x .end) (x .file .now))) (g .0 .0) (found t d (g .1) q seen k), (d .look .ensures .1 .1 .0, tt))
+chunk-close-requires-2 : (t : ℕ) → chunk-lts.Need-close-requires-2 (chunk-calls t) (chunk-at t) chunk.Post
+chunk-close-requires-2 t c κs =
+    let x = c .before .before .before .before .before .before .before .before .before .before .before .before .before .before .before .before .before in
+    let p = x .pre .1 .3 in
+    let e = opened t (c .before .before .before .before .before .before .before .before .before) (p .0) (p .1) (p .3) in
+    let y = c .before .before .before .before .before .run in
+    let v = found-within t (c .before .before .before .before .before .before .before .before .before .before .before .before .before) (c .before .before .before .before .before .before .before .before .before .id .given .1) in
+    let z = children-within t (c .before .before) in
+    (y .ensures .1 .0, enter-placed e (children e (p .2) (y .ensures .0) (c .before .before .records .given .1)), omega (arith, x .pre .1 .2 .short, x .pre .1 .2 .ends))
 
 chunk-same-length-2 : (t : ℕ) → chunk-lts.Need-same-length-2 (chunk-calls t) (chunk-at t) chunk.Post
 chunk-same-length-2 t c = search needs
 
 chunk-returns-2 : (t : ℕ) → chunk-lts.Need-returns-2 (chunk-calls t) (chunk-at t) chunk.Post
 chunk-returns-2 t c =
+    let d = c .before .before .before .before .before in
+    let x = d .before .before .before .before .args in
+    let ms = d .look .last .1 .1 .1 .1 .1 .1 .0 in
+    let g = c .before .r .given in
+    (λ q seen rule k. chunk-fault q seen (x .at) (x .marks .now) ms (step q seen (x .at) (slice (x .at) (x .end) (x .file .now))) (g .0 .0) (found t d (g .1) q seen k), (d .look .ensures .1 .1 .0, tt))
+
+chunk-same-length-3 : (t : ℕ) → chunk-lts.Need-same-length-3 (chunk-calls t) (chunk-at t) chunk.Post
+chunk-same-length-3 t c = search needs
+
+chunk-returns-3 : (t : ℕ) → chunk-lts.Need-returns-3 (chunk-calls t) (chunk-at t) chunk.Post
+chunk-returns-3 t c =
     let d = c .before .before .before .before .before in
     let x = d .before .before .before .before .args in
     let ms = d .look .last .1 .1 .1 .1 .1 .1 .0 in
@@ -198,11 +221,11 @@ chunk-returns-2 t c =
       (d .look .ensures .1 .1 .0, omega arith),
     )
 
-chunk-same-length-3 : (t : ℕ) → chunk-lts.Need-same-length-3 (chunk-calls t) (chunk-at t) chunk.Post
-chunk-same-length-3 t c = search needs
+chunk-same-length-4 : (t : ℕ) → chunk-lts.Need-same-length-4 (chunk-calls t) (chunk-at t) chunk.Post
+chunk-same-length-4 t c = search needs
 
-chunk-returns-3 : (t : ℕ) → chunk-lts.Need-returns-3 (chunk-calls t) (chunk-at t) chunk.Post
-chunk-returns-3 t c =
+chunk-returns-4 : (t : ℕ) → chunk-lts.Need-returns-4 (chunk-calls t) (chunk-at t) chunk.Post
+chunk-returns-4 t c =
     let d = c .before .before .before .before .before in
     let x = d .before .before .before .before .args in
     let body = slice (x .at) (x .end) (x .file .now) in
@@ -215,26 +238,13 @@ chunk-returns-3 t c =
       (d .look .ensures .1 .1 .0, omega arith),
     )
 
-chunk-same-length-4 : (t : ℕ) → chunk-lts.Need-same-length-4 (chunk-calls t) (chunk-at t) chunk.Post
-chunk-same-length-4 t c = search needs
-
-chunk-returns-4 : (t : ℕ) → chunk-lts.Need-returns-4 (chunk-calls t) (chunk-at t) chunk.Post
-chunk-returns-4 t c =
-    let d = c .before .before .before .before .before .before .before in (
-      λ q seen rule k. let e = opened t d q seen k in enter-refused e (children e rule (c .before .before .before .before .run .ensures .0) (c .before .r2 .given .1)),
-      (d .before .before .before .before .look .ensures .1 .1 .0, tt),
-    )
-
 chunk-same-length-5 : (t : ℕ) → chunk-lts.Need-same-length-5 (chunk-calls t) (chunk-at t) chunk.Post
 chunk-same-length-5 t c = search needs
 
 chunk-returns-5 : (t : ℕ) → chunk-lts.Need-returns-5 (chunk-calls t) (chunk-at t) chunk.Post
 chunk-returns-5 t c =
-    let d = c .before .before .before .before .before .before .before .before .before .before .before .before in (
-      λ q seen rule k.
-          let e = opened t d q seen k in
-          let kids = children e rule (c .before .before .before .before .before .before .before .before .before .run .ensures .0) (c .before .before .before .before .before .before .records .given .1) in
-          enter-shut e kids rule (c .before .before .before .at-end .result) (c .before .before .before .at-end .ensures) (c .before .r3 .given .1),
+    let d = c .before .before .before .before .before .before .before .before in (
+      λ q seen rule k. let e = opened t d q seen k in enter-refused e (children e rule (c .before .before .before .before .run .ensures .0) (c .before .r2 .given .1)),
       (d .before .before .before .before .look .ensures .1 .1 .0, tt),
     )
 
@@ -243,13 +253,13 @@ chunk-same-length-6 t c = search needs
 
 chunk-returns-6 : (t : ℕ) → chunk-lts.Need-returns-6 (chunk-calls t) (chunk-at t) chunk.Post
 chunk-returns-6 t c =
-    let d = c .before .before .before .before .before .before .before .before .before .before .before in
+    let d = c .before .before .before .before .before .before .before .before .before .before in
     let v = found-within t (d .before .before .before .before) (d .id .given .1) in
-    let z = children-within t (c .before .before .before .before .before) in (
+    let z = children-within t (c .before .before .before) in (
       λ q seen rule k.
           let e = opened t d q seen k in
-          enter-done e (children e rule (c .before .before .before .before .before .before .before .before .run .ensures .0) (c .before .before .before .before .before .records .given .1)) rule (c .before .before .at-end .result) (c .before .before .at-end .ensures) (c .enum-told .given .1),
-      (d .before .before .before .before .look .ensures .1 .1 .0, omega arith),
+          enter-closed e (children e rule (c .before .before .before .before .before .before .run .ensures .0) (c .before .before .before .records .given .1)) rule (c .close2 .result) (c .close2 .ensures .0),
+      (d .before .before .before .before .look .ensures .1 .1 .0, closed-within _ _ _ _ _ (c .close2 .result) (c .close2 .ensures .1) (omega arith) (omega arith) (omega arith)),
     )
 
 abbrev run-Inv-loop : run-lts.InvT-loop
@@ -381,13 +391,6 @@ run-add-skipped t c =
     let f = stepped t (c .before) in
     omega arith
 
-run-loop-less :
-    (t : ℕ) →
-    run-lts.Need-loop-less (run-calls t) (run-at t) run.Post run-Inv-loop run-μ-loop
-run-loop-less t c =
-    let f = stepped t (c .before) in
-    omega arith
-
 -- where the run goes on, in each context
 went-on : (t : ℕ) (c : run-lts.After-next (run-calls t) (run-at t) run.Post run-Inv-loop run-μ-loop) →
     let x = c .before .before .before .before .before .before .before .before .before .before .args in
@@ -405,23 +408,65 @@ went-on t c q seen rule k =
     goes-on q seen s (i .p) (x .args .end) (i .marks) (c .before .before .before .before .before .before .loop-test .taken) (x .pre .1 .2 .ends) (x .args .parent) (x .args .count) k (i .inv .six)
     (omega (arith, i .inv .past, x .pre .1 .1)) b (g .0 .0) (g .0 .1 .0) (g .0 .1 .1 .0) (c .before .before .before .before .chunk .last .1 .1 .1 .1 .1 .1 .1 .0) (came t (c .before .before .before .before) (g .1) q seen rule k)
 
-run-loop-again : (t : ℕ) → run-lts.Need-loop-again (run-calls t) (run-at t) run.Post run-Inv-loop run-μ-loop
-run-loop-again t c =
-    let i = c .before .before .before .before .before .before .before .before .loop in
-    let f = stepped t (c .before) in
+-- how far the run has come behind the chunk
+behind : (t : ℕ) (c : run-lts.After-next (run-calls t) (run-at t) run.Post run-Inv-loop run-μ-loop) →
+    let x = c .before .before .before .before .before .before .before .before .before .before .args in
+    let i = c .before .before .before .before .before .before .before .loop in
+    let g = c .next .given .0 in
+    Sofar (x .file .now) (x .parent) (x .count) (x .as-many) (x .at) (x .end) (x .marks .now) (c .before .before .before .before .chunk .last .1 .1 .1 .1 .1 .1 .1 .0) (g .0) (i .records + g .1 .0) (i .skipped + g .1 .1 .0)
+behind t c =
+    let i = c .before .before .before .before .before .before .before .loop in
+    let f = stepped t c in
     let y = i .inv .somewhere in
-    let z = went-on t (c .before) (y .0) (y .1) (y .2) (y .3) in
+    let z = went-on t c (y .0) (y .1) (y .2) (y .3) in
     record {
       past = omega arith;
       before = f .0 .1;
-      six = c .before .before .before .before .before .chunk .ensures .1 .0;
+      six = c .before .before .before .before .chunk .ensures .1 .0;
       within = omega arith;
       somewhere = (y .0, z .seen′, y .2, z .context);
       later = λ q seen rule k.
           let j = i .inv .later q seen rule k in
-          let d = went-on t (c .before) q (j .seen′) rule (j .context) in
+          let d = went-on t c q (j .seen′) rule (j .context) in
           record { seen′ = d .seen′; context = d .context; tells = λ r ms′ h. j .tells r ms′ (d .tells (i .records) (i .skipped) r ms′ h) };
     }
+
+run-pass-over-requires : (t : ℕ) → run-lts.Need-pass-over-requires (run-calls t) (run-at t) run.Post run-Inv-loop run-μ-loop
+run-pass-over-requires t c κs =
+    let x = c .before .before .before .before .before .before .before .before .before .before .before .before in
+    let f = stepped t (c .before .before) in
+    (f .0 .1, x .pre .1 .2 .ends, x .pre .1 .4)
+
+run-sub-skipped : (t : ℕ) → run-lts.Need-sub-skipped (run-calls t) (run-at t) run.Post run-Inv-loop run-μ-loop
+run-sub-skipped t c = c .pass-over .ensures .1 .0
+
+run-add-skipped-2 : (t : ℕ) → run-lts.Need-add-skipped-2 (run-calls t) (run-at t) run.Post run-Inv-loop run-μ-loop
+run-add-skipped-2 t c =
+    let f = stepped t (c .before .before .before) in
+    let g = c .pass-over .ensures .1 in
+    omega arith
+
+run-loop-less : (t : ℕ) → run-lts.Need-loop-less (run-calls t) (run-at t) run.Post run-Inv-loop run-μ-loop
+run-loop-less t c =
+    let f = stepped t (c .before .before .before) in
+    let g = c .pass-over .ensures .1 in
+    omega arith
+
+run-loop-again : (t : ℕ) → run-lts.Need-loop-again (run-calls t) (run-at t) run.Post run-Inv-loop run-μ-loop
+run-loop-again t c =
+    let d = c .before .before .before in
+    let x = d .before .before .before .before .before .before .before .before .before .before in
+    let g = c .pass-over .ensures in
+    let b = bytes-all (x .args .file .now) (λ n. omega (arith, d .before .before .before .before .before .before .before .before .before .shared-slice-known .given n)) in
+    sofar-passed b (x .pre .1 .2 .ends) (g .1 .0) (g .1 .1) (g .0) (behind t d)
+
+run-loop-less-2 : (t : ℕ) → run-lts.Need-loop-less-2 (run-calls t) (run-at t) run.Post run-Inv-loop run-μ-loop
+run-loop-less-2 t c =
+    let f = stepped t (c .before .before) in
+    omega arith
+
+run-loop-again-2 : (t : ℕ) → run-lts.Need-loop-again-2 (run-calls t) (run-at t) run.Post run-Inv-loop run-μ-loop
+run-loop-again-2 t c = behind t (c .before .before)
 
 run-same-length-2 :
     (t : ℕ) →
@@ -452,20 +497,19 @@ pub +chunk+run-spec : {M : Type 1} → statement M
     (chunk-look-requires t)
     (chunk-enum-known-r t)
     (chunk-enum-known-stop t)
-    (chunk-sub-t26 t)
+    (chunk-sub-t25 t)
     (chunk-enum-known-stop-2 t)
     (chunk-enum-known-id t)
+    (chunk-slice-aggregate-close t)
+    (chunk-close-requires t)
+    (chunk-same-length t)
+    (chunk-returns t)
     (chunk-slice-aggregate-run t)
     (chunk-run-requires t)
     (chunk-enum-known-r-2 t)
     (chunk-enum-known-records t)
-    (chunk-slice-aggregate-at-end t)
-    (chunk-at-end-requires t)
-    (chunk-enum-known-r-3 t)
-    (chunk-enum-told t)
-    (chunk-add-t35 t)
-    (chunk-same-length t)
-    (chunk-returns t)
+    (chunk-slice-aggregate-close-2 t)
+    (chunk-close-requires-2 t)
     (chunk-same-length-2 t)
     (chunk-returns-2 t)
     (chunk-same-length-3 t)
@@ -490,7 +534,12 @@ pub +chunk+run-spec : {M : Type 1} → statement M
     (run-enum-known-next t)
     (run-add-records t)
     (run-add-skipped t)
+    (run-pass-over-requires t)
+    (run-sub-skipped t)
+    (run-add-skipped-2 t)
     (run-loop-less t)
     (run-loop-again t)
+    (run-loop-less-2 t)
+    (run-loop-again-2 t)
     (run-same-length-2 t)
     (run-returns-2 t)
