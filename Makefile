@@ -46,8 +46,11 @@ real: differ
 	@test -n '$(FOLDER)' || { echo 'make real FOLDER=folder-of-3ds-files (docs/REAL_FILES.md says where some are)'; exit 2; }
 	second/target/release/differ --real $(FOLDER)
 
+# what structure alone finds of turned bits, and that a slip finds all of them
 turned: differ samples
-	second/target/release/differ --turned samples/edition/*.3ds
+	second/target/release/differ --turned samples/edition/*.3ds samples/old/*.3ds
+	second/target/release/differ --guarded samples/edition/*.3ds samples/old/*.3ds samples/caligari/marking-gauge.cob \
+	    samples/caligari/try-square.cob samples/c4d/bench.c4d
 
 bench: target/staticlib/libtds.a
 	cargo run $(CARGO_FLAGS) bench/Cargo.toml

@@ -8,6 +8,7 @@
 #include "batch.h"
 #include "options.h"
 #include "refusals.h"
+#include "roomy.h"
 #include "stop.h"
 
 #define VERSION "2.0"
@@ -22,6 +23,30 @@ static int work(const struct options *options) {
     }
     session_end(&session);
     return status;
+}
+
+/* The options, and what comes of them. */
+struct job {
+    const struct options *options;
+    int status;
+};
+
+static void *work_on_job(void *argument) {
+    struct job *job = argument;
+    job->status = work(job->options);
+    return NULL;
+}
+
+/* Works in a thread that has room; where none is to be had, in this one. */
+static int work_with_room(const struct options *options) {
+    struct job job = {options, 2};
+    pthread_t thread;
+    if (roomy_start(&thread, work_on_job, &job)) {
+        pthread_join(thread, NULL);
+    } else {
+        work_on_job(&job);
+    }
+    return job.status;
 }
 
 /* Ends a task that only prints something. */
@@ -56,7 +81,7 @@ int main(int argc, char **argv) {
         setvbuf(stdout, NULL, _IOLBF, BUFSIZ); /* each line is there as soon as it is known, */
         setvbuf(stderr, NULL, _IOLBF, BUFSIZ); /* and is whole */
         stop_on_signals();
-        return work(&options);
+        return work_with_room(&options);
     case TASK_HELP:
         print_help();
         return printed();

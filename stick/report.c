@@ -144,8 +144,10 @@ void report_near(struct report *report, const char *path) {
 }
 
 void report_unknown(struct report *report, const char *path) {
-    struct finding finding = {
-        .outcome = FOUND_UNCHECKED, .path = path, .words = "of no known kind"};
+    struct finding finding = {.outcome = FOUND_UNCHECKED,
+                              .path = path,
+                              .label = "not looked at",
+                              .words = "of no known kind"};
     names_add(&report->unknown, path, report->style->verbose);
     if (report->style->json && !report->style->quiet) {
         say_as_json(report, &finding);

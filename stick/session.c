@@ -1,13 +1,13 @@
 /* One round of work: the folders that were named, at once, one reader for each. */
 #include "session.h"
 
-#include <pthread.h>
 #include <stdatomic.h>
 #include <stdlib.h>
 #include <sys/stat.h>
 
 #include "copy.h"
 #include "longpath.h"
+#include "roomy.h"
 #include "slip.h"
 #include "verdict.h"
 
@@ -146,12 +146,12 @@ static void *reader(void *shared) {
     }
 }
 
-/* The main thread is a reader too, so that one folder needs no other. */
+/* This thread is a reader too, so that one folder needs no other. */
 static void read_all(struct round *round) {
     pthread_t threads[MOST_READERS];
     size_t started = 0;
     while (started + 1 < round->count && started + 1 < MOST_READERS &&
-           pthread_create(&threads[started], NULL, reader, round) == 0) {
+           roomy_start(&threads[started], reader, round)) {
         started++;
     }
     reader(round);

@@ -177,19 +177,21 @@ fn objects_begin_and_end() {
     );
 }
 
+/// The combination of an object of these kinds and of some that may be in
+/// any; 27 if it is refused so.
+fn combination(kinds: &[u8]) -> u64 {
+    let kinds = [&[1], kinds, &[24, 28, 31, 32, 23, 23, 200, 200, 0]].concat();
+    let file = file(&[objects(&kinds)]);
+    let end = file.len() - 8;
+    match both(&file, [12, 8]) {
+        (1, [object, _]) => u64::from(object[4]),
+        (answer, _) if answer == refused(27, end) => 27,
+        (answer, _) => panic!("{answer:X}"),
+    }
+}
+
 #[test]
 fn the_nine_combinations() {
-    let combination = |kinds: &[u8]| {
-        let file = file(&[objects(
-            &[&[1], kinds, &[24, 28, 31, 32, 23, 23, 200, 200, 0]].concat(),
-        )]);
-        let end = file.len() - 8;
-        match both(&file, [12, 8]) {
-            (1, [object, _]) => u64::from(object[4]),
-            (answer, _) if answer == refused(27, end) => 27,
-            (answer, _) => panic!("{answer:X}"),
-        }
-    };
     for (kinds, known) in [
         (&[16][..], 1),
         (&[16, 19], 1),
@@ -210,6 +212,10 @@ fn the_nine_combinations() {
     ] {
         assert_eq!(combination(kinds), known, "{kinds:?}");
     }
+}
+
+#[test]
+fn no_other_combination() {
     for bad in [
         &[17][..],
         &[16, 17],

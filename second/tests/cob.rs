@@ -292,23 +292,23 @@ fn bodies_fit() {
     );
 }
 
+/// The maps e, t and b of a material.
+fn maps() -> [Vec<u8>; 3] {
+    [(b"e:", 0), (b"t:", 16), (b"b:", 20)].map(|(identifier, behind)| {
+        [&identifier[..], &[2, 3, 0], b"abc", &vec![0; behind]].concat()
+    })
+}
+
+/// The answer to a material with these maps.
+fn material(maps: &[&Vec<u8>]) -> u64 {
+    let mut body = vec![0xFF; 37];
+    maps.iter().for_each(|map| body.extend_from_slice(map));
+    check(&[sized(MATERIAL, [1, 0], &body), end()])
+}
+
 #[test]
 fn materials_have_optional_maps_in_order() {
-    let path = |identifier: &[u8; 2], behind| {
-        [&identifier[..], &[2, 3, 0], b"abc", &vec![0; behind]].concat()
-    };
-    let (e, t, b) = (path(b"e:", 0), path(b"t:", 16), path(b"b:", 20));
-    let material = |parts: &[&Vec<u8>]| {
-        let body = [
-            &[0xFF; 37][..],
-            &parts
-                .iter()
-                .flat_map(|part| part.to_vec())
-                .collect::<Vec<u8>>(),
-        ]
-        .concat();
-        check(&[sized(MATERIAL, [1, 0], &body), end()])
-    };
+    let [e, t, b] = maps();
     for good in [
         &[&e][..],
         &[&t],
@@ -331,6 +331,11 @@ fn materials_have_optional_maps_in_order() {
     ] {
         assert_eq!(material(bad), refused(10, 32));
     }
+}
+
+#[test]
+fn maps_are_whole() {
+    let [e, t, b] = maps();
     let mut negative = e.clone();
     negative[4] = 0x80;
     for bad in [&e[..1], &e[..7], &t[..23], &b[..27], &negative, b"g:\0\0\0"] {
@@ -454,6 +459,11 @@ fn tables_have_the_triangles_without_holes() {
         let untouched = rooms.map(|room| vec![0xA5; room]);
         assert_eq!(tables(rooms), (refused(15, needed), untouched));
     }
+}
+
+#[test]
+fn tables_of_meshes_that_are_not_there() {
+    let file = two_meshes();
     assert_eq!(
         both([7, 0], |side, sizes, _| side.cob_sizes(&file, 0, sizes)).0,
         refused(15, 2)

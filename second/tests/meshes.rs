@@ -58,28 +58,14 @@ fn every_mesh_and_nothing_else() {
     let file = figure(&[&light, &late, &object(&[]), &private, &empty]);
     let at = 12 + light.len();
     let (second, third) = (at + late.len(), at + late.len() + 13 + private.len());
+    // Each list stands behind its header and its count.
+    let lists = |at: usize, steps: [usize; 3]| steps.map(|step| at + 13 + step + 8);
+    let [pairs, corners, floats] = lists(at, [0, 26, 50]);
+    let [no_floats, no_pairs, no_corners] = lists(third, [0, 8, 16]);
     let known = [
-        [
-            at + 6,
-            0,
-            1,
-            at + 13 + 16 + 10 + 24 + 8,
-            2,
-            at + 13 + 16 + 10 + 8,
-            1,
-            at + 13 + 8,
-        ],
+        [at + 6, 0, 1, floats, 2, corners, 1, pairs],
         [second + 6, 0, 0, 0, 0, 0, 0, 0],
-        [
-            third + 6,
-            0,
-            0,
-            third + 13 + 8,
-            0,
-            third + 13 + 24,
-            0,
-            third + 13 + 16,
-        ],
+        [third + 6, 0, 0, no_floats, 0, no_corners, 0, no_pairs],
     ];
     let known = known.map(|mesh| mesh.map(|number| number as u32));
     assert_eq!(both(&file, 96), (3, bytes(&known)));

@@ -5,6 +5,7 @@ mod common;
 use common::{chunk, figure, triangle};
 use second::boundary::Second;
 use second::differ::compare::Pair;
+use second::differ::guarded::guarded;
 use second::differ::kinds::Kind;
 use second::differ::real;
 use second::differ::turned::{turned, Counts, Turned};
@@ -40,6 +41,31 @@ fn bits_of_the_triangle() {
     assert_eq!(kinds[&Kind::Fixed], counts([0, 16, 0, 0]));
     assert_eq!(kinds[&Kind::Coordinate].chunks, 0);
     assert!(!kinds.contains_key(&Kind::UnlistedInside));
+}
+
+/// Every bit of every good sample, of each format: structure alone finds some
+/// of them, a slip all.
+#[test]
+fn a_slip_finds_every_bit_of_the_samples() {
+    let samples = concat!(env!("CARGO_MANIFEST_DIR"), "/../samples");
+    for name in [
+        "edition/adze.3ds",
+        "edition/chisel.3ds",
+        "edition/mallet.3ds",
+        "edition/plane.3ds",
+        "edition/saw.3ds",
+        "edition/vice.3ds",
+        "old/gouge.3ds",
+        "caligari/marking-gauge.cob",
+        "caligari/try-square.cob",
+        "c4d/bench.c4d",
+    ] {
+        let file = std::fs::read(format!("{samples}/{name}")).unwrap();
+        let all = guarded(&file).unwrap();
+        assert_eq!(all.bits, 8 * file.len() as u64, "{name}");
+        assert_eq!(all.found, all.bits, "{name}");
+        assert!(all.refused > 0 && all.refused < all.bits, "{name}");
+    }
 }
 
 /// A figure of 26 bytes with an unlisted chunk and a 1420: one bit of the

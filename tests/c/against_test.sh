@@ -186,7 +186,8 @@ has out 'c\\xFF\\x0A.3ds","result":"refused","refusal":2'
 matches out "\{\"path\":\"$F/\._adze.3ds\",\"result\":\"left by another computer\",\"remedy\":\"delete it\"\}"
 has out 'd.3ds.part","result":"not checked"'
 has out 'link.3ds","result":"not checked","words":"it is a link, and links are not followed"'
-has out 'notes.txt","result":"not checked","words":"of no known kind"'
+has out 'notes.txt","result":"not looked at","words":"of no known kind"'
+if grep -q "\"not_checked\":$(grep -c '"result":"not checked"' "$T/out")," "$T/out"; then pass; else fail 'another count of what was not checked'; fi
 last '\{"verdict":"DO NOT SEAL","status":2,"folders":1,"unwell":1,"figures":3,"refused":2,.*\}'
 if command -v python3 >/dev/null; then
     if python3 -c 'import json, sys

@@ -43,6 +43,26 @@ printf '%s\n' crates/* | sed 's/.*\///' >"$T/crates"
 if [ "$(wc -l <"$T/named")" -ge 40 ]; then pass; else fail 'it names none'; fi
 sort -u "$T/words" "$T/crates" | comm -23 "$T/named" - | grep -vx -e refused >"$T/lost"
 if [ -s "$T/lost" ]; then fail "not in any specs: $(tr '\n' ' ' <"$T/lost")"; else pass; fi
+try 'the definitions, proofs and functions that DEMANDS.md names'
+find crates \( -path '*/specs/*.antt' -o -path '*/proofs/*.antt' -o -path '*/src/*.rt' \) -exec cat {} + |
+    grep -oE '[A-Za-z_][A-Za-z0-9_-]*' | sort -u - "$T/crates" >"$T/words"
+# shellcheck disable=SC2016
+grep -oE '`[^`]+`' docs/DEMANDS.md | grep -oE '[A-Za-z_][A-Za-z0-9_-]*' | sort -u >"$T/named"
+if [ "$(wc -l <"$T/named")" -ge 200 ]; then pass; else fail 'it names few'; fi
+comm -23 "$T/named" "$T/words" >"$T/lost"
+if [ -s "$T/lost" ]; then fail "not in any crate: $(tr '\n' ' ' <"$T/lost")"; else pass; fi
+grep -oE '[a-z0-9_]+/(specs|proofs)/[A-Za-z0-9_+]+' docs/DEMANDS.md | sort -u | while read -r place; do
+    if ! [ -e "crates/$place.antt" ] && ! [ -e "crates/$place" ]; then echo "$place"; fi
+done >"$T/lost"
+if [ -s "$T/lost" ]; then fail "no such file: $(tr '\n' ' ' <"$T/lost")"; else pass; fi
+try 'the decisions have one series of numbers'
+grep -oE '^[A-Z]*[0-9]+\.' docs/DECISIONS.md >"$T/numbers"
+seq -f '%g.' "$(wc -l <"$T/numbers")" >"$T/series"
+if [ -s "$T/numbers" ] && cmp -s "$T/numbers" "$T/series"; then pass; else fail "$(diff "$T/numbers" "$T/series" | head -n 3)"; fi
+try 'what is cited is in the repository'
+grep -rnIiE 'document 0[0-9]' ./*.md ./*.txt Makefile docs include examples stick tests second/src second/tests second/README.md bench/src |
+    grep -v -e '^docs/DEMANDS.md' -e '^tests/c/readme_test.sh' >"$T/lost"
+if [ -s "$T/lost" ]; then fail "$(head -n 3 "$T/lost")"; else pass; fi
 try 'the chunks of the table are those of FORMAT.md'
 grep -oE '0x[0-9A-F]{4}\b' crates/studio_rules/specs/Table.antt | sed 's/0x//' | sort -u >"$T/chunks"
 if [ "$(wc -l <"$T/chunks")" -ge 43 ]; then pass; else fail 'the table has none'; fi

@@ -68,4 +68,8 @@ status_is 2
 try 'the generator where it cannot write'
 run "$BUILD/make_samples" "$T/nowhere"
 status_is 1
+try 'every call keeps to the stack that tds.h says it needs'
+run "$BUILD/c-test/small_stack" samples/edition/* samples/damaged/*.3ds samples/caligari/*.cob samples/c4d/*.c4d samples/old/*.3ds
+status_is 0
+matches out '[0-9]{3,} calls'
 finish samples_test

@@ -3,13 +3,7 @@
 # shellcheck source=tests/c/stick_common.sh
 . tests/c/stick_common.sh
 
-# A figure whose coordinates can change without breaking a rule: byte 42 is in one.
-edition edition
-mkdir "$F/texts"
-printf 'read me\n' >"$F/texts/README.TXT"
-head -c 3000000 /dev/zero | tr '\0' 'x' >"$F/texts/film.bin"
-: >"$F/empty"
-triangle >"$F/triangle.3ds"
+full_edition edition
 E=$F
 slip "$E"
 cp "$T/slip" "$E/stick.slip"

@@ -3,12 +3,7 @@
 # shellcheck source=tests/c/stick_common.sh
 . tests/c/stick_common.sh
 
-edition edition
-mkdir "$F/texts"
-printf 'read me\n' >"$F/texts/README.TXT"
-head -c 3000000 /dev/zero | tr '\0' 'x' >"$F/texts/film.bin"
-: >"$F/empty"
-triangle >"$F/triangle.3ds"
+full_edition edition
 E=$F
 
 try 'a slip is written for an edition in which all is well'

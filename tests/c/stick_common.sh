@@ -62,6 +62,17 @@ edition() {
     cp samples/edition/*.3ds "$F"
 }
 
+# full_edition NAME: the sample edition with other files beside it, a long one and an empty one too: 7 figures of 10 files. Byte
+# 42 of the triangle is in a coordinate, which can change without breaking a rule.
+full_edition() {
+    edition "$1"
+    mkdir "$F/texts"
+    printf 'read me\n' >"$F/texts/README.TXT"
+    head -c 3000000 /dev/zero | tr '\0' 'x' >"$F/texts/film.bin"
+    : >"$F/empty"
+    triangle >"$F/triangle.3ds"
+}
+
 # slip FOLDER: what the slip of this folder should be, in $T/slip.
 slip() {
     (cd "$1" && find . -type f ! -iname stick.slip | sed 's/^..//' | LC_ALL=C sort -f | tr '\n' '\0' |

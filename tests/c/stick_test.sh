@@ -538,6 +538,18 @@ lines out 1
 lines err 1
 has out 'SHORT (4)'
 
+try 'on a shell that allows little stack, which Caligari figures need much of'
+mkdir "$T/square"
+cp samples/caligari/try-square.cob "$T/square"
+mkdir "$T/square-too"
+# shellcheck disable=SC2016
+little='ulimit -s 256 && exec "$0" "$@"'
+run sh -c "$little" "$S" "$T/square" "$T/square" samples/edition
+status_is 0
+has out 'PASS: 3 folders, 8 figures checked'
+run sh -c "$little" "$S" --copy "$T/square" "$T/square-too"
+status_is 0
+has out 'PASS: 1 figure checked'
 try '--list'
 stick --list samples/edition
 status_is 0

@@ -8,14 +8,15 @@ use second::boundary::{
 use second::differ::compare::Pair;
 use second::differ::run::{add, run, words, Failure, Plan, Tally};
 use second::differ::seeded::{Seeded, ERRORS};
-use second::differ::{c4ds, cobs, figures, real, slips, sums, turned};
+use second::differ::{c4ds, cobs, figures, guarded, real, slips, sums, turned};
 use std::path::Path;
 use std::process::ExitCode;
 use std::time::Instant;
 
 const USAGE: &str = "differ --count N --seed S      both sides over N files grown from a seed
                                (--trace names each case before it is run)
-differ --turned FILE...        every bit of some files turned
+differ --turned FILE...        every bit of some files turned: what becomes of it
+differ --guarded FILE...       every bit of some files turned: refused, and found with a slip
 differ --real FOLDER...        both sides over the figures in some folders
 differ --seeded                the second reader against errors seeded on purpose";
 
@@ -31,6 +32,7 @@ fn main() -> ExitCode {
     let pair = &mut Pair::new(Second, Right::default());
     let outcome = match arguments[..] {
         ["--turned", ref files @ ..] => all_turned(files, pair),
+        ["--guarded", ref files @ ..] => all_guarded(files),
         ["--real", ref folders @ ..] => all_real(folders, pair),
         ["--seeded"] => all_seeded(),
         _ => match plan(&arguments) {
@@ -145,6 +147,26 @@ fn all_turned<L: Boundary, R: Boundary>(
         let turned = turned::turned(&file, pair).map_err(|found| format!("{path}\n{found}"))?;
         let verdict = pair.right.check(&file);
         println!("{path}: {}", turned::words(&turned, verdict));
+    }
+    Ok(())
+}
+
+/// Every bit of some files turned: a slip has to find all of them.
+fn all_guarded(files: &[&str]) -> Result<(), String> {
+    for path in files {
+        let file = read(Path::new(path))?;
+        let all = guarded::guarded(&file).map_err(|found| format!("{path}\n{found}"))?;
+        let guarded::Guarded {
+            bits,
+            refused,
+            found,
+        } = all;
+        println!(
+            "{path}: {bits} bits: {refused} refused by structure alone, {found} found with a slip"
+        );
+        if found != bits {
+            return Err(format!("{path}: a slip misses {} bits", bits - found));
+        }
     }
     Ok(())
 }

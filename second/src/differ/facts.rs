@@ -81,25 +81,7 @@ pub fn ask(side: &impl Boundary, file: &[u8], rooms: &Rooms) -> Result<Facts, St
     facts.records.truncate(records as usize);
     facts.parts.truncate(hung as usize);
     for (number, tables) in rooms.tables.iter().enumerate() {
-        let [vertices, corners, mapping] = tables.map(|bytes| vec![0xA5; bytes]);
-        let mut mesh = Mesh {
-            vertices,
-            corners,
-            mapping,
-            ..Mesh::default()
-        };
-        let filled = side.tables(file, number as u32, &mut mesh.vertices, &mut mesh.corners);
-        let filled = accepted("tables", filled)? as usize;
-        mesh.vertices.truncate(12 * (filled & 0xFFFF));
-        mesh.corners.truncate(6 * (filled >> 16));
-        if OLD_MAPPING {
-            let filled = side.mapping(file, number as u32, &mut mesh.mapping);
-            let filled = accepted("mapping", filled)? as usize;
-            mesh.mapping.truncate(4 * filled);
-        }
-        let mut span = [0; 8];
-        accepted("name", side.name(file, number as u32, &mut span))?;
-        mesh.name = numbers(&span)[0];
+        let mesh = ask_mesh(side, file, number as u32, tables)?;
         facts.meshes.push(mesh);
     }
     let mut places = vec![0; PLACES_BYTES * rooms.meshes()];
@@ -108,6 +90,34 @@ pub fn ask(side: &impl Boundary, file: &[u8], rooms: &Rooms) -> Result<Facts, St
         mesh.places = places;
     }
     Ok(facts)
+}
+
+/// What a side says of one mesh.
+fn ask_mesh(
+    side: &impl Boundary,
+    file: &[u8],
+    number: u32,
+    rooms: &[usize; 3],
+) -> Result<Mesh, String> {
+    let [vertices, corners, mapping] = rooms.map(|bytes| vec![0xA5; bytes]);
+    let mut mesh = Mesh {
+        vertices,
+        corners,
+        mapping,
+        ..Mesh::default()
+    };
+    let filled = side.tables(file, number, &mut mesh.vertices, &mut mesh.corners);
+    let filled = accepted("tables", filled)? as usize;
+    mesh.vertices.truncate(12 * (filled & 0xFFFF));
+    mesh.corners.truncate(6 * (filled >> 16));
+    if OLD_MAPPING {
+        let filled = accepted("mapping", side.mapping(file, number, &mut mesh.mapping))?;
+        mesh.mapping.truncate(4 * filled as usize);
+    }
+    let mut span = [0; 8];
+    accepted("name", side.name(file, number, &mut span))?;
+    mesh.name = numbers(&span)[0];
+    Ok(mesh)
 }
 
 /// How many meshes a side says a file has.

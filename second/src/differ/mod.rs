@@ -31,6 +31,7 @@ pub mod families;
 pub mod figures;
 pub mod gaps;
 pub mod grow;
+pub mod guarded;
 pub mod harm;
 pub mod kinds;
 pub mod lent;

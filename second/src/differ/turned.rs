@@ -45,28 +45,7 @@ pub fn turned<L: Boundary, R: Boundary>(
         if cfg!(feature = "rescue") {
             pair.rescued(&bytes, &mut Random::of_case(0, 0, bit as u64))?;
         }
-        let counts = if refusal(pair.ask(&bytes, Call::Check)?).is_some() {
-            Counts {
-                refused: 1,
-                ..Counts::default()
-            }
-        } else {
-            let left = said(&pair.left, &bytes, &rooms);
-            let after = said(&pair.right, &bytes, &rooms);
-            if left != after {
-                return Err(Difference {
-                    call: format!("all answers with bit {bit} turned"),
-                    left: format!("{left:?}"),
-                    right: format!("{after:?}"),
-                });
-            }
-            Counts {
-                refused: 0,
-                same: u64::from(after == before),
-                other: u64::from(after != before),
-                chunks: u64::from(identifiers(&after) != identifiers(&before)),
-            }
-        };
+        let counts = became(&bytes, pair, &rooms, &before)?;
         turned.all.add(counts);
         if let Some(kind) = kinds.get(bit / 8) {
             turned.kinds.entry(*kind).or_default().add(counts);
@@ -74,6 +53,33 @@ pub fn turned<L: Boundary, R: Boundary>(
         bytes[bit / 8] ^= 1 << (bit % 8);
     }
     Ok(turned)
+}
+
+/// What became of a file by the bit that was turned in it.
+fn became<L: Boundary, R: Boundary>(
+    bytes: &[u8],
+    pair: &mut Pair<L, R>,
+    rooms: &Rooms,
+    before: &Result<Facts, String>,
+) -> Result<Counts, Difference> {
+    let mut counts = Counts::default();
+    if refusal(pair.ask(bytes, Call::Check)?).is_some() {
+        counts.refused = 1;
+        return Ok(counts);
+    }
+    let left = said(&pair.left, bytes, rooms);
+    let after = said(&pair.right, bytes, rooms);
+    if left != after {
+        return Err(Difference {
+            call: "all answers with a bit turned".to_string(),
+            left: format!("{left:?}"),
+            right: format!("{after:?}"),
+        });
+    }
+    counts.same = u64::from(after == *before);
+    counts.other = u64::from(after != *before);
+    counts.chunks = u64::from(identifiers(&after) != identifiers(before));
+    Ok(counts)
 }
 
 impl Counts {

@@ -32,14 +32,9 @@ pub fn all<L: Boundary, R: Boundary>(
         pair.ask(file, Call::Counts(room))?;
     }
     let parts = PART_BYTES * pair.wanting(file, Call::Parts(0))?;
-    for room in [parts.saturating_sub(1), parts, parts + 1] {
-        pair.ask(file, Call::Parts(room))?;
-    }
+    around(file, parts, pair, Call::Parts)?;
     let count = pair.ask(file, Call::Name(u32::MAX, 8))? as u32;
-    let places = PLACES_BYTES * count as usize;
-    for room in [places.saturating_sub(1), places, places + 1] {
-        pair.ask(file, Call::Meshes(room))?;
-    }
+    around(file, PLACES_BYTES * count as usize, pair, Call::Meshes)?;
     for mesh in count..count + 3 {
         absent(file, mesh, pair)?;
     }
@@ -48,6 +43,19 @@ pub fn all<L: Boundary, R: Boundary>(
         one(file, mesh, pair)?;
     }
     Ok(answer)
+}
+
+/// A call with a byte less room than it needs, just enough, and a byte more.
+fn around<L: Boundary, R: Boundary>(
+    file: &[u8],
+    room: usize,
+    pair: &mut Pair<L, R>,
+    call: fn(usize) -> Call,
+) -> Result<(), Difference> {
+    for room in [room.saturating_sub(1), room, room + 1] {
+        pair.ask(file, call(room))?;
+    }
+    Ok(())
 }
 
 /// All calls but the check, each with the same room.

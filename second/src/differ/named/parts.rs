@@ -98,76 +98,50 @@ fn fathers() -> Vec<Case> {
 
 /// 23 after what comes before it; at most one and at least one.
 fn orders() -> Vec<Case> {
-    let whose = |own: Vec<u8>| {
+    let of_heads = heads().into_iter().flat_map(|(name, own, number)| {
         let bad = Node::holding(0xB002, vec![], vec![Node::leaf(0xB010, own)]);
-        keyed(vec![part("a", ROOT), bad])
+        let root = keyed(vec![part("a", ROOT), bad]);
+        refused_at(&format!("a part: {name}"), &root, number, &[1, 1, 0], 0)
+    });
+    let of_parts = broken_parts();
+    let of_parts = of_parts.iter().flat_map(|(name, parts, number, path)| {
+        let behind = if *number == 6 { 20 } else { 0 };
+        let root = keyed(parts.clone());
+        refused_at(&format!("a part: {name}"), &root, *number, path, behind)
+    });
+    of_heads.chain(of_parts).collect()
+}
+
+/// Own data of a B010 behind a good part, and its refusal.
+fn heads() -> Vec<(&'static str, Vec<u8>, u32)> {
+    let own = |name: &[u8], rest: &[u8]| [name, rest].concat();
+    let (text, long) = match LABELS_JUDGED {
+        true => (24, 24),
+        false => (23, 10),
     };
-    let own = |name: &[u8], rest: &[u8]| whose([name, rest].concat());
+    vec![
+        ("no bytes", vec![], 9),
+        ("no zero", own(b"abcdefg", b""), 9),
+        ("23 against 9", own(b"a", &[9; 6]), 9),
+        ("23 against 24", own(b"\x1F\0", &[9; 6]), text),
+        ("10 against 24", own(b"\x1F\0", &[9; 5]), long),
+        ("23 against 10: a byte less", own(b"a\0", &[9; 5]), 10),
+        ("23 against 10: a byte more", own(b"a\0", &[9; 7]), 10),
+        ("a name alone", own(b"a\0", b""), 10),
+    ]
+}
+
+/// Parts, the refusal, and where it is.
+fn broken_parts() -> Vec<(&'static str, Vec<Node>, u32, Vec<usize>)> {
+    let good = || part("a", ROOT);
     let twice = Node::holding(0xB002, vec![], vec![called("b", 0), called("b", 9)]);
-    let bare = Node::holding(0xB002, vec![], vec![Node::leaf(0xB020, vec![])]);
-    let text = if LABELS_JUDGED { 24 } else { 23 };
+    let bare = || Node::holding(0xB002, vec![], vec![Node::leaf(0xB020, vec![])]);
     let mut strays = part("b", 0);
     strays.tail = vec![0; 5];
-    let here = [1, 1, 0];
-    let all: [(&str, Node, u32, &[usize], usize); 12] = [
-        ("no bytes", own(b"", b""), 9, &here, 0),
-        ("no zero", own(b"abcdefg", b""), 9, &here, 0),
-        ("23 against 9", own(b"a", &[9; 6]), 9, &here, 0),
-        ("23 against 24", own(b"\x1F\0", &[9; 6]), text, &here, 0),
-        (
-            "10 against 24",
-            own(b"\x1F\0", &[9; 5]),
-            if LABELS_JUDGED { 24 } else { 10 },
-            &here,
-            0,
-        ),
-        (
-            "23 against 10: a byte less",
-            own(b"a\0", &[9; 5]),
-            10,
-            &here,
-            0,
-        ),
-        (
-            "23 against 10: a byte more",
-            own(b"a\0", &[9; 7]),
-            10,
-            &here,
-            0,
-        ),
-        ("a name alone", own(b"a\0", b""), 10, &here, 0),
-        (
-            "23 against 8",
-            keyed(vec![part("a", ROOT), twice]),
-            8,
-            &[1, 1, 1],
-            0,
-        ),
-        (
-            "no B010",
-            keyed(vec![part("a", ROOT), bare.clone()]),
-            14,
-            &[1, 1],
-            0,
-        ),
-        (
-            "14 before 23",
-            keyed(vec![bare, part("a", 9)]),
-            14,
-            &[1, 0],
-            0,
-        ),
-        (
-            "6 in a part",
-            keyed(vec![part("a", ROOT), strays]),
-            6,
-            &[1, 1],
-            20,
-        ),
-    ];
-    all.iter()
-        .flat_map(|(name, root, number, path, behind)| {
-            refused_at(&format!("a part: {name}"), root, *number, path, *behind)
-        })
-        .collect()
+    vec![
+        ("23 against 8", vec![good(), twice], 8, vec![1, 1, 1]),
+        ("no B010", vec![good(), bare()], 14, vec![1, 1]),
+        ("14 before 23", vec![bare(), part("a", 9)], 14, vec![1, 0]),
+        ("6 in a part", vec![good(), strays], 6, vec![1, 1]),
+    ]
 }

@@ -148,7 +148,7 @@ fn outside() -> Vec<Case> {
         root.children.extend(behind);
         root
     };
-    let edit = || Node::leaf(0x3D3D, vec![]);
+    let edit = |children| Node::holding(0x3D3D, vec![], children);
     let answered = |name: &str, root: Node, number, path: &[usize]| {
         let place = root.offset(path);
         case(name, &root, Err(refused(number, place)))
@@ -170,19 +170,9 @@ fn outside() -> Vec<Case> {
         answered("10 before", before, 10, &[0]),
         answered("7 before", inside, 7, &[0]),
         answered("10 behind", with(vec![leaf(0x0002, 5)]), 10, &[1]),
-        answered(
-            "8 behind",
-            with(vec![leaf(0x0002, 4), leaf(0x0002, 4)]),
-            8,
-            &[2],
-        ),
-        answered("two 3D3D", with(vec![edit()]), 8, &[1]),
-        answered(
-            "two 3D3D, the second damaged",
-            with(vec![Node::holding(0x3D3D, vec![], vec![bad()])]),
-            8,
-            &[1],
-        ),
+        answered("8 behind", with(vec![leaf(0x0002, 4); 2]), 8, &[2]),
+        answered("two 3D3D", with(vec![edit(vec![])]), 8, &[1]),
+        answered("the second damaged", with(vec![edit(vec![bad()])]), 8, &[1]),
         answered("4 of the 3D3D", short, 4, &[0]),
         answered("5 of the 3D3D", over, 5, &[0]),
         answered("4 behind", with(vec![stating(leaf(0x8123, 0), 1)]), 4, &[1]),

@@ -82,11 +82,6 @@ fn faults() -> Vec<Case> {
 /// 24 at the first bad byte or at 63, after 9 and before 13; before names are
 /// judged such a name is written.
 fn texts() -> Vec<Case> {
-    let named = |count, at: usize, byte| {
-        let mut name = vec![b'n'; count];
-        name[at] = byte;
-        name
-    };
     let names = [31, 127, 128, 255].map(|byte| (named(5, 3, byte), 3));
     let long = [
         (64, 63, b'~'),
@@ -103,27 +98,24 @@ fn texts() -> Vec<Case> {
         cases.push(case(&said, writing(&name, &[0.5; 3], &[0; 3]), refusal));
         let said = format!("{said}, 13 against 24");
         let refusal = if LABELS_JUDGED { (24, place) } else { (13, 4) };
-        cases.push(case(
-            &said,
-            writing(&name, &[f32::NAN; 4], &[]),
-            Some(refusal),
-        ));
+        let late = writing(&name, &[f32::NAN; 4], &[]);
+        cases.push(case(&said, late, Some(refusal)));
         let zero = [&name[..], b"..\0"].concat();
-        let said = format!("{said} and 9");
-        cases.push(case(
-            &said,
-            writing(&zero, &[], &[]),
-            Some((9, zero.len() - 1)),
-        ));
+        let (said, place) = (format!("{said} and 9"), zero.len() - 1);
+        cases.push(case(&said, writing(&zero, &[], &[]), Some((9, place))));
     }
-    for name in [&named(63, 62, b'~')[..], &named(63, 0, b' ')] {
-        cases.push(case(
-            "a writing of the longest name",
-            writing(name, &[], &[]),
-            None,
-        ));
+    for name in [named(63, 62, b'~'), named(63, 0, b' ')] {
+        let longest = writing(&name, &[], &[]);
+        cases.push(case("a writing of the longest name", longest, None));
     }
     cases
+}
+
+/// A name of so many letters, of which one is another byte.
+fn named(count: usize, at: usize, byte: u8) -> Vec<u8> {
+    let mut name = vec![b'n'; count];
+    name[at] = byte;
+    name
 }
 
 /// Rows as long as they may be, and three more.

@@ -10,21 +10,7 @@ impl Reader<'_> {
     /// The length of own data, or 9, 24 or 10.
     pub fn own(&self, row: Row, at: usize, length: usize) -> Result<usize, Refusal> {
         let body = &self.file[at + 6..at + length];
-        let own = match row.own {
-            Own::Bytes(bytes) => Some(usize::from(bytes)),
-            Own::Name => Some(self.named(body, at, 1)?),
-            Own::Group => {
-                let name = self.named(body, at, 3)?;
-                count(&body[name.min(body.len())..]).map(|count| name + 2 + 2 * count)
-            }
-            Own::Part => Some(self.named(body, at, 7)? + 6),
-            Own::Vertices => count(body).map(|count| 2 + 12 * count),
-            Own::Faces | Own::Mapping => count(body).map(|count| 2 + 8 * count),
-            Own::Smoothing if self.makes(Error::SmoothingFree) => Some(body.len()),
-            Own::Smoothing if self.makes(Error::SmoothingHalf) => Some(self.parts.faces.len() / 4),
-            Own::Smoothing => Some(self.parts.faces.len() / 2),
-        };
-        let Some(own) = own else {
+        let Some(own) = self.told(row, body, at)? else {
             return Err(Number::Length.at(at));
         };
         let mut longer = row.holds != 0;
@@ -52,6 +38,25 @@ impl Reader<'_> {
             false if self.number_first(row, body) => Err(Number::Number.at(at)),
             false => Err(Number::Length.at(at)),
         }
+    }
+
+    /// The length of own data as its shape and its counts tell it, if there is
+    /// room for those; or 9 or 24.
+    fn told(&self, row: Row, body: &[u8], at: usize) -> Result<Option<usize>, Refusal> {
+        Ok(match row.own {
+            Own::Bytes(bytes) => Some(usize::from(bytes)),
+            Own::Name => Some(self.named(body, at, 1)?),
+            Own::Group => {
+                let name = self.named(body, at, 3)?;
+                count(&body[name.min(body.len())..]).map(|count| name + 2 + 2 * count)
+            }
+            Own::Part => Some(self.named(body, at, 7)? + 6),
+            Own::Vertices => count(body).map(|count| 2 + 12 * count),
+            Own::Faces | Own::Mapping => count(body).map(|count| 2 + 8 * count),
+            Own::Smoothing if self.makes(Error::SmoothingFree) => Some(body.len()),
+            Own::Smoothing if self.makes(Error::SmoothingHalf) => Some(self.parts.faces.len() / 4),
+            Own::Smoothing => Some(self.parts.faces.len() / 2),
+        })
     }
 
     /// Whether 11 is answered for own data of a wrong length, by mistake.

@@ -179,17 +179,16 @@ impl Reader<'_> {
         let (left, length, row) = (around.end - at, self.length(at), self.row(at));
         let misplaced = row.is_some_and(|row| row.under & around.row.holds == 0);
         let bad = length < 6 || length > left;
-        if row.is_none() && bad && self.makes(Error::UnlistedStepsTwo) {
-            self.read.skipped += 2;
-            return Ok(2);
+        let unjudged = match self.seeded.error {
+            Some(Error::UnlistedStepsTwo) => 2,
+            Some(Error::UnlistedUnjudged) => left,
+            _ => 0,
+        };
+        if row.is_none() && bad && unjudged > 0 {
+            self.read.skipped += unjudged;
+            return Ok(unjudged);
         }
-        if row.is_none() && bad && self.makes(Error::UnlistedUnjudged) {
-            self.read.skipped += left;
-            return Ok(left);
-        }
-        if length < 6 {
-            return Err(Number::Short.at(at));
-        }
+        Number::Short.unless(length >= 6, at)?;
         if misplaced && self.makes(Error::MisplacedBeforeOverrun) {
             return Err(Number::Misplaced.at(at));
         }
@@ -209,9 +208,7 @@ impl Reader<'_> {
         let Some(row) = row else {
             return Ok(self.pass_over(length));
         };
-        if misplaced {
-            return Err(Number::Misplaced.at(at));
-        }
+        Number::Misplaced.unless(!misplaced, at)?;
         self.once(row, [at, length, around.at], met)?;
         self.known(row, [at, length, around.record, around.depth as usize + 1])?;
         Ok(length)

@@ -71,6 +71,11 @@ fn judge(seeded: Seeded, name: &[u8], vertices: &[f32], corners: &[u16]) -> Resu
     }
     let n = vertices.len() / 3 + usize::from(seeded.makes(Error::WriterIndexAtCount));
     let corner = corners.iter().position(|corner| usize::from(*corner) >= n);
+    first_bad(seeded, float, corner)
+}
+
+/// 11 for the first bad float, else 12 for the first bad corner.
+fn first_bad(seeded: Seeded, float: Option<usize>, corner: Option<usize>) -> Result<(), Refusal> {
     match (float, corner) {
         (Some(_), Some(corner)) if seeded.makes(Error::WriterIndexBeforeNumber) => {
             Err(Number::Index.at(corner))

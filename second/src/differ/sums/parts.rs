@@ -113,27 +113,13 @@ pub fn cuts<L: Summing, R: Summing>(
         agree(pair, words, |side| side.sum_join(first, second))
     };
     let whole = add(0, &file)?;
-    let every = if file.len() < 80 { file.len() + 1 } else { 4 };
-    for cut in 0..every {
-        let cut = if every < file.len() {
-            random.below(file.len())
-        } else {
-            cut
-        };
+    for cut in cuts_of(&file, random) {
         let (first, second) = (add(0, &file[..cut])?, add(0, &file[cut..])?);
         must("a part added", add(first, &file[cut..])?, whole)?;
         must("two parts joined", join(first, second)?, whole)?;
     }
-    // In many parts, some of them empty, from the front and from the back.
-    let mut ends: Vec<usize> = (0..random.below(9))
-        .map(|_| random.below(file.len() + 1))
-        .collect();
-    ends.extend([0, file.len(), file.len()]);
-    ends.sort_unstable();
-    let parts: Vec<&[u8]> = ends
-        .windows(2)
-        .map(|ends| &file[ends[0]..ends[1]])
-        .collect();
+    // From the front and from the back.
+    let parts = many_parts(&file, random);
     let added = parts.iter().try_fold(0, |so_far, part| add(so_far, part))?;
     must("many parts added", added, whole)?;
     let joined = parts
@@ -144,6 +130,24 @@ pub fn cuts<L: Summing, R: Summing>(
     let (length, sums) = (file.len() as u32, u32::from(whole as u16));
     let words = || format!("{whole:X} against {length} {sums:X}");
     agree(pair, words, |side| side.sum_matches(whole, length, sums))
+}
+
+/// Every place to cut a small file at; a few of another.
+fn cuts_of(file: &[u8], random: &mut Random) -> Vec<usize> {
+    match file.len() < 80 {
+        true => (0..=file.len()).collect(),
+        false => (0..4).map(|_| random.below(file.len())).collect(),
+    }
+}
+
+/// A file in many parts, some of them empty.
+fn many_parts<'a>(file: &'a [u8], random: &mut Random) -> Vec<&'a [u8]> {
+    let count = random.below(9);
+    let mut ends: Vec<usize> = (0..count).map(|_| random.below(file.len() + 1)).collect();
+    ends.extend([0, file.len(), file.len()]);
+    ends.sort_unstable();
+    let parts = ends.windows(2).map(|ends| &file[ends[0]..ends[1]]);
+    parts.collect()
 }
 
 /// States that no file has: sum bytes of 255, lengths up to the most.
