@@ -14,7 +14,8 @@ use Rattle.studio_rules.specs.declared.Checked.{Checked}
 use Rattle.studio_rules.specs.declared.Counted.{Counted}
 use Rattle.studio_rules.specs.Layout.{Run}
 use Rattle.studio_rules.specs.Walk.{verdict}
-use Rattle.studio_rules.specs.Calls.{checkOf, checkCall}
+use Rattle.studio_rules.specs.Gives.{Part, parts}
+use Rattle.studio_rules.specs.Calls.{checkOf, checkCall, partsOf, partsCall}
 use Rattle.studio_counted.specs.All.{allOf, RefusedWith}
 
 -- what a call answers and leaves, in two parts
@@ -39,3 +40,12 @@ module _ {X : Type 0} (things : Run → List X) (s : List ℕ) where
     pub all-filled : (kids : Run) → verdict s ≡ accepted kids → (count : ℕ) → count ≡ length (things kids) → length (things kids) ≤ e .room (length row) →
         (row′ : List A) → row′ ≡ filled (e .encode (things kids)) row → allOf things e row (verdict s) ≡ leaving (Counted.Filled count) row′
     all-filled kids v count n l row′ f = rw (v, le-leb (length (things kids)) (e .room (length row)) l, n, f)
+
+-- the call about the parts is one of these
+pub all-parts : {A : Type 0} (e : Encoding Part A) (s : List ℕ) (row : List A) → partsCall e s row ≡ allOf parts e row (verdict s)
+unfolding partsCall
+all-parts {A} e s row = go (verdict s)
+  where
+    go : (a : Answer Run) → partsOf e row a ≡ allOf parts e row a
+    go (refused r) = refl
+    go (accepted kids) = refl
