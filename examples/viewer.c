@@ -3,10 +3,10 @@
  *
  *     viewer FILE
  *
- * It reads the file, has it checked, and only then sizes its tables, from the list of chunks, where
- * it steps over every branch that it does not open, and fills them. Instead of drawing it prints a
- * summary of each mesh, and the tree of the parts that move. A refused figure is not shown at all:
- * half an adze shown calmly is worse than none.
+ * It reads the file, has it checked, and only then asks where all meshes stand, and reads their
+ * names and floats there, in the file. Instead of drawing it prints a summary of each mesh, and the
+ * tree of the parts that move. A refused figure is not shown at all: half an adze shown calmly is
+ * worse than none.
  *
  * Exit status: 0 shown, 1 the figure is refused, 2 the file could not be read.
  */
@@ -56,98 +56,62 @@ static void print_name(size_t offset, size_t length) {
     fwrite(file + offset, 1, length, stdout);
 }
 
-static void print_corner(const uint8_t *box) {
-    printf(" (%g, %g, %g)", tds_get_float(box), tds_get_float(box + 4), tds_get_float(box + 8));
+static void print_corner(const float *corner) {
+    printf(" (%g, %g, %g)", corner[0], corner[1], corner[2]);
 }
 
-/* A viewer would hand the two tables to the screen here, instead of counting them. */
-static int show_tables(uint32_t mesh, const uint8_t *vertices, size_t vertices_len,
-                       const uint8_t *corners, size_t corners_len) {
-    uint8_t span[2 * 4], box[9 * 4];
-    uint64_t name = tds_name(file, file_len, mesh, span, sizeof span);
-    uint64_t boxed = tds_box(file, file_len, mesh, box, sizeof box);
-    (void)vertices; /* x, y, z as floats, 12 bytes a vertex */
-    (void)corners;  /* three numbers of vertices, 6 bytes a face */
-    if (TDS_REFUSED(name)) {
-        return refused(name);
+/* The lowest and the highest of each of x, y, z, from the floats where they stand. */
+static void print_box(const uint8_t *floats, size_t vertices) {
+    float low[3], high[3];
+    size_t i;
+    for (i = 0; i < 3 * vertices; i++) {
+        float number = tds_get_float(floats + 4 * i);
+        if (i < 3 || number < low[i % 3]) {
+            low[i % 3] = number;
+        }
+        if (i < 3 || number > high[i % 3]) {
+            high[i % 3] = number;
+        }
     }
-    if (TDS_REFUSED(boxed) && TDS_REFUSAL(boxed) != TDS_EMPTY) {
-        return refused(boxed);
-    }
+    printf(", box");
+    print_corner(low);
+    print_corner(high);
+}
+
+/* A viewer would hand the floats and the corners to the screen here, from where they stand. */
+static void show_mesh(const uint8_t *meshes, size_t mesh) {
+    size_t vertices = tds_get_mesh(meshes, mesh, TDS_MESH_VERTICES);
     printf("mesh %lu \"", (unsigned long)mesh);
-    print_name(tds_get4(span), tds_get4(span + 4));
-    printf("\": vertices %lu, faces %lu", (unsigned long)vertices_len / 12,
-           (unsigned long)corners_len / 6);
-    if (!TDS_REFUSED(boxed)) { /* a mesh without vertices has no box, but is a good mesh */
-        printf(", box");
-        print_corner(box);
-        print_corner(box + 12);
+    print_name(tds_get_mesh(meshes, mesh, TDS_MESH_NAME),
+               tds_get_mesh(meshes, mesh, TDS_MESH_NAME_LENGTH));
+    printf("\": vertices %lu, faces %lu", (unsigned long)vertices,
+           (unsigned long)tds_get_mesh(meshes, mesh, TDS_MESH_FACES));
+    if (vertices != 0) { /* a mesh without vertices has no box, but is a good mesh */
+        print_box(file + tds_get_mesh(meshes, mesh, TDS_MESH_VERTICES_AT), vertices);
     }
     putchar('\n');
-    return 0;
 }
 
-/* Fills the tables of a mesh, lent exactly the room they need. */
-static int show_mesh(uint32_t mesh, size_t vertices, size_t faces) {
-    size_t vertices_len = 12 * vertices, corners_len = 6 * faces;
-    uint8_t *tables = malloc(vertices_len + corners_len + 1); /* + 1: never none at all */
-    uint8_t *corners;
+/* All meshes, by one call: one for each of them would check the whole file again each time. */
+static int show_meshes(void) {
+    uint64_t needed = tds_meshes(file, file_len, NULL, 0); /* none, or refused with how many */
+    size_t meshes_len = TDS_MESH_BYTES * (size_t)TDS_PLACE(needed);
+    uint8_t *meshes = malloc(meshes_len + 1); /* + 1: never none at all */
     uint64_t answer;
-    int status;
-    if (tables == NULL) {
+    size_t i;
+    if (meshes == NULL) {
         return no_memory();
     }
-    corners = tables + vertices_len;
-    answer = tds_tables(file, file_len, mesh, tables, vertices_len, corners, corners_len);
+    answer = tds_meshes(file, file_len, meshes, meshes_len);
     if (TDS_REFUSED(answer)) {
-        status = refused(answer);
-    } else {
-        status = show_tables(mesh, tables, vertices_len, corners, corners_len);
+        free(meshes);
+        return refused(answer);
     }
-    free(tables);
-    return status;
-}
-
-/*
- * Sizes the tables of the mesh that has this record. Its vertices and faces are the records 4110
- * and 4120 right inside it, and the own data of each is a word and the table. What stands in those
- * is stepped over.
- */
-static int show_branch(const uint8_t *records, size_t record, uint32_t mesh) {
-    size_t end = tds_get_record(records, record, TDS_RECORD_NEXT);
-    size_t vertices = 0, faces = 0, i;
-    for (i = record + 1; i < end; i = tds_get_record(records, i, TDS_RECORD_NEXT)) {
-        uint32_t id = tds_get_record(records, i, TDS_RECORD_ID);
-        uint32_t own = tds_get_record(records, i, TDS_RECORD_OWN);
-        if (id == TDS_ID_VERTICES) {
-            vertices = (own - 2) / 12;
-        } else if (id == TDS_ID_FACES) {
-            faces = (own - 2) / 8;
-        }
+    for (i = 0; i < answer; i++) {
+        show_mesh(meshes, i);
     }
-    return show_mesh(mesh, vertices, faces);
-}
-
-/* The chunks that a mesh can be in. Every other branch is closed: it is stepped over. */
-static int is_open(uint32_t id) {
-    return id == TDS_ID_FIGURE || id == TDS_ID_EDITOR || id == TDS_ID_OBJECT;
-}
-
-/* Goes through the list. A mesh is a record 4100. */
-static int show_list(const uint8_t *records, size_t count) {
-    uint32_t mesh = 0;
-    size_t i = 0;
-    while (i < count) {
-        uint32_t id = tds_get_record(records, i, TDS_RECORD_ID);
-        if (id == TDS_ID_MESH) {
-            int status = show_branch(records, i, mesh++);
-            if (status != 0) {
-                return status;
-            }
-        }
-        i = is_open(id) ? i + 1 : tds_get_record(records, i, TDS_RECORD_NEXT);
-    }
-    printf("meshes %lu\n", (unsigned long)mesh);
+    printf("meshes %lu\n", (unsigned long)answer);
+    free(meshes);
     return 0;
 }
 
@@ -187,27 +151,30 @@ static int show_parts(const uint8_t *records, size_t count) {
     return TDS_REFUSED(answer) ? refused(answer) : 0;
 }
 
-/* Checks the file first; the answer is the room the list needs. */
-static int show_figure(void) {
-    uint64_t answer = tds_check(file, file_len);
-    uint8_t *records;
-    size_t records_len;
+/* The tree of the parts, whose names are found through the list; `count` is how long that is. */
+static int show_tree(size_t count) {
+    size_t records_len = count * TDS_RECORD_BYTES;
+    uint8_t *records = malloc(records_len);
+    uint64_t answer;
     int status;
-    if (TDS_REFUSED(answer)) {
-        return refused(answer);
-    }
-    records_len = (size_t)answer * TDS_RECORD_BYTES;
-    records = malloc(records_len);
     if (records == NULL) {
         return no_memory();
     }
     answer = tds_list(file, file_len, records, records_len);
-    status = TDS_REFUSED(answer) ? refused(answer) : show_list(records, (size_t)answer);
-    if (status == 0) {
-        status = show_parts(records, (size_t)answer);
-    }
+    status = TDS_REFUSED(answer) ? refused(answer) : show_parts(records, (size_t)answer);
     free(records);
     return status;
+}
+
+/* Checks the file first; the answer is the room the list needs. */
+static int show_figure(void) {
+    uint64_t answer = tds_check(file, file_len);
+    int status;
+    if (TDS_REFUSED(answer)) {
+        return refused(answer);
+    }
+    status = show_meshes();
+    return status != 0 ? status : show_tree((size_t)answer);
 }
 
 int main(int argc, char **argv) {

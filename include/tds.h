@@ -10,8 +10,10 @@
  * never looked into.
  *
  * HOW TO USE IT. Read the file into memory; call tds_check; if it refuses, say so and stop. Else it
- * has answered how many records the list has: lend that much room to tds_list, find the meshes in
- * it, and lend tables of the right size to tds_tables. examples/viewer.c does just this.
+ * has answered how many records the list has: lend that much room to tds_list for the tree of
+ * chunks. For the meshes, lend room to tds_meshes, which tells where the names, vertices, faces and
+ * mapping pairs of all of them stand in the file, and read them there; or lend tables to tds_tables
+ * for one of them. examples/viewer.c does just this.
  *
  * You need check nothing beforehand: any bytes of any length have an answer.
  *
@@ -42,9 +44,10 @@
  * COST. Every call is linear in the lengths it is given, whatever is in the bytes; only the two
  * calls about a whole slip compare names two by two, which takes 0.1 s at worst. Each call that
  * reads a figure checks all of it first; the longest takes 0.03 to 3 milliseconds, by what is in
- * it, and up to 10 if it is a .cob file made for that (docs/BENCH.md). tds_list, tds_records and
- * those about one mesh take up to twice that. tds_sum_join and tds_sum_matches read no bytes.
- * Stack: at most 16 kilobytes; the four calls on .cob files need 850.
+ * it, and up to 10 if it is a .cob file made for that (docs/BENCH.md). tds_list, tds_records,
+ * tds_meshes, tds_parts and those about one mesh take up to twice that. So a call for each of many
+ * meshes costs the whole file each time, and one tds_meshes for all of them once. tds_sum_join and
+ * tds_sum_matches read no bytes. Stack: at most 16 kilobytes; the four calls on .cob files need 850.
  *
  * ORDER OF REFUSALS. First the faults of the file, which are 1 to 14, 23 and 24: the first that is
  * met, walking the file from its start, a chunk's own faults before those inside it, 24 right after
@@ -71,7 +74,7 @@ extern "C" {
  * lent may be filled in another way than it was built for. (Version 1 had six numbers a record, and
  * no tds_version.) CHANGELOG.md says what came with each.
  */
-#define TDS_VERSION (65536 * 2 + 256 * 4 + 0)
+#define TDS_VERSION (65536 * 2 + 256 * 5 + 0)
 uint64_t tds_version(void);
 
 /* No file longer than this is a figure. One byte more is enough to hand to tds_check to be told. */
@@ -263,6 +266,35 @@ uint64_t tds_name(const uint8_t *file, size_t file_len, uint32_t mesh, uint8_t *
  * mesh has no vertices; or 15 with 9 (place). Room is box_len / 4 numbers.
  */
 uint64_t tds_box(const uint8_t *file, size_t file_len, uint32_t mesh, uint8_t *box, size_t box_len);
+
+/*
+ * All meshes of a figure, in one call and for the cost of one.
+ *
+ * Fills eight numbers a mesh, 32 bytes, in the order of enum tds_mesh; tds_get_mesh reads one of
+ * them. Meshes are in file order, as tds_tables, tds_mapping, tds_name and tds_box number them.
+ * Every offset is one in the file, so that names, floats and corners are read where they stand and
+ * nothing is copied; all of them lie in the file, and every corner is below the count of vertices.
+ * Where a mesh has no vertices, no faces or no mapping (no 4110, no 4120, no 4140) both numbers of
+ * it are 0. Old figures may have fewer mapping pairs than vertices: the missing ones are 0, 0.
+ * Answers the count of meshes, which may be 0, and fills as many from the start of the slice; or
+ * refuses with a fault of the file, or 15 with the meshes needed (place). Room is meshes_len /
+ * TDS_MESH_BYTES meshes.
+ */
+uint64_t tds_meshes(const uint8_t *file, size_t file_len, uint8_t *meshes, size_t meshes_len);
+
+#define TDS_MESH_NUMBERS 8
+#define TDS_MESH_BYTES (4 * TDS_MESH_NUMBERS)
+
+enum tds_mesh {
+    TDS_MESH_NAME = 0,        /* where the name of its object begins */
+    TDS_MESH_NAME_LENGTH = 1, /* how many bytes it has, without the zero that ends it */
+    TDS_MESH_VERTICES = 2,    /* how many vertices: x, y, z of each, 12 bytes */
+    TDS_MESH_VERTICES_AT = 3, /* where the first of these floats is */
+    TDS_MESH_FACES = 4,       /* how many faces: three corners and a flag word, 8 bytes each */
+    TDS_MESH_FACES_AT = 5,    /* where the first corner is */
+    TDS_MESH_PAIRS = 6,       /* how many mapping pairs as they stand in the file: u, v, 8 bytes */
+    TDS_MESH_PAIRS_AT = 7     /* where the first of these floats is */
+};
 
 /*
  * The parts of a moving figure, and who hangs on whom: a vice's screw hangs on its moving jaw, that
@@ -566,6 +598,11 @@ TDS_INLINE float tds_get_float(const uint8_t *at) {
 /* One number of one entry of a slip. */
 TDS_INLINE uint32_t tds_get_entry(const uint8_t *entries, size_t entry, enum tds_entry number) {
     return tds_get4(entries + entry * TDS_ENTRY_BYTES + 4 * (size_t)number);
+}
+
+/* One number of one mesh. */
+TDS_INLINE uint32_t tds_get_mesh(const uint8_t *meshes, size_t mesh, enum tds_mesh number) {
+    return tds_get4(meshes + mesh * TDS_MESH_BYTES + 4 * (size_t)number);
 }
 
 /* One number of one part. */

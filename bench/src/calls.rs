@@ -14,9 +14,16 @@ pub enum Call {
     List,
     Tables,
     Box,
+    Meshes,
 }
 
-pub const CALLS: [Call; 4] = [Call::Check, Call::List, Call::Tables, Call::Box];
+pub const CALLS: [Call; 5] = [
+    Call::Check,
+    Call::List,
+    Call::Tables,
+    Call::Box,
+    Call::Meshes,
+];
 
 /// The rows and slices that are lent, large enough for any figure; they are
 /// made once, and not cleared between calls.
@@ -74,6 +81,12 @@ impl Lent {
                 let left = || done(second::bounding_box(black_box(file), mesh));
                 let right = || accepted(right.bounding_box(black_box(file), mesh, &mut nine));
                 both(turns, left, right)
+            }
+            Call::Meshes => {
+                let left = || done(second::meshes(black_box(file)));
+                both(turns, left, || {
+                    accepted(right.meshes(black_box(file), records))
+                })
             }
         }
     }

@@ -3,6 +3,7 @@
 
 mod c4ds;
 mod calls;
+mod cobs;
 mod figures;
 mod measure;
 mod slips;
@@ -65,6 +66,13 @@ fn limit(lent: &mut Lent) {
         assert_eq!(figure.bytes.len(), second::LIMIT);
         let copying = copying(&figure.bytes);
         for (call, times) in c4ds::times(&figure.bytes, TURNS) {
+            line(figure.what, call, copying, times, figure.bytes.len());
+        }
+    }
+    for figure in cobs::all() {
+        assert_eq!(figure.bytes.len(), second::LIMIT);
+        let copying = copying(&figure.bytes);
+        for (call, times) in cobs::times(&figure.bytes, TURNS) {
             line(figure.what, call, copying, times, figure.bytes.len());
         }
     }

@@ -7,6 +7,7 @@
 #include <string.h>
 #include <sys/mman.h>
 
+#include "all_meshes_cases.h"
 #include "c4d_cases.h"
 #include "cases.h"
 #include "cob_cases.h"
@@ -341,6 +342,7 @@ int main(void) {
     each_case(try_huge_file);
     try_meshes();
     try_mappings();
+    try_all_meshes();
     try_parts();
     try_writer();
     try_slips();

@@ -27,6 +27,21 @@ matches out '    part 2 "screw" on part 1'
 matches out '      part 3 "bar" on part 2'
 lines out 9
 
+# 80,658 objects, each with an empty mesh and an empty name. One call for each mesh would take minutes.
+try 'the most meshes that a figure can have'
+printf '\000\100\015\000\000\000\000\000\101\006\000\000\000' >"$T/objects"
+for _ in 1 2 3 4 5 6 7 8 9 10 11 12 13 14 15 16 17; do
+    cat "$T/objects" "$T/objects" >"$T/twice"
+    mv "$T/twice" "$T/objects"
+done
+printf 'MM\366\377\017\000==\360\377\017\000' >"$T/meshes"
+head -c 1048554 "$T/objects" >>"$T/meshes"
+run "$V" "$T/meshes"
+status_is 0
+matches out 'mesh 80657 "": vertices 0, faces 0'
+matches out 'meshes 80658'
+lines out 80659
+
 try 'every figure of the edition'
 for file in samples/edition/*.3ds; do
     run "$V" "$file"

@@ -1,6 +1,6 @@
 -- Demand 1, of the calls. A call is a fold of the walk's answer, and each line of each fold accepts, or refuses and gives
 -- back what was lent; every refusal has a number of the table, and an answer is no two refusals.
-use mathlib.Core.Path.{_≡_, refl, sym, ap}
+use mathlib.Core.Path.{_≡_, refl, sym, ap, subst}
 use mathlib.Core.Bool.{Bool, true, false, cond}
 use mathlib.Core.List.{List}
 use mathlib.Core.Logic.{inl, inr}
@@ -19,10 +19,14 @@ use Rattle.studio_rules.specs.declared.Boxed.{Boxed}
 use Rattle.studio_rules.specs.Layout.{Run, figure}
 use Rattle.shared_words.specs.Conditions.{Answer, refused, accepted}
 use Rattle.studio_rules.specs.Walk.{verdict}
-use Rattle.studio_rules.specs.Gives.{recordCount, Mesh, meshes, Part, parts}
+use Rattle.studio_rules.specs.Gives.{recordCount, Mesh, meshes, parts}
 use Rattle.shared_words.specs.Encodings.{Encoding}
 use Rattle.shared_words.specs.Effects.{leaving}
-use Rattle.studio_rules.specs.Calls.{countsOf, checkOf, checkCall, listOf, listCall, pickMesh, ofMesh, Rows, Tables, fits, sizesOf, tablesOf, tablesCall, nameOf, nameCall, aroundOf, boxCall, partsOf, partsCall}
+use Rattle.studio_rules.specs.Calls.{countsOf, checkOf, checkCall, listOf, listCall, pickMesh, ofMesh, Rows, Tables, fits, sizesOf, tablesOf, tablesCall, nameOf, nameCall, aroundOf, boxCall}
+use Rattle.studio_counted.specs.All.{allOf}
+use Rattle.studio_counted.proofs.All.{all-parts}
+use Rattle.studio_meshes_rules.specs.Standing.{standing}
+use Rattle.studio_meshes_rules.specs.Calls.{meshesCall}
 use Rattle.shared_words.proofs.Refusals.{numbered}
 use Rattle.shared_words.specs.declared.Written.{Written}
 use Rattle.shared_words.specs.declared.Written.the-variants.{Size, Refused}
@@ -103,11 +107,11 @@ tabled t rows m =
     (leaves Tabled.Filled Tabled.Refused tables-apart rows (NoRoom (length (m .corners)))))
     (leaves Tabled.Filled Tabled.Refused tables-apart rows (NoRoom (length (m .vertices))))
 
-hung : {A : Type 0} (e : Encoding Part A) (row : List A) (a : Answer Run) → AnsweredOn Counted.Filled Counted.Refused row (partsOf e row a)
-hung e row (refused r) = leaves Counted.Filled Counted.Refused counted-apart row r
-hung e row (accepted kids) =
-    by-test (AnsweredOn Counted.Filled Counted.Refused row) (leb (length (parts kids)) (e .room (length row)))
-    (inl (length (parts kids), refl)) (leaves Counted.Filled Counted.Refused counted-apart row (NoRoom (length (parts kids))))
+all-things : {X A : Type 0} (things : Run → List X) (e : Encoding X A) (row : List A) (a : Answer Run) → AnsweredOn Counted.Filled Counted.Refused row (allOf things e row a)
+all-things things e row (refused r) = leaves Counted.Filled Counted.Refused counted-apart row r
+all-things things e row (accepted kids) =
+    by-test (AnsweredOn Counted.Filled Counted.Refused row) (leb (length (things kids)) (e .room (length row)))
+    (inl (length (things kids), refl)) (leaves Counted.Filled Counted.Refused counted-apart row (NoRoom (length (things kids))))
 
 boxed : (m : Mesh) → Answered around Boxed.Refused (aroundOf m)
 boxed m = by-test (Answered around Boxed.Refused) (eqb (m .vertexCount) 0) (refuses around Boxed.Refused box-apart Empty) (inl (_, refl))
@@ -119,14 +123,15 @@ written file out (Size size) = inl (size, refl)
 -- ---- the demand
 
 pub demand1 : Demand1
-unfolding checkCall listCall tablesCall nameCall boxCall partsCall writeCall
+unfolding checkCall listCall tablesCall nameCall boxCall meshesCall writeCall
 demand1 = record {
   check = λ s. checked (verdict s);
   list = λ e s row. listed e row (verdict s);
   tables = λ t s mesh rows.
       by-mesh (AnsweredOn Tabled.Filled Tabled.Refused rows) (λ r. leaving (Tabled.Refused r) rows) (tablesOf t rows)
       (leaves Tabled.Filled Tabled.Refused tables-apart rows) (tabled t rows) mesh (verdict s);
-  parts = λ e s row. hung e row (verdict s);
+  parts = λ e s row. subst (AnsweredOn Counted.Filled Counted.Refused row) (sym (all-parts e s row)) (all-things parts e row (verdict s));
+  meshes = λ e s row. all-things standing e row (verdict s);
   name = λ s mesh.
       by-mesh (Answered Named.At Named.Refused) Named.Refused nameOf (refuses Named.At Named.Refused name-apart) (λ m. inl (_, refl)) mesh (verdict s);
   box = λ s mesh.

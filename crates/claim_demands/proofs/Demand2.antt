@@ -1,6 +1,6 @@
 -- Demand 2, of the calls. The verdict of a file that meets the rules is its layout, so a call there is its fold's line for
 -- that layout; and a fold that accepts has a layout, since its line for a refusal refuses.
-use mathlib.Core.Path.{_≡_, refl}
+use mathlib.Core.Path.{_≡_, refl, sym, ap, _∙_}
 use mathlib.Core.Bool.{Bool, true, false, cond}
 use mathlib.Core.List.{List}
 use mathlib.Core.Option.{Option, none, some}
@@ -24,11 +24,15 @@ use Rattle.studio_rules.specs.Walk.{verdict}
 use Rattle.studio_rules.specs.Gives.{recordCount, Mesh, meshes, parts}
 use Rattle.shared_words.specs.Encodings.{Encoding}
 use Rattle.shared_words.specs.Effects.{Effect, leaving}
-use Rattle.studio_rules.specs.Calls.{checkOf, checkCall, listOf, listCall, pickMesh, ofMesh, Rows, Tables, fits, sizesOf, tablesOf, tablesCall, nameCall, boxCall, partsOf, partsCall}
+use Rattle.studio_rules.specs.Calls.{checkOf, checkCall, listOf, listCall, pickMesh, ofMesh, Rows, Tables, fits, sizesOf, tablesOf, tablesCall, nameCall, boxCall, partsCall}
 use Rattle.studio_rules.proofs.Verdict.{accepted-exactly, verdict-good}
 use Rattle.studio_rules.proofs.Theorems.{counts-add}
+use Rattle.studio_counted.specs.All.{allOf}
+use Rattle.studio_counted.proofs.All.{all-parts}
+use Rattle.studio_meshes_rules.specs.Standing.{standing}
+use Rattle.studio_meshes_rules.specs.Calls.{meshesCall}
 use Rattle.studio_write.proofs.ReadsBack.{written-reads-back}
-use Rattle.claim_demands.specs.Demand2.{RoomForTables, Given, Demand2}
+use Rattle.claim_demands.specs.Demand2.{RoomFor, RoomForTables, Given, Demand2}
 
 -- ---- answers: no refusal is an acceptance, and an acceptance has one value
 
@@ -83,10 +87,18 @@ found-tables t rows m sizes h =
     let p = found-room (fits (t .mapping) (m .mapping) (rows .mapping)) _ _ (not-filled sizes _) (c .1) in
     (sizes-are (p .1), record { vertices = v .0; corners = c .0; mapping = p .0 })
 
+-- room for all things of a kind
+found-all : {X A : Type 0} (things : Run → List X) (e : Encoding X A) (row : List A) (n : ℕ) (s : List ℕ) → Bytes s → allOf things e row (verdict s) .answer ≡ Counted.Filled n →
+    (kids : Run) × Meets s kids × (n ≡ length (things kids)) × RoomFor e (length (things kids)) row
+found-all things e row n s b h =
+    let l = found-layout (λ a. allOf things e row a .answer) (not-counted n) s b h in
+    let r = found-room (leb (length (things (l .0))) (e .room (length row))) _ _ (not-counted n _) (l .2) in
+    (l .0, l .1, counted-is (r .1), leb-true _ _ (r .0))
+
 -- ---- what the calls give of a file that meets the rules
 
 given : (s : List ℕ) (kids : Run) → Meets s kids → Given s kids
-unfolding listCall tablesCall nameCall boxCall partsCall
+unfolding listCall tablesCall nameCall boxCall partsCall meshesCall
 given s kids m =
     let v = verdict-good s kids m in
     record {
@@ -94,6 +106,7 @@ given s kids m =
       list-is = λ e row h. rw (v, le-leb (recordCount (figure kids)) (e .room (length row)) h);
       tables-are = λ t mesh x g rows h. rw (v, g, h .vertices, h .corners, h .mapping);
       parts-are = λ e row h. rw (v, le-leb (length (parts kids)) (e .room (length row)) h);
+      meshes-are = λ e row h. rw (v, le-leb (length (standing kids)) (e .room (length row)) h);
       name-is = λ mesh x g. rw (v, g);
       box-is = λ mesh x g p. rw (v, g, ne-eqb (x .vertexCount) 0 (λ z. omega arith));
     }
@@ -101,7 +114,7 @@ given s kids m =
 -- ---- the demand
 
 pub demand2 : Demand2
-unfolding checkCall listCall tablesCall partsCall
+unfolding checkCall listCall tablesCall partsCall meshesCall
 demand2 = record {
   accepted = λ s b counts. (
     λ h. let l = found-layout checkOf (not-accepted counts) s b h in (l .0, l .1, counts-are (l .2)),
@@ -124,12 +137,13 @@ demand2 = record {
         let m = l .2 in
         rw (given s (l .0) (l .1) .tables-are t mesh (m .0) (m .1) rows (m .3), m .2),
   );
-  hung = λ e s b row n. (
-    λ h.
-        let l = found-layout (λ a. partsOf e row a .answer) (not-counted n) s b h in
-        let r = found-room (leb (length (parts (l .0))) (e .room (length row))) _ _ (not-counted n _) (l .2) in
-        (l .0, l .1, counted-is (r .1), leb-true _ _ (r .0)),
+  hung = λ {A} e s b row n. (
+    λ h. found-all parts e row n s b (ap (λ (x : Effect Counted (List A)). x .answer) (sym (all-parts e s row)) ∙ h),
     λ l. rw (given s (l .0) (l .1) .parts-are e row (l .3), l .2),
+  );
+  stood = λ e s b row n. (
+    λ h. found-all standing e row n s b h,
+    λ l. rw (given s (l .0) (l .1) .meshes-are e row (l .3), l .2),
   );
   given = given;
   written-reads-back = written-reads-back;

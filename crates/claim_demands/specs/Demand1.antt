@@ -20,6 +20,8 @@ use Rattle.shared_words.specs.Encodings.{Encoding}
 use Rattle.shared_words.specs.Effects.{Effect}
 use Rattle.studio_rules.specs.Gives.{Part}
 use Rattle.studio_rules.specs.Calls.{checkCall, listCall, Rows, Tables, tablesCall, nameCall, boxCall, partsCall}
+use Rattle.studio_meshes_rules.specs.Standing.{Standing}
+use Rattle.studio_meshes_rules.specs.Calls.{meshesCall}
 use Rattle.shared_words.specs.declared.Written.{Written}
 use Rattle.studio_write.specs.Write.{writeCall}
 
@@ -53,6 +55,8 @@ pub record Demand1 : Type 1 where
       AnsweredOn Tabled.Filled Tabled.Refused rows (tablesCall t s mesh rows)
   pub parts : {A : Type 0} (e : Encoding Part A) (s : List ℕ) (row : List A) →
       AnsweredOn Counted.Filled Counted.Refused row (partsCall e s row)
+  pub meshes : {A : Type 0} (e : Encoding Standing A) (s : List ℕ) (row : List A) →
+      AnsweredOn Counted.Filled Counted.Refused row (meshesCall e s row)
   pub name : (s : List ℕ) (mesh : ℕ) → Answered Named.At Named.Refused (nameCall s mesh)
   pub box : (s : List ℕ) (mesh : ℕ) → Answered around Boxed.Refused (boxCall s mesh)
   pub write : (name : List ℕ) (vertices : List Float) (corners out : List ℕ) →

@@ -24,6 +24,8 @@ use Rattle.studio_rules.specs.Box.{boxOf, centreOf}
 use Rattle.shared_words.specs.Encodings.{Encoding}
 use Rattle.shared_words.specs.Effects.{leaving, filled}
 use Rattle.studio_rules.specs.Calls.{countsOf, checkCall, listCall, Rows, Tables, fits, sizesOf, rowsWith, tablesCall, nameCall, boxCall, partsCall}
+use Rattle.studio_meshes_rules.specs.Standing.{Standing, standing}
+use Rattle.studio_meshes_rules.specs.Calls.{meshesCall}
 use Rattle.studio_write.specs.ReadsBack.{WrittenReadsBack}
 
 -- ---- room, in whole records or numbers
@@ -48,6 +50,8 @@ pub record Given (s : List ℕ) (kids : Run) : Type 1 where
       (rows : Rows A B C) → RoomForTables t rows m → tablesCall t s mesh rows ≡ leaving (Tabled.Filled (sizesOf m)) (rowsWith t rows m)
   pub parts-are : {A : Type 0} (e : Encoding Part A) (row : List A) → RoomFor e (length (parts kids)) row →
       partsCall e s row ≡ leaving (Counted.Filled (length (parts kids))) (filled (e .encode (parts kids)) row)
+  pub meshes-are : {A : Type 0} (e : Encoding Standing A) (row : List A) → RoomFor e (length (standing kids)) row →
+      meshesCall e s row ≡ leaving (Counted.Filled (length (standing kids))) (filled (e .encode (standing kids)) row)
   pub name-is : (mesh : ℕ) (m : Mesh) → getElem? (meshes kids) mesh ≡ some m →
       nameCall s mesh ≡ Named.At record { offset = m .nameAt; size = m .nameLength }
   pub box-is : (mesh : ℕ) (m : Mesh) → getElem? (meshes kids) mesh ≡ some m → 0 < m .vertexCount →
@@ -59,7 +63,7 @@ pub record Demand2 : Type 1 where
   -- accepted exactly when the rules are met, and then with the counts of the layout
   pub accepted : (s : List ℕ) → Bytes s → (counts : Counts) →
       (checkCall s ≡ Checked.Accepted counts) ↔ ((kids : Run) × Meets s kids × (counts ≡ countsOf kids))
-  -- the list, the tables and the parts likewise, given room
+  -- the list, the tables, the parts and all meshes likewise, given room
   pub listed : {A : Type 0} (e : Encoding Record A) (s : List ℕ) → Bytes s → (row : List A) (counts : Counts) →
       (listCall e s row .answer ≡ Checked.Accepted counts) ↔
       ((kids : Run) × Meets s kids × (counts ≡ countsOf kids) × RoomFor e (recordCount (figure kids)) row)
@@ -68,6 +72,8 @@ pub record Demand2 : Type 1 where
       ((kids : Run) × Meets s kids × ((m : Mesh) × (getElem? (meshes kids) mesh ≡ some m) × (sizes ≡ sizesOf m) × RoomForTables t rows m))
   pub hung : {A : Type 0} (e : Encoding Part A) (s : List ℕ) → Bytes s → (row : List A) (n : ℕ) →
       (partsCall e s row .answer ≡ Counted.Filled n) ↔ ((kids : Run) × Meets s kids × (n ≡ length (parts kids)) × RoomFor e (length (parts kids)) row)
+  pub stood : {A : Type 0} (e : Encoding Standing A) (s : List ℕ) → Bytes s → (row : List A) (n : ℕ) →
+      (meshesCall e s row .answer ≡ Counted.Filled n) ↔ ((kids : Run) × Meets s kids × (n ≡ length (standing kids)) × RoomFor e (length (standing kids)) row)
   -- and what they give is that of the layout
   pub given : (s : List ℕ) (kids : Run) → Meets s kids → Given s kids
   -- a figure we write is accepted and reads back

@@ -11,9 +11,11 @@ use Rattle.studio_rules.specs.declared.Record.{Record}
 use Rattle.shared_words.specs.declared.Refusal.the-variants.{NoRoom}
 use Rattle.studio_rules.specs.declared.Counts.{Counts}
 use Rattle.studio_rules.specs.declared.Checked.{Checked}
+use Rattle.studio_rules.specs.declared.Counted.{Counted}
 use Rattle.studio_rules.specs.declared.Named.{Named}
 use Rattle.shared_words.specs.Bytes.{Bytes}
-use Rattle.studio_rules.specs.Layout.{figure, bytes}
+use Rattle.studio_rules.specs.OwnData.{count}
+use Rattle.studio_rules.specs.Layout.{figure, bytes, child}
 use Rattle.studio_rules.specs.Rules.{limit, Meets}
 use Rattle.studio_rules.specs.Gaps.{Marked, without, with, InGaps, Piece, before, Moved, Pairwise}
 use Rattle.studio_rules.specs.Theorems.{putIn, allPut}
@@ -21,12 +23,27 @@ use Rattle.shared_words.specs.Encodings.{Encoding}
 use Rattle.shared_words.specs.Effects.{leaving, filled}
 use Rattle.studio_rules.specs.Gives.{Part}
 use Rattle.studio_rules.specs.Calls.{checkCall, listCall, Rows, Tables, tablesCall, nameCall, boxCall, partsCall}
+use Rattle.studio_meshes_rules.specs.Standing.{Standing, elementsAt}
+use Rattle.studio_meshes_rules.specs.Calls.{meshesCall}
 
 -- a name keeps its length, and its offset grows like the others; a refusal is the same
 abbrev pub NameMoved : List Piece → Named → Named → Type 0
 NameMoved ps (Named.Refused r) new = new ≡ Named.Refused r
 NameMoved ps (Named.At old) (Named.Refused r) = ⊥
 NameMoved ps (Named.At old) (Named.At new) = (new .offset ≡ old .offset + before (new .offset) ps) × (new .size ≡ old .size)
+
+-- the elements of the child x of a mesh are as many, and their offset grows like the others
+pub record ElementsMoved (ps : List Piece) (x : ℕ) (old new : Standing) : Type 0 where
+  pub count-same : count (child x (new .kids)) ≡ count (child x (old .kids))
+  pub offset-grows : elementsAt x (new .at) (new .kids) ≡ elementsAt x (old .at) (old .kids) + before (elementsAt x (new .at) (new .kids)) ps
+
+-- of the eight numbers of a mesh the offsets have moved, and the others are the same
+pub record StandingMoved (ps : List Piece) (old new : Standing) : Type 0 where
+  pub name-grows : new .nameAt ≡ old .nameAt + before (new .nameAt) ps
+  pub name-length-same : new .nameLength ≡ old .nameLength
+  pub vertices-moved : ElementsMoved ps 0x4110 old new
+  pub faces-moved : ElementsMoved ps 0x4120 old new
+  pub pairs-moved : ElementsMoved ps 0x4140 old new
 
 -- s is the file without the chunks ps, of so many bytes in all, and s′ the file with them
 pub record SameAnswers (ps : List Piece) (all : ℕ) (s s′ : List ℕ) : Type 1 where
@@ -54,6 +71,16 @@ pub record SameAnswers (ps : List Piece) (all : ℕ) (s s′ : List ℕ) : Type 
       tablesCall t s′ mesh rows ≡ tablesCall t s mesh rows
   pub box-same : (mesh : ℕ) → boxCall s′ mesh ≡ boxCall s mesh
   pub name-moved : (mesh : ℕ) → NameMoved ps (nameCall s mesh) (nameCall s′ mesh)
+  -- all meshes in one call: as many in the same order, each moved; with the same room both files' are given, or neither's
+  pub meshes : List Standing
+  pub meshes′ : List Standing
+  pub meshes-moved : Pairwise (StandingMoved ps) meshes meshes′
+  pub meshes-given : {A : Type 0} (e : Encoding Standing A) (row : List A) → length meshes ≤ e .room (length row) →
+      (meshesCall e s row ≡ leaving (Counted.Filled (length meshes)) (filled (e .encode meshes) row)) ×
+      (meshesCall e s′ row ≡ leaving (Counted.Filled (length meshes)) (filled (e .encode meshes′) row))
+  pub meshes-refused : {A : Type 0} (e : Encoding Standing A) (row : List A) → e .room (length row) < length meshes →
+      (meshesCall e s row ≡ leaving (Counted.Refused (NoRoom (length meshes))) row) ×
+      (meshesCall e s′ row ≡ leaving (Counted.Refused (NoRoom (length meshes))) row)
   -- the same parts hang on the same ones
   pub parts-same : {A : Type 0} (e : Encoding Part A) (row : List A) → partsCall e s′ row ≡ partsCall e s row
 

@@ -1,5 +1,5 @@
 -- The numbers of a layout: its records and meshes are few, and of a mesh the counts are two bytes long.
-use mathlib.Core.Path.{_≡_, refl}
+use mathlib.Core.Path.{_≡_, ap, _∙_}
 use Prim.Native.Nat.{ℕ, zero, suc, _+_, _-_, _*_, _≤_, _<_}
 use native.Mathlib.Omega.{arith}
 use mathlib.Core.Bool.{Bool, true, false, cond}
@@ -11,9 +11,12 @@ use lib.ListN.{length, length-append, length-replicate, drop, replicate, getElem
 use Rattle.shared_words.specs.Bytes.{Bytes}
 use Rattle.shared_words.proofs.Bytes.{word-small}
 use Rattle.shared_words.proofs.Numbers.{length-numbers}
-use Rattle.studio_rules.specs.Layout.{Run, end, skip, known, size, header, bytes, child}
+use Rattle.studio_rules.specs.Layout.{Run, end, skip, known, figure, size, header, bytes, child}
 use Rattle.studio_rules.specs.OwnData.{count, mappingNumbers}
-use Rattle.studio_rules.specs.Gives.{recordCount, Mesh, pairsOf, mappingTable, meshOf, oneMesh, meshesOf}
+use Rattle.studio_rules.specs.Gives.{recordCount, Mesh, pairsOf, mappingTable, meshOf, oneMesh, meshesOf, meshes}
+use Rattle.studio_meshes_rules.specs.Standing.{standing}
+use Rattle.studio_meshes_rules.proofs.Same.{same-meshes}
+use Rattle.studio_meshes_rules.proofs.Few.{standing-few, as-many}
 use Rattle.studio_rules.proofs.Corners.{length-corners}
 use Rattle.studio_rules.proofs.Mapping.{pairs-all-or-none}
 
@@ -24,25 +27,8 @@ records-few end = omega arith
 records-few (skip id body rest) = omega (arith, records-few rest)
 records-few (known id own kids rest) = omega (arith, records-few kids, records-few rest)
 
-one-few : (b : Bool) (m : Mesh) → length (oneMesh b m) ≤ 1
-one-few true m = omega arith
-one-few false m = omega arith
-
-pub meshes-few : (o at l : ℕ) (t : Run) → length (meshesOf o at l t) ≤ recordCount t
-meshes-few o at l end = omega arith
-meshes-few o at l (skip id body rest) = meshes-few (o + (6 + length body)) at l rest
-meshes-few o at l (known id own kids rest) =
-    let one = oneMesh (eqb id 0x4100) (meshOf at l kids) in
-    let below = meshesOf (o + (6 + length own)) (o + 6) (length own - 1) kids in
-    let behind = meshesOf (o + (6 + length own + size kids)) at l rest in
-    omega (
-      arith,
-      length-append one (below ++ behind),
-      length-append below behind,
-      one-few (eqb id 0x4100) (meshOf at l kids),
-      meshes-few (o + (6 + length own)) (o + 6) (length own - 1) kids,
-      meshes-few (o + (6 + length own + size kids)) at l rest,
-    )
+pub meshes-few : (kids : Run) → length (meshes kids) ≤ size (figure kids)
+meshes-few kids = omega (arith, ap length (same-meshes kids) ∙ as-many (standing kids), standing-few 0 0 0 (figure kids))
 
 -- ---- the counts of a mesh
 

@@ -24,20 +24,25 @@ use Rattle.studio_rules.specs.declared.Tabled.{Tabled}
 use Rattle.studio_rules.specs.declared.Named.{Named}
 use Rattle.studio_rules.specs.declared.Boxed.{Boxed}
 use Rattle.studio_rules.specs.declared.Counted.{Counted}
-use Rattle.studio_rules.specs.Layout.{Run, figure}
+use Rattle.studio_rules.specs.Layout.{Run, figure, size}
 use Rattle.studio_rules.specs.Rules.{limit}
 use Rattle.studio_rules.specs.Walk.{verdict}
 use Rattle.studio_rules.specs.Gives.{recordCount, headers, owned, skipped, Mesh, meshes, Part, parts}
 use Rattle.studio_rules.specs.Box.{boxOf, centreOf}
-use Rattle.studio_rules.specs.Calls.{checkOf, checkCall, listOf, listCall, pickMesh, ofMesh, Rows, Tables, fits, sizesOf, tablesOf, tablesCall, nameOf, nameCall, aroundOf, boxCall, partsOf, partsCall}
+use Rattle.studio_rules.specs.Calls.{checkOf, checkCall, listOf, listCall, pickMesh, ofMesh, Rows, Tables, fits, sizesOf, tablesOf, tablesCall, nameOf, nameCall, aroundOf, boxCall, partsCall}
+use Rattle.studio_counted.specs.All.{allOf}
+use Rattle.studio_counted.proofs.All.{all-parts}
+use Rattle.studio_meshes_rules.specs.Standing.{standing}
+use Rattle.studio_meshes_rules.specs.Calls.{meshesCall}
+use Rattle.studio_meshes_rules.proofs.Few.{standing-few}
 use Rattle.studio_rules.proofs.Verdict.{accepted-exactly}
 use Rattle.shared_words.specs.declared.Written.{Written}
 use Rattle.studio_write_judge.specs.Judged.{figureSize, writeConditions, answerOf, judged}
 use Rattle.studio_write.specs.Write.{writing, writeCall}
 use Rattle.c_codes.specs.Codes.{refusalCode, recordsOr, sizesOr, numbersOr, sizeOr}
 use Rattle.c_answers.specs.Given.{given, nine, countsGiven, nameGiven, boxGiven}
-use Rattle.c_parts.specs.Codes.{partsOr}
-use Rattle.claim_numbers.specs.Told.{Proper, Tells, TellsCapped, CheckTold, TablesTold, PartsTold, WriteTold, Gives, CountsTold, NameTold, BoxTold, Told}
+use Rattle.c_counted.specs.Codes.{countedOr}
+use Rattle.claim_numbers.specs.Told.{Proper, Tells, TellsCapped, CheckTold, TablesTold, CountedTold, WriteTold, Gives, CountsTold, NameTold, BoxTold, Told}
 use Rattle.claim_numbers.proofs.Places.{Within, verdict-within}
 use Rattle.claim_numbers.proofs.Parts.{parts-few}
 use Rattle.claim_numbers.proofs.Meshes.{records-few, meshes-few, Small, SmallAt, small-at, meshes-small}
@@ -81,15 +86,14 @@ list-told {A} e row (accepted kids) h =
     by-test (λ (x : Effect Checked (List A)). CheckTold (x .answer) (recordsOr (x .answer))) (leb (recordCount (figure kids)) (e .room (length row)))
     (omega (arith, records-few (figure kids))) (tells (NoRoom (recordCount (figure kids))) (omega (arith, records-few (figure kids))))
 
--- ---- the parts
+-- ---- all parts, and all meshes
 
-parts-told : {A : Type 0} (e : Encoding Part A) (row : List A) (a : Answer Run) → Within a →
-    PartsTold (partsOf e row a .answer) (partsOr (partsOf e row a .answer))
-parts-told e row (refused r) h = tells r h
-parts-told {A} e row (accepted kids) h =
-    let few : length (parts kids) ≤ limit = omega (arith, parts-few kids, records-few (figure kids)) in
-    by-test (λ (x : Effect Counted (List A)). PartsTold (x .answer) (partsOr (x .answer))) (leb (length (parts kids)) (e .room (length row)))
-    (omega arith) (tells (NoRoom (length (parts kids))) few)
+all-told : {X A : Type 0} (things : Run → List X) (e : Encoding X A) (row : List A) → ((kids : Run) → length (things kids) ≤ size (figure kids)) → (a : Answer Run) → Within a →
+    CountedTold (allOf things e row a .answer) (countedOr (allOf things e row a .answer))
+all-told things e row few (refused r) h = tells r h
+all-told {X} {A} things e row few (accepted kids) h =
+    by-test (λ (x : Effect Counted (List A)). CountedTold (x .answer) (countedOr (x .answer))) (leb (length (things kids)) (e .room (length row)))
+    (omega (arith, few kids)) (tells (NoRoom (length (things kids))) (omega (arith, few kids)))
 
 -- ---- one mesh
 
@@ -101,7 +105,7 @@ mesh-told P refuse use-it of-refusal mesh (refused r) h of-mesh = of-refusal r h
 mesh-told P refuse use-it of-refusal mesh (accepted kids) h of-mesh = go (getElem? (meshes kids) mesh) refl
   where
     go : (x : Option Mesh) → getElem? (meshes kids) mesh ≡ x → P (pickMesh refuse use-it (length (meshes kids)) x)
-    go none e = of-refusal (NoSuchMesh (length (meshes kids))) (omega (arith, meshes-few 0 0 0 (figure kids), records-few (figure kids)))
+    go none e = of-refusal (NoSuchMesh (length (meshes kids))) (omega (arith, meshes-few kids))
     go (some m) e = of-mesh kids refl m e
 
 small-mesh : (s : List ℕ) → Bytes s → (mesh : ℕ) (kids : Run) → verdict s ≡ accepted kids → (m : Mesh) → getElem? (meshes kids) mesh ≡ some m → Small m
@@ -160,7 +164,7 @@ write-told name vertices corners out file = go (broken (writeConditions name ver
 -- ---- THE THEOREM
 
 pub told : Told
-unfolding checkCall listCall tablesCall nameCall boxCall partsCall writeCall
+unfolding checkCall listCall tablesCall nameCall boxCall meshesCall writeCall
 told = record {
   check = λ s. records-told (verdict s) (verdict-within s);
   list = λ e s row. list-told e row (verdict s) (verdict-within s);
@@ -177,6 +181,8 @@ told = record {
   box = λ s mesh out.
       mesh-told (λ (x : Boxed). BoxTold x (boxGiven out x .answer)) Boxed.Refused aroundOf tells mesh (verdict s) (verdict-within s)
       (λ kids v m g. box-told out m);
-  parts = λ e s row. parts-told e row (verdict s) (verdict-within s);
+  parts = λ {A} e s row.
+      subst (λ (x : Effect Counted (List A)). CountedTold (x .answer) (countedOr (x .answer))) (sym (all-parts e s row)) (all-told parts e row (λ kids. omega (arith, parts-few kids, records-few (figure kids))) (verdict s) (verdict-within s));
+  meshes = λ e s row. all-told standing e row (λ kids. standing-few 0 0 0 (figure kids)) (verdict s) (verdict-within s);
   write = λ name vertices corners out. write-told name vertices corners out _;
 }

@@ -19,11 +19,13 @@ use Rattle.studio_rules.specs.declared.Boxed.{Boxed}
 use Rattle.studio_rules.specs.declared.Counted.{Counted}
 use Rattle.studio_rules.specs.Gives.{Part}
 use Rattle.studio_rules.specs.Calls.{checkCall, listCall, Rows, Tables, tablesCall, nameCall, boxCall, partsCall}
+use Rattle.studio_meshes_rules.specs.Standing.{Standing}
+use Rattle.studio_meshes_rules.specs.Calls.{meshesCall}
 use Rattle.shared_words.specs.declared.Written.{Written}
 use Rattle.studio_write.specs.Write.{writeCall}
 use Rattle.c_codes.specs.Codes.{recordsOr, sizesOr, numbersOr, sizeOr}
 use Rattle.c_answers.specs.Given.{countsGiven, nameGiven, boxGiven}
-use Rattle.c_parts.specs.Codes.{partsOr}
+use Rattle.c_counted.specs.Codes.{countedOr}
 
 -- n is an answer proper
 abbrev pub Proper : ℕ → Type 0
@@ -49,9 +51,9 @@ abbrev pub TablesTold : Tabled → ℕ → Type 0
 TablesTold (Tabled.Filled sizes) n = Proper n
 TablesTold (Tabled.Refused r) n = Tells r n
 
-abbrev pub PartsTold : Counted → ℕ → Type 0
-PartsTold (Counted.Filled count) n = Proper n
-PartsTold (Counted.Refused r) n = Tells r n
+abbrev pub CountedTold : Counted → ℕ → Type 0
+CountedTold (Counted.Filled count) n = Proper n
+CountedTold (Counted.Refused r) n = Tells r n
 
 abbrev pub WriteTold : Written → ℕ → Type 0
 WriteTold (Written.Size size) n = Proper n
@@ -85,6 +87,7 @@ pub record Told : Type 1 where
   pub counts : (s out : List ℕ) → CountsTold (checkCall s) (countsGiven out (checkCall s) .answer)
   pub name : (s : List ℕ) (mesh : ℕ) (out : List ℕ) → NameTold (nameCall s mesh) (nameGiven out (nameCall s mesh) .answer)
   pub box : (s : List ℕ) (mesh : ℕ) (out : List ℕ) → BoxTold (boxCall s mesh) (boxGiven out (boxCall s mesh) .answer)
-  pub parts : {A : Type 0} (e : Encoding Part A) (s : List ℕ) (row : List A) → PartsTold (partsCall e s row .answer) (partsOr (partsCall e s row .answer))
+  pub parts : {A : Type 0} (e : Encoding Part A) (s : List ℕ) (row : List A) → CountedTold (partsCall e s row .answer) (countedOr (partsCall e s row .answer))
+  pub meshes : {A : Type 0} (e : Encoding Standing A) (s : List ℕ) (row : List A) → CountedTold (meshesCall e s row .answer) (countedOr (meshesCall e s row .answer))
   pub write : (name : List ℕ) (vertices : List Float) (corners out : List ℕ) →
       WriteTold (writeCall name vertices corners out .answer) (sizeOr (writeCall name vertices corners out .answer))

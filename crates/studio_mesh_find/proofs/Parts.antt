@@ -17,6 +17,7 @@ use Rattle.studio_rules.specs.OwnData.{nameSize, count, ownSize, corners, verte
 use Rattle.studio_rules.specs.Layout.{Run, end, skip, known, size, identifiers, child, offsetOf}
 use Rattle.studio_rules.specs.Rules.{Parent, only, Own, Obeys}
 use Rattle.studio_rules.specs.Gives.{meshOf}
+use Rattle.studio_meshes_rules.specs.Standing.{elementsAt}
 use Rattle.shared_words.proofs.Bools.{and-parts, every-nil}
 use Rattle.studio_rules.proofs.OwnSize.{own-size-more}
 use Rattle.studio_rules.proofs.Mapping.{Fitting, given-at-most, pairs-all-or-none}
@@ -104,6 +105,13 @@ module _ (x k : ℕ) (e : shape x ≡ counted k) (p : Parent) (t : Run) (s : Lis
   counts-nowhere l =
       let c : child x t ≡ [] = child-onward x t ∙ ap (child x) (first-nowhere x p t s at stop h (omega arith)) in
       rw c (counts-none k s)
+
+  -- where they begin
+  pub begins-first : o < stop → o + 8 ≡ elementsAt x at t
+  begins-first l = rw (there-first l, is)
+
+  pub begins-nowhere : stop ≤ o → 0 ≡ elementsAt x at t
+  begins-nowhere l = rw (there-nowhere l)
 
 -- ---- a mesh
 

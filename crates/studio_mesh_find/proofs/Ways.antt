@@ -14,7 +14,7 @@ use Rattle.studio_rules.specs.Table.{theFile, rows, rowOf, atMostOne, atLeastOn
 use Rattle.studio_rules.specs.Layout.{Run, end, skip, known, size, identifiers, offsetOf}
 use Rattle.studio_rules.specs.Rules.{tally, few}
 use Rattle.studio_rules.specs.Parses.{Place, within, Parses}
-use Rattle.studio_rules.specs.Gives.{meshesOf}
+use Rattle.studio_meshes_rules.specs.Standing.{standingOf}
 use Rattle.shared_words.proofs.Bools.{and-parts, or-second}
 use Rattle.studio_rules.proofs.Rows.{everyId, among-every, listed-every, under-listed}
 use Rattle.studio_child.specs.Runs.{onward}
@@ -70,7 +70,7 @@ to-mesh = leads-by 0x4000 0x4100 refl
 
 -- ---- the meshes of a run
 
-pub no-meshes : (p : Place) (t : Run) (o a n : ℕ) → onWay (p .id) ≡ false → Parses p t → meshesOf o a n t ≡ []
+pub no-meshes : (p : Place) (t : Run) (o a n : ℕ) → onWay (p .id) ≡ false → Parses p t → standingOf o a n t ≡ []
 no-meshes p end o a n w h = refl
 no-meshes p (skip id body rest) o a n w h = no-meshes p rest (o + (6 + length body)) a n w (h .1)
 no-meshes p (known id own kids rest) o a n w h =
@@ -81,13 +81,13 @@ no-meshes p (known id own kids rest) o a n w h =
       no-meshes p rest (o + (6 + length own + size kids)) a n w (h .2),
     )
 
-pub meshes-onward : (x : ℕ) (p : Place) → Leads (p .id) x → (t : Run) (o a n : ℕ) → Parses p t → meshesOf o a n t ≡ meshesOf (offsetOf x o t) a n (onward x t)
+pub meshes-onward : (x : ℕ) (p : Place) → Leads (p .id) x → (t : Run) (o a n : ℕ) → Parses p t → standingOf o a n t ≡ standingOf (offsetOf x o t) a n (onward x t)
 meshes-onward x p w end o a n h = refl
 meshes-onward x p w (skip id body rest) o a n h = meshes-onward x p w rest (o + (6 + length body)) a n (h .1)
 meshes-onward x p w (known id own kids rest) o a n h = go (eqb id x) refl (meshes-onward x p w rest (o + (6 + length own + size kids)) a n (h .2))
   where
-    go : (b : Bool) → eqb id x ≡ b → meshesOf (o + (6 + length own + size kids)) a n rest ≡ meshesOf (offsetOf x (o + (6 + length own + size kids)) rest) a n (onward x rest) →
-        meshesOf o a n (known id own kids rest) ≡ meshesOf (cond b o (offsetOf x (o + (6 + length own + size kids)) rest)) a n (cond b (known id own kids rest) (onward x rest))
+    go : (b : Bool) → eqb id x ≡ b → standingOf (o + (6 + length own + size kids)) a n rest ≡ standingOf (offsetOf x (o + (6 + length own + size kids)) rest) a n (onward x rest) →
+        standingOf o a n (known id own kids rest) ≡ standingOf (cond b o (offsetOf x (o + (6 + length own + size kids)) rest)) a n (cond b (known id own kids rest) (onward x rest))
     go true e ih = refl
     go false e ih =
         let f = w id (h .0 .in-place) e in
@@ -113,8 +113,8 @@ module _ (x : ℕ) (t : Run) (one : tally (x ∷ []) (identifiers t) ≤ 1) (own
       let b : tally (x ∷ []) (identifiers (known x own kids rest)) ≡ 1 + tally (x ∷ []) (identifiers rest) = rw (eq-eqb x x refl) in
       none-onward x rest (omega arith)
 
-  pub no-more-meshes : (p : Place) → Leads (p .id) x → Parses p rest → (o a n : ℕ) → meshesOf o a n rest ≡ []
-  no-more-meshes p w h o a n = meshes-onward x p w rest o a n h ∙ ap (meshesOf (offsetOf x o rest) a n) no-further
+  pub no-more-meshes : (p : Place) → Leads (p .id) x → Parses p rest → (o a n : ℕ) → standingOf o a n rest ≡ []
+  no-more-meshes p w h o a n = meshes-onward x p w rest o a n h ∙ ap (standingOf (offsetOf x o rest) a n) no-further
 
 -- those of an identifier are at most those of its group
 tally-of-group : (x : ℕ) (g : List ℕ) → among x g ≡ true → (ids : List ℕ) → tally (x ∷ []) ids ≤ tally g ids

@@ -1,7 +1,7 @@
 -- Where a mesh stands in the file, in the words of crate studio_rules.
 use mathlib.Core.Path.{_≡_}
 use mathlib.Core.Bool.{true}
-use mathlib.Core.List.{List}
+use mathlib.Core.List.{List, [], _∷_}
 use mathlib.Core.Option.{none, some}
 use Prim.Native.Nat.{ℕ, _+_, _-_, _*_, _≤_}
 use lib.ListN.{length, drop, getElem?}
@@ -52,6 +52,10 @@ pub record PlaceIs (s : List ℕ) (m : Mesh) (r : Place) : Type 0 where
   pub mapping-fits : r .mapping .count ≤ r .mapping .pairs
   pub pairs-fit : r .mapping .pairs ≤ r .vertices .count
   pub mapping-finite : every finite (numbers 4 (2 * r .mapping .count) (drop (r .mapping .at) s)) ≡ true
+
+-- what a viewer is told of it
+abbrev pub placeNumbers : Place → List ℕ
+placeNumbers r = r .name ∷ r .size ∷ r .vertices .count ∷ r .vertices .at ∷ r .faces .count ∷ r .faces .at ∷ r .mapping .count ∷ r .mapping .at ∷ []
 
 -- the mesh of a number among the meshes of a file
 abbrev pub FoundIs : List ℕ → List Mesh → ℕ → Found → Type 0

@@ -5,6 +5,7 @@ ghost use mathlib.Core.Path.{_≡_};
 ghost use Prim.Native.Nat.{_/_, _%_};
 ghost use Rattle.studio_rules.specs.Encodings.{recordBytes, partBytes};
 ghost use Rattle.studio_rules.specs.Calls.{checkCall, listCall, inBytes, mappingInBytes, tablesCall, nameCall, boxCall, partsCall};
+ghost use Rattle.studio_meshes_rules.specs.Calls.{meshBytes, meshesCall};
 ghost use Rattle.studio_list_table.specs.Listed.{inTable, inRow};
 ghost use Rattle.shared_words.specs.Encodings.{numberBytes};
 ghost use Rattle.studio_mesh_tables.specs.Rows.{twoRows, mappingRow};
@@ -20,14 +21,14 @@ ghost use Rattle.slip_rules.specs.Calls.{byteRow, slipReadCall, givenBytes, sli
 ghost use Rattle.cob_rules.specs.Calls.{checkCall as cobCheckCall, listCall as cobListCall, sizesCall as cobSizesCall, tablesCall as cobTablesCall, recordBytes as cobRecords};
 ghost use Rattle.cob_tables.specs.Rows.{rows as cobRows};
 ghost use Rattle.c_slip.specs.Codes.{entriesOr};
-ghost use Rattle.c_parts.specs.Codes.{partsOr};
+ghost use Rattle.c_counted.specs.Codes.{countedOr};
 ghost use Rattle.c_cob.specs.Codes.{countOr};
 ghost use Rattle.c_sums.specs.Numbers.{sumsOr, zeroOr, sumIn, withPartNumber, joinNumbers};
 
 // The version of the library.
 #[no_mangle]
 pub extern "C" fn tds_version() -> u64
-    ensures { λ n. ⌜ n ≡ versionCode 2 4 0 ⌝ }
+    ensures { λ n. ⌜ n ≡ versionCode 2 5 0 ⌝ }
 {
     c_version::version()
 }
@@ -107,10 +108,19 @@ pub extern "C" fn tds_box(file: &[u8], mesh: u32, out: &mut [u8]) -> u64
 // The count of parts whose fathers and depths now stand in the front of the slice, 8 bytes each, or a refusal.
 #[no_mangle]
 pub extern "C" fn tds_parts(file: &[u8], parts: &mut [u8]) -> u64
-    ensures answer { λ n. ⌜ n ≡ partsOr (partsCall partBytes (now (file .entry)) (now (parts .entry)) .answer) ⌝ }
+    ensures answer { λ n. ⌜ n ≡ countedOr (partsCall partBytes (now (file .entry)) (now (parts .entry)) .answer) ⌝ }
     ensures parts { λ _. ⌜ now (parts .exit) ≡ partsCall partBytes (now (file .entry)) (now (parts .entry)) .rows ⌝ }
 {
-    c_parts::parts_code(studio_parts::parts_bytes(file, parts))
+    c_counted::counted_code(studio_parts::parts_bytes(file, parts))
+}
+
+// The count of meshes, whose eight numbers each now stand in the front of the slice, or a refusal.
+#[no_mangle]
+pub extern "C" fn tds_meshes(file: &[u8], meshes: &mut [u8]) -> u64
+    ensures answer { λ n. ⌜ n ≡ countedOr (meshesCall meshBytes (now (file .entry)) (now (meshes .entry)) .answer) ⌝ }
+    ensures meshes { λ _. ⌜ now (meshes .exit) ≡ meshesCall meshBytes (now (file .entry)) (now (meshes .entry)) .rows ⌝ }
+{
+    c_counted::counted_code(studio_meshes::meshes_bytes(file, meshes))
 }
 
 // The size of the figure that now stands in the front of out, or a refusal.

@@ -1,7 +1,7 @@
 -- The first chunk of the identifier, or none.
 use native.Mathlib.Omega.{arith}
 use borrow.Author.Needs.{needs}
-use Rattle.studio_mesh_find.proofs.Parts.{word-first, counts-first, counts-nowhere}
+use Rattle.studio_mesh_find.proofs.Parts.{word-first, counts-first, counts-nowhere, begins-first, begins-nowhere}
 use Rattle.studio_mesh_find.proofs.elements_of.Statement.{statement}
 use Rattle.studio_mesh_find.proofs.elements_of.Tie as tie
 
@@ -28,12 +28,18 @@ cast-t10 c = search needs
 returns : tie.Need-returns
 returns c =
     let x = c .before .before .before .before in
-    λ p t k e h. counts-first (x .args .id) k e p t (x .args .file .now) (x .args .at) (x .args .stop) h (c .before .before .next-child .result) (c .before .before .next-child .ensures p t h) (c .before .if1 .taken) (c .word-at .result) (c .word-at .ensures .is)
+    let o = c .before .before .next-child in (
+      λ p t k e h. counts-first (x .args .id) k e p t (x .args .file .now) (x .args .at) (x .args .stop) h (o .result) (o .ensures p t h) (c .before .if1 .taken) (c .word-at .result) (c .word-at .ensures .is),
+      λ p t h. begins-first (x .args .id) (x .pre .1 .0) (x .pre .1 .1) p t (x .args .file .now) (x .args .at) (x .args .stop) h (o .result) (o .ensures p t h) (c .before .if1 .taken),
+    )
 
 returns-2 : tie.Need-returns-2
 returns-2 c =
     let x = c .before .before .before in
-    λ p t k e h. counts-nowhere (x .args .id) k e p t (x .args .file .now) (x .args .at) (x .args .stop) h (c .before .next-child .result) (c .before .next-child .ensures p t h) (c .if1 .left)
+    let o = c .before .next-child in (
+      λ p t k e h. counts-nowhere (x .args .id) k e p t (x .args .file .now) (x .args .at) (x .args .stop) h (o .result) (o .ensures p t h) (c .if1 .left),
+      λ p t h. begins-nowhere (x .args .id) (x .pre .1 .0) (x .pre .1 .1) p t (x .args .file .now) (x .args .at) (x .args .stop) h (o .result) (o .ensures p t h) (c .if1 .left),
+    )
 
 pub elements-of-spec : {M : Type 1} → statement M
 elements-of-spec =

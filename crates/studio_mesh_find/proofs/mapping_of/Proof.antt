@@ -1,7 +1,7 @@
 -- The 4140, or none.
 use native.Mathlib.Omega.{arith}
 use borrow.Author.Needs.{needs}
-use Rattle.studio_mesh_find.proofs.Parts.{all-listed, pairs-counted, word-first, mapping-first, mapping-nowhere}
+use Rattle.studio_mesh_find.proofs.Parts.{all-listed, pairs-counted, word-first, mapping-first, mapping-nowhere, begins-first, begins-nowhere}
 use Rattle.studio_mesh_find.proofs.mapping_of.Statement.{statement}
 use Rattle.studio_mesh_find.proofs.mapping_of.Tie as tie
 
@@ -27,14 +27,18 @@ cast-t10 c = search needs
 returns : tie.Need-returns
 returns c =
     let x = c .before .before .before .before in
-    let o = c .before .before .next-child in
-    λ p t n h. mapping-first p t (x .args .file .now) (x .args .at) (x .args .stop) h (o .result) (o .ensures p t h) (c .before .if1 .taken) (c .word-at .result) (c .word-at .ensures .is) (x .args .n) n
+    let o = c .before .before .next-child in (
+      λ p t n h. mapping-first p t (x .args .file .now) (x .args .at) (x .args .stop) h (o .result) (o .ensures p t h) (c .before .if1 .taken) (c .word-at .result) (c .word-at .ensures .is) (x .args .n) n,
+      λ p t h. begins-first 0x4140 8 pairs-counted p t (x .args .file .now) (x .args .at) (x .args .stop) h (o .result) (o .ensures p t h) (c .before .if1 .taken),
+    )
 
 returns-2 : tie.Need-returns-2
 returns-2 c =
     let x = c .before .before .before in
-    let o = c .before .next-child in
-    λ p t n h. mapping-nowhere p t (x .args .file .now) (x .args .at) (x .args .stop) h (o .result) (o .ensures p t h) (c .if1 .left)
+    let o = c .before .next-child in (
+      λ p t n h. mapping-nowhere p t (x .args .file .now) (x .args .at) (x .args .stop) h (o .result) (o .ensures p t h) (c .if1 .left),
+      λ p t h. begins-nowhere 0x4140 8 pairs-counted p t (x .args .file .now) (x .args .at) (x .args .stop) h (o .result) (o .ensures p t h) (c .if1 .left),
+    )
 
 pub mapping-of-spec : {M : Type 1} → statement M
 mapping-of-spec =

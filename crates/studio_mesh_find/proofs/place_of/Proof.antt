@@ -1,5 +1,11 @@
 -- The lists of vertices and of faces, among the children of the mesh.
-use Prim.Native.Nat.{_+_}
+use mathlib.Core.Path.{_≡_}
+use mathlib.Core.List.{List}
+use Prim.Native.Nat.{ℕ, _+_}
+use lib.ListN.{length}
+use Rattle.studio_rules.specs.Layout.{Run, known}
+use Rattle.studio_rules.specs.Rules.{Parent, inside}
+use Rattle.studio_child.specs.Runs.{Spans}
 use native.Mathlib.Omega.{arith}
 use borrow.Author.Needs.{needs}
 use Rattle.studio_child.proofs.Runs.{header-here, kids-at}
@@ -63,12 +69,22 @@ returns c =
     let w = c .before .before .before .long-at in
     let v = c .before .before .elements-of in
     let f = c .before .elements-of2 in
-    λ p own kids rest stop h.
-    let z = mesh-own p own kids rest s a stop h in
-    let k = kids-at p s a stop 0x4100 own kids rest h (a + 6) (w .result) (omega arith) (w .ensures .is) in
-    let vs = v .ensures _ _ 12 vertices-counted k in
-    place-there _ (k .seen) kids s (k .obeys) (p .version) (h .obeys .1 .mapping-matches) (x .args .name) (x .args .size) (v .result) (f .result) (c .mapping-of .result)
-    vs (f .ensures _ _ 8 faces-counted k) (c .mapping-of .ensures _ _ (vs .count-is) k)
+    let m = c .mapping-of in
+    let none : (p : Parent) (own : List ℕ) (kids rest : Run) (stop : ℕ) → Spans p (known 0x4100 own kids rest) s a stop → a + 6 ≡ a + (6 + length own) = λ p own kids rest stop h. let z = mesh-own p own kids rest s a stop h in omega arith in
+    let inner : (p : Parent) (own : List ℕ) (kids rest : Run) (stop : ℕ) (h : Spans p (known 0x4100 own kids rest) s a stop) → Spans (inside p (h .seen) 0x4100 own) kids s (a + 6) (a + w .result) = λ p own kids rest stop h.
+    kids-at p s a stop 0x4100 own kids rest h (a + 6) (w .result) (none p own kids rest stop h) (w .ensures .is) in (
+      λ p own kids rest stop h.
+          let k = inner p own kids rest stop h in
+          let vs = v .ensures .0 _ _ 12 vertices-counted k in
+          place-there _ (k .seen) kids s (k .obeys) (p .version) (h .obeys .1 .mapping-matches) (x .args .name) (x .args .size) (v .result) (f .result) (m .result)
+          vs (f .ensures .0 _ _ 8 faces-counted k) (m .ensures .0 _ _ (vs .count-is) k),
+      λ p own kids rest stop h.
+          let k = inner p own kids rest stop h in
+          let vs = v .ensures .0 _ _ 12 vertices-counted k in
+          let fs = f .ensures .0 _ _ 8 faces-counted k in
+          let ms = m .ensures .0 _ _ (vs .count-is) k in
+          rw (← (none p own kids rest stop h), vs .count-is, v .ensures .1 _ _ k, fs .count-is, f .ensures .1 _ _ k, ms .given .count-is, m .ensures .1 _ _ k),
+    )
 
 pub place-of-spec : {M : Type 1} → statement M
 place-of-spec =

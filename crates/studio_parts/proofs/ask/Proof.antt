@@ -8,7 +8,8 @@ use Rattle.shared_words.proofs.Bytes.{bytes-all}
 use Rattle.studio_rules.specs.declared.Counts.{Counts}
 use Rattle.studio_rules.specs.Rules.{Meets}
 use Rattle.studio_check.proofs.Accepted.{Accepted, accepted-by, meets-by}
-use Rattle.studio_parts.proofs.Called.{file-refused}
+use Rattle.studio_rules.specs.Gives.{parts}
+use Rattle.studio_counted.proofs.All.{file-refused}
 use Rattle.studio_parts.proofs.ask.Statement.{statement}
 use Rattle.studio_parts.proofs.ask.Tie as tie
 
@@ -49,7 +50,7 @@ returns c =
 returns-2 : tie.Need-returns-2
 returns-2 c =
     let x = c .before .before .before .before .before .args in
-    file-refused (x .file .now) (x .room) (sym (c .before .before .before .check .ensures) ∙ c .before .r .given .1)
+    file-refused parts (x .file .now) (x .room) (sym (c .before .before .before .check .ensures) ∙ c .before .r .given .1)
 
 returns-3 : tie.Need-returns-3
 returns-3 c =
