@@ -48,18 +48,18 @@ compile clang c89 "$T/use.c"
 compile "$CC" c89 examples/viewer.c -Wno-conversion
 
 # The lines of C that README shows, with what they take for granted around them.
-sed -n '/^A viewer checks before/,/^Each record/s/^    //p' README.md >"$T/lines"
+sed -n '/^A viewer checks before/,/^`tds_tables` copies/s/^    //p' README.md >"$T/lines"
 {
-    echo '#include <stdlib.h>'
     grep '^#' "$T/lines"
     cat <<'END'
 int refuse(const char *words, uint64_t place);
+int lend_more(uint64_t meshes);
 void draw(const uint8_t *vertices, uint64_t vertices_count, const uint8_t *corners, uint64_t faces_count);
-int view(const uint8_t *file, size_t file_len, uint8_t *vertices, size_t vertices_len, uint8_t *corners, size_t corners_len);
-int view(const uint8_t *file, size_t file_len, uint8_t *vertices, size_t vertices_len, uint8_t *corners, size_t corners_len) {
+int view(const uint8_t *file, size_t file_len, uint8_t *meshes, size_t meshes_len);
+int view(const uint8_t *file, size_t file_len, uint8_t *meshes, size_t meshes_len) {
 END
     grep -v '^#' "$T/lines"
-    echo 'free(list); return 0; }'
+    echo 'return 0; }'
 } >"$T/readme.c"
 compile "$CC" c11 "$T/readme.c"
 if [ "$(grep -c tds_ "$T/lines")" -ge 5 ]; then pass; else fail 'README shows no calls'; fi

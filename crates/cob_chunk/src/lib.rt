@@ -57,7 +57,7 @@ pub fn is_end(k: Kind) -> bool
     match k {
         Kind::End => true,
         Kind::Grou => false,
-        Kind::PolH => false,
+        Kind::PolH => false, // more may follow it
         Kind::Mat1 => false,
         Kind::Other => false,
     }
@@ -68,7 +68,7 @@ pub fn is_mesh(k: Kind) -> bool
 {
     match k {
         Kind::End => false,
-        Kind::Grou => false,
+        Kind::Grou => false, // has no faces of its own
         Kind::PolH => true,
         Kind::Mat1 => false,
         Kind::Other => false,
@@ -82,7 +82,7 @@ pub fn is_listed(k: Kind) -> bool
         Kind::End => true,
         Kind::Grou => true,
         Kind::PolH => true,
-        Kind::Mat1 => true,
+        Kind::Mat1 => true, // its record tells whose it is
         Kind::Other => false,
     }
 }
