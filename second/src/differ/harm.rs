@@ -66,12 +66,7 @@ pub fn harmed(case: usize, random: &mut Random) -> Node {
         None => PARTS[target % PARTS.len()],
     };
     let (first, second) = (harms % HARMS.len(), harms / HARMS.len());
-    let mut root = figure(random, Fill::Full);
-    let paths = root.paths(&|node| node.identifier == identifier);
-    let mut path = paths[random.below(paths.len())].clone();
-    if random.chance(60) {
-        prune(&mut root, &mut path, 0, random);
-    }
+    let (mut root, mut path) = with_chunk(identifier, random);
     for harm in [first.min(second), first.max(second)] {
         harm_at(HARMS[harm], &mut root, &mut path, random);
         if first == second {
@@ -81,15 +76,27 @@ pub fn harmed(case: usize, random: &mut Random) -> Node {
     root
 }
 
-/// A figure with a name that no label takes, and perhaps another fault there.
-pub fn misnamed(random: &mut Random) -> Node {
-    let mut root = figure(random, Fill::Full);
-    let identifier = random.pick(NAMED);
-    let paths = root.paths(&|node| node.identifier == identifier);
+/// A full figure, often pruned, and the way to a chunk of an identifier in
+/// it. Chance may leave that chunk out: then another figure is grown.
+fn with_chunk(identifier: u16, random: &mut Random) -> (Node, Vec<usize>) {
+    let (mut root, paths) = loop {
+        let root = figure(random, Fill::Full);
+        let paths = root.paths(&|node| node.identifier == identifier);
+        if !paths.is_empty() {
+            break (root, paths);
+        }
+    };
     let mut path = paths[random.below(paths.len())].clone();
     if random.chance(60) {
         prune(&mut root, &mut path, 0, random);
     }
+    (root, path)
+}
+
+/// A figure with a name that no label takes, and perhaps another fault there.
+pub fn misnamed(random: &mut Random) -> Node {
+    let identifier = random.pick(NAMED);
+    let (mut root, mut path) = with_chunk(identifier, random);
     let other = random.pick(&[None, Some(Harm::Twice), Some(Harm::Misplaced)]);
     for harm in other.into_iter().chain([Harm::Text]) {
         harm_at(harm, &mut root, &mut path, random);
