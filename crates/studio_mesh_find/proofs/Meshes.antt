@@ -17,6 +17,7 @@ use Rattle.studio_child.specs.Runs.{Spans, onward}
 use Rattle.shared_numbers.specs.Numbers.{longAt}
 use Rattle.studio_child.proofs.Runs.{around, span-size, header-here, kids-here, kids-at, after-known, First, onward-is, onward-spans, first-there, first-nowhere, first-some}
 use Rattle.studio_child.proofs.Figure.{figure-kids}
+use Rattle.studio_mesh_find.specs.Runs.{ObjectsAt}
 use Rattle.studio_mesh_find.proofs.Parts.{objects-own}
 use Rattle.studio_mesh_find.proofs.Ways.{no-meshes, meshes-onward, no-more-meshes, to-objects, to-object, to-mesh, one-3D3D, one-4100, some-3D3D}
 
@@ -169,3 +170,20 @@ module _ (s : List ℕ) (kids : Run) (m : Meets s kids) where
           append-nil (standingOf (at + (6 + length (f .own))) (at + 6) (length (f .own) - 1) (f .kids)),
           z,
         )
+
+    -- and all of them stand from the first object on
+    pub objects-from : (n : ℕ) → n ≡ longAt s (o + 2) → (from : ℕ) → from ≡ offsetOf 0x4000 (o + 6) (objects .kids) → ObjectsAt s kids from (o + n)
+    objects-from n g from f =
+        let p : Parent = inside (top (version kids)) (here-too .seen) 0x3D3D (objects .own) in
+        let nameAt : ℕ = offsetOf 0x3D3D 6 kids + 6 in
+        let nameLength : ℕ = length (objects .own) - 1 in
+        let before = none-before p refl (objects .kids) s (o + 6) (o + n) nameAt nameLength (objects-spans n g) in
+        record {
+          p = p;
+          t = onward 0x4000 (before .tail);
+          id = refl;
+          spans = rw f (before .spans);
+          nameAt = nameAt;
+          nameLength = nameLength;
+          meshes-in = rw f (meshes-are ∙ before .split);
+        }

@@ -12,7 +12,7 @@ use Rattle.studio_child.specs.Runs.{Spans}
 abbrev pub SomeObjects : List ℕ → ℕ → ℕ → Type 0
 SomeObjects s at stop = (p : Parent) × (t : Run) × (p .id ≡ 0x3D3D) × Spans p t s at stop
 
--- those of the figure, where they stand in its file: its meshes are the ones in them
+-- those of the figure from some object on, where they stand in its file: its meshes are the ones in them
 pub record ObjectsAt (s : List ℕ) (kids : Run) (from stop : ℕ) : Type 0 where
   pub p : Parent
   pub t : Run

@@ -49,7 +49,7 @@ pub struct Place {
     pub mapping: Mapping,
 }
 
-// Where the objects of a figure stand, and what else is in its 3D3D.
+// Where the objects of a figure stand, with what else is between and behind them.
 pub struct Between {
     pub from: usize,
     pub stop: usize,
@@ -152,16 +152,15 @@ fn find_among(file: &[u8], from: usize, stop: usize, mesh: usize) -> Found
     Found::Meshes(before)
 }
 
-// Where the children of the one 3D3D stand.
+// Where the objects stand: from the first of them to the end of the one 3D3D.
 pub fn find_objects(file: &[u8]) -> Between
     requires { ⌜ Accepted (now file) ⌝ }
     ensures { λ r. ⌜ ((kids : Run) → Meets (now (file .entry)) kids → ObjectsAt (now (file .entry)) kids (r .from) (r .stop)) ⌝ }
 {
     let at = next_child(file, 0x3D3D, 6, file.len());
-    Between {
-        from: at + 6,
-        stop: at + long_at(file, at + 2) as usize,
-    }
+    let stop = at + long_at(file, at + 2) as usize;
+    let from = next_child(file, 0x4000, at + 6, stop);
+    Between { from, stop }
 }
 
 // The mesh of a number in an accepted file.
