@@ -12,7 +12,7 @@
 static atomic_llong asked;
 
 /* Some send it twice at once, to the program and to all of its group, as timeout(1) does. */
-enum { AT_ONCE = 250 };
+enum { AT_ONCE = 50 };
 
 static long long milliseconds(void) {
     struct timespec now;
@@ -51,6 +51,12 @@ void stop_on_signals(void) {
      */
     sigemptyset(&ignored.sa_mask);
     sigaction(SIGPIPE, &ignored, NULL);
+}
+
+void stop_not_here(void) {
+    sigset_t all;
+    sigfillset(&all);
+    pthread_sigmask(SIG_BLOCK, &all, NULL);
 }
 
 bool stopped(void) {
