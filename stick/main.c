@@ -37,11 +37,13 @@ static void *work_on_job(void *argument) {
     return NULL;
 }
 
-/* Works in a thread that has room; where none is to be had, in this one. */
+/* Works in a thread that has room, and signals are for that one; where none is to be had, in this
+ * one. */
 static int work_with_room(const struct options *options) {
     struct job job = {options, 2};
     pthread_t thread;
     if (roomy_start(&thread, work_on_job, &job)) {
+        stop_not_here();
         pthread_join(thread, NULL);
     } else {
         work_on_job(&job);

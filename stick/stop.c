@@ -5,16 +5,28 @@
 #include <signal.h>
 #include <stdatomic.h>
 #include <stddef.h>
+#include <time.h>
 #include <unistd.h>
 
-static atomic_int asked;
+/* When it was asked for first, in milliseconds; 0 until then. */
+static atomic_llong asked;
+
+/* Some send it twice at once, to the program and to all of its group, as timeout(1) does. */
+enum { AT_ONCE = 50 };
+
+static long long milliseconds(void) {
+    struct timespec now;
+    clock_gettime(CLOCK_MONOTONIC, &now);
+    return 1 + now.tv_sec * 1000LL + now.tv_nsec / 1000000;
+}
 
 /* A stick that has stopped answering can hold a reader for minutes: then the second time ends it.
  */
 static void on_signal(int number) {
     static const char words[] = "\nDO NOT SEAL: not finished\n";
+    long long now = milliseconds(), first = 0;
     (void)number;
-    if (atomic_fetch_add(&asked, 1) > 0) {
+    if (!atomic_compare_exchange_strong(&asked, &first, now) && now - first > AT_ONCE) {
         ssize_t written = write(STDERR_FILENO, words, sizeof words - 1);
         (void)written; /* there is no one left to tell */
         _exit(2);
@@ -41,6 +53,12 @@ void stop_on_signals(void) {
     sigaction(SIGPIPE, &ignored, NULL);
 }
 
+void stop_not_here(void) {
+    sigset_t all;
+    sigfillset(&all);
+    pthread_sigmask(SIG_BLOCK, &all, NULL);
+}
+
 bool stopped(void) {
-    return atomic_load(&asked) > 0;
+    return atomic_load(&asked) != 0;
 }

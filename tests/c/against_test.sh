@@ -184,7 +184,7 @@ matches out "\{\"path\":\"$F/adze.3ds\",\"result\":\"OK\"\}"
 matches out "\{\"path\":\"$F/a\\\\\"b\\\\\\\\\\\\\\\\.3ds\",\"result\":\"refused\",\"refusal\":4,\"name\":\"SHORT\",\"place\":[0-9]+,\"words\":\"[^\"]+\",\"remedy\":\"[^\"]+\"\}"
 has out 'c\\xFF\\x0A.3ds","result":"refused","refusal":2'
 matches out "\{\"path\":\"$F/\._adze.3ds\",\"result\":\"left by another computer\",\"remedy\":\"delete it\"\}"
-has out 'd.3ds.part","result":"not checked"'
+has out 'd.3ds.part","result":"not checked","words":"it is almost named as a figure","remedy":"copy the figure again, and delete this"'
 has out 'link.3ds","result":"not checked","words":"it is a link, and links are not followed"'
 has out 'notes.txt","result":"not looked at","words":"of no known kind"'
 if grep -q "\"not_checked\":$(grep -c '"result":"not checked"' "$T/out")," "$T/out"; then pass; else fail 'another count of what was not checked'; fi
