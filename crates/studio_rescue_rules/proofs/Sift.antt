@@ -37,7 +37,7 @@ failed : (v o : ℕ) (r : Refusal) (piece pre post : List ℕ) → length pre �
 failed v o r piece pre post e w = record { stands = rw (drop-at pre (piece ++ post) o e) (take-at piece post (length piece) refl); fault = r; fails = w; number-is = refl }
 
 -- a bad header: all goes
-bad-header : (v o x : ℕ) (s : List ℕ) (r : Refusal) → broken (headerConditions o (x ∷ s) (lengthField (x ∷ s))) ≡ some r → walk (scene v) [] o (x ∷ s) ≡ refused r
+pub bad-header : (v o x : ℕ) (s : List ℕ) (r : Refusal) → broken (headerConditions o (x ∷ s) (lengthField (x ∷ s))) ≡ some r → walk (scene v) [] o (x ∷ s) ≡ refused r
 unfolding step
 bad-header v o x s r e = walk-cons (scene v) [] o x s ∙ rw e
 
