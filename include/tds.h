@@ -70,7 +70,7 @@ extern "C" {
  * lent may be filled in another way than it was built for. (Version 1 had six numbers a record, and
  * no tds_version.) CHANGELOG.md says what came with each.
  */
-#define TDS_VERSION (65536 * 2 + 256 * 4 + 0)
+#define TDS_VERSION (65536 * 2 + 256 * 5 + 0)
 uint64_t tds_version(void);
 
 /* No file longer than this is a figure. One byte more is enough to hand to tds_check to be told. */
@@ -295,6 +295,37 @@ enum tds_part {
 #define TDS_ID_KEYFRAMER 0xB000u
 #define TDS_ID_PART 0xB002u
 #define TDS_ID_PART_HEAD 0xB010u
+
+/*
+ * What is left of a damaged figure: a mended one, for looking at and not for packing, since parts
+ * of it are missing.
+ *
+ * Each chunk directly in 3D3D is judged by itself, and cut where it fails. Where one has a bad
+ * header (4, 5), or stray bytes stand there (6), nothing tells where the next begins: everything
+ * from it to the end of 3D3D goes. Chunks that are not known are never cut, unless they are behind
+ * such a header. The lengths of 3D3D and of 4D4D are lowered; every other byte stays as it was.
+ * tds_check accepts what comes out, and a figure that it accepts comes out unchanged, with no cuts.
+ *
+ * Fills three numbers a cut, 12 bytes, in the order of enum tds_cut and of the file; tds_get_cut
+ * reads one of them. Putting the removed bytes back at their offsets, in order, and the two
+ * lengths, gives the damaged file. Fills the mended figure from the start of `out`: file_len less
+ * all bytes removed. Answers the count of cuts; or refuses with the first fault outside 3D3D's
+ * children, wherever it stands, since nothing mends it; then 15 with the cuts needed; then 15 with
+ * the bytes needed (place). There are fewer cuts than file_len / 6, so room for so many, and
+ * file_len bytes, is always enough. Room is cuts_len / TDS_CUT_BYTES cuts, and out_len bytes. The
+ * file is not changed, and `out` does not overlap it. Each child is judged twice.
+ */
+uint64_t tds_rescue(const uint8_t *file, size_t file_len, uint8_t *cuts, size_t cuts_len,
+                    uint8_t *out, size_t out_len);
+
+#define TDS_CUT_NUMBERS 3
+#define TDS_CUT_BYTES (4 * TDS_CUT_NUMBERS)
+
+enum tds_cut {
+    TDS_CUT_OFFSET = 0, /* of the chunk that was cut, in the damaged file */
+    TDS_CUT_NUMBER = 1, /* its refusal, an enum tds_refusal: the first fault in it */
+    TDS_CUT_REMOVED = 2 /* how many bytes were removed */
+};
 
 /*
  * Writes a bare figure: one object with one mesh.
@@ -570,6 +601,11 @@ TDS_INLINE uint32_t tds_get_entry(const uint8_t *entries, size_t entry, enum tds
 /* One number of one part. */
 TDS_INLINE uint32_t tds_get_part(const uint8_t *parts, size_t part, enum tds_part number) {
     return tds_get4(parts + part * TDS_PART_BYTES + 4 * (size_t)number);
+}
+
+/* One number of one cut. */
+TDS_INLINE uint32_t tds_get_cut(const uint8_t *cuts, size_t cut, enum tds_cut number) {
+    return tds_get4(cuts + cut * TDS_CUT_BYTES + 4 * (size_t)number);
 }
 
 /* One number of one record of a filled list of a Caligari figure. */

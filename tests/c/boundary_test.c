@@ -13,6 +13,7 @@
 #include "mapping_cases.h"
 #include "mesh_cases.h"
 #include "parts_cases.h"
+#include "rescue_cases.h"
 #include "slices.h"
 #include "slip_cases.h"
 #include "tds.h"
@@ -342,6 +343,7 @@ int main(void) {
     try_meshes();
     try_mappings();
     try_parts();
+    try_rescue();
     try_writer();
     try_slips();
     try_cobs();

@@ -21,13 +21,16 @@ ghost use Rattle.cob_rules.specs.Calls.{checkCall as cobCheckCall, listCall as 
 ghost use Rattle.cob_tables.specs.Rows.{rows as cobRows};
 ghost use Rattle.c_slip.specs.Codes.{entriesOr};
 ghost use Rattle.c_parts.specs.Codes.{partsOr};
+ghost use Rattle.studio_rescue_rules.specs.Call.{cutBytes, rescueCall};
+ghost use Rattle.studio_rescue.specs.Parts.{twoRows as rescueRows};
+ghost use Rattle.c_rescue.specs.Codes.{cutsOr};
 ghost use Rattle.c_cob.specs.Codes.{countOr};
 ghost use Rattle.c_sums.specs.Numbers.{sumsOr, zeroOr, sumIn, withPartNumber, joinNumbers};
 
 // The version of the library.
 #[no_mangle]
 pub extern "C" fn tds_version() -> u64
-    ensures { λ n. ⌜ n ≡ versionCode 2 4 0 ⌝ }
+    ensures { λ n. ⌜ n ≡ versionCode 2 5 0 ⌝ }
 {
     c_version::version()
 }
@@ -111,6 +114,16 @@ pub extern "C" fn tds_parts(file: &[u8], parts: &mut [u8]) -> u64
     ensures parts { λ _. ⌜ now (parts .exit) ≡ partsCall partBytes (now (file .entry)) (now (parts .entry)) .rows ⌝ }
 {
     c_parts::parts_code(studio_parts::parts_bytes(file, parts))
+}
+
+// The count of cuts that now stand in the front of the first slice, 12 bytes each, the mended file in the front of the second, or a
+// refusal.
+#[no_mangle]
+pub extern "C" fn tds_rescue(file: &[u8], cuts: &mut [u8], out: &mut [u8]) -> u64
+    ensures answer { λ n. ⌜ n ≡ cutsOr (rescueCall cutBytes (now (file .entry)) (rescueRows (now (cuts .entry)) (now (out .entry))) .answer) ⌝ }
+    ensures rows { λ _. ⌜ rescueRows (now (cuts .exit)) (now (out .exit)) ≡ rescueCall cutBytes (now (file .entry)) (rescueRows (now (cuts .entry)) (now (out .entry))) .rows ⌝ }
+{
+    c_rescue::mended_code(studio_rescue::rescue(file, cuts, out))
 }
 
 // The size of the figure that now stands in the front of out, or a refusal.
