@@ -96,7 +96,7 @@ enum tds_refusal {
     TDS_INDEX = 12,        /* a corner or face number that does not exist */
     TDS_COUNT = 13,        /* more mapping pairs than vertices; from version 3 on, or fewer */
     TDS_MISSING = 14,      /* a chunk that must be there is not (place: the chunk around it) */
-    TDS_NO_ROOM = 15,      /* a lent slice is too small (place: records, numbers, parts needed) */
+    TDS_NO_ROOM = 15,      /* a lent slice is too small (place: how much is needed) */
     TDS_NO_SUCH_MESH = 16, /* the file is good but has no such mesh (place: how many it has) */
     TDS_EMPTY = 17,        /* the file is good but the mesh has no vertices, so no box (place 0) */
     TDS_SLIP = 18,         /* a slip that breaks its rules (place: see the calls about slips) */
