@@ -100,7 +100,7 @@ enum tds_refusal {
     TDS_INDEX = 12,        /* a corner or face number that does not exist */
     TDS_COUNT = 13,        /* more mapping pairs than vertices; from version 3 on, or fewer */
     TDS_MISSING = 14,      /* a chunk that must be there is not (place: the chunk around it) */
-    TDS_NO_ROOM = 15,      /* a lent slice is too small (place: how many things it needs) */
+    TDS_NO_ROOM = 15,      /* a lent slice is too small (place: how much is needed) */
     TDS_NO_SUCH_MESH = 16, /* the file is good but has no such mesh (place: how many it has) */
     TDS_EMPTY = 17,        /* the file is good but the mesh has no vertices, so no box (place 0) */
     TDS_SLIP = 18,         /* a slip that breaks its rules (place: see the calls about slips) */
@@ -328,6 +328,37 @@ enum tds_part {
 #define TDS_ID_KEYFRAMER 0xB000u
 #define TDS_ID_PART 0xB002u
 #define TDS_ID_PART_HEAD 0xB010u
+
+/*
+ * What is left of a damaged figure: a mended one, for looking at and not for packing, since parts
+ * of it are missing.
+ *
+ * Each chunk directly in 3D3D is judged by itself, and cut where it fails. Where one has a bad
+ * header (4, 5), or stray bytes stand there (6), nothing tells where the next begins: everything
+ * from it to the end of 3D3D goes. Chunks that are not known are never cut, unless they are behind
+ * such a header. The lengths of 3D3D and of 4D4D are lowered; every other byte stays as it was.
+ * tds_check accepts what comes out, and a figure that it accepts comes out unchanged, with no cuts.
+ *
+ * Fills three numbers a cut, 12 bytes, in the order of enum tds_cut and of the file; tds_get_cut
+ * reads one of them. Putting the removed bytes back at their offsets, in order, and the two
+ * lengths, gives the damaged file. Fills the mended figure from the start of `out`: file_len less
+ * all bytes removed. Answers the count of cuts; or refuses with the first fault outside 3D3D's
+ * children, wherever it stands, since nothing mends it; then 15 with the cuts needed; then 15 with
+ * the bytes needed (place). There are fewer cuts than file_len / 6, so room for so many, and
+ * file_len bytes, is always enough. Room is cuts_len / TDS_CUT_BYTES cuts, and out_len bytes. The
+ * file is not changed, and `out` does not overlap it. Each child is judged twice.
+ */
+uint64_t tds_rescue(const uint8_t *file, size_t file_len, uint8_t *cuts, size_t cuts_len,
+                    uint8_t *out, size_t out_len);
+
+#define TDS_CUT_NUMBERS 3
+#define TDS_CUT_BYTES (4 * TDS_CUT_NUMBERS)
+
+enum tds_cut {
+    TDS_CUT_OFFSET = 0, /* of the chunk that was cut, in the damaged file */
+    TDS_CUT_NUMBER = 1, /* its refusal, an enum tds_refusal: the first fault in it */
+    TDS_CUT_REMOVED = 2 /* how many bytes were removed */
+};
 
 /*
  * Writes a bare figure: one object with one mesh.
@@ -608,6 +639,11 @@ TDS_INLINE uint32_t tds_get_mesh(const uint8_t *meshes, size_t mesh, enum tds_me
 /* One number of one part. */
 TDS_INLINE uint32_t tds_get_part(const uint8_t *parts, size_t part, enum tds_part number) {
     return tds_get4(parts + part * TDS_PART_BYTES + 4 * (size_t)number);
+}
+
+/* One number of one cut. */
+TDS_INLINE uint32_t tds_get_cut(const uint8_t *cuts, size_t cut, enum tds_cut number) {
+    return tds_get4(cuts + cut * TDS_CUT_BYTES + 4 * (size_t)number);
 }
 
 /* One number of one record of a filled list of a Caligari figure. */

@@ -8,6 +8,7 @@
 #include "batch.h"
 #include "options.h"
 #include "refusals.h"
+#include "rescue.h"
 #include "roomy.h"
 #include "stop.h"
 
@@ -84,6 +85,10 @@ int main(int argc, char **argv) {
         setvbuf(stderr, NULL, _IOLBF, BUFSIZ); /* and is whole */
         stop_on_signals();
         return work_with_room(&options);
+    case TASK_RESCUE: {
+        int status = rescue(options.rescue, options.arguments[0]);
+        return printed() == 0 ? status : 2;
+    }
     case TASK_HELP:
         print_help();
         return printed();

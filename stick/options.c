@@ -18,7 +18,8 @@ enum {
     OPTION_COPY,
     OPTION_BATCH,
     OPTION_LOG,
-    OPTION_WRITE_SLIP
+    OPTION_WRITE_SLIP,
+    OPTION_RESCUE
 };
 
 static const struct option names[] = {
@@ -34,12 +35,14 @@ static const struct option names[] = {
     {"batch", required_argument, NULL, OPTION_BATCH},
     {"log", required_argument, NULL, OPTION_LOG},
     {"write-slip", no_argument, NULL, OPTION_WRITE_SLIP},
+    {"rescue", required_argument, NULL, OPTION_RESCUE},
     {NULL, 0, NULL, 0},
 };
 
 void print_help(void) {
     printf("Usage: stick [OPTION]... FOLDER...\n"
            "       stick --copy EDITION [OPTION]... FOLDER...\n"
+           "       stick --rescue DAMAGED MENDED\n"
            "Checks every figure (.3ds, .cob, .c4d) in each FOLDER and below it, and says in\n"
            "plain words which are damaged, where, and what to do. The last line begins with\n"
            "PASS or DO NOT SEAL. Several FOLDERs are worked on at once; one may also be a\n"
@@ -49,6 +52,8 @@ void print_help(void) {
            "      --copy EDITION    first copy what is in EDITION and not in a FOLDER yet,\n"
            "                        then check and compare; nothing there is changed\n"
            "      --write-slip      where all is well, write a slip that says what is there\n"
+           "      --rescue DAMAGED  write what is left of a damaged figure (.3ds) to the new\n"
+           "                        file MENDED, and say what was cut\n"
            "      --batch N         N sticks one after another at the same FOLDER\n"
            "      --log FILE        where the batch is logged (stick-batch-DATE.log)\n"
            "  -v, --verbose         a line for each good file too\n"
@@ -132,6 +137,9 @@ static void take(struct options *options, int option) {
     case OPTION_LOG:
         options->log = optarg;
         break;
+    case OPTION_RESCUE:
+        options->rescue = optarg;
+        break;
     case 'h':
         options->task = TASK_HELP;
         break;
@@ -166,9 +174,25 @@ static void take_with_word(struct options *options, int option) {
     }
 }
 
+/* A rescue is of one figure, and nothing else is done with it. */
+static void judge_rescue(struct options *options) {
+    if (options->against != NULL || options->edition != NULL || options->write_slip ||
+        options->batch > 0) {
+        mistake(options, "one figure is mended, and nothing else done: leave all but ", "--rescue",
+                " away");
+    } else if (options->count != 1) {
+        mistake(options, "which new file is what is left of ", options->rescue,
+                " to go to? For example: stick --rescue adze.3ds what-is-left.3ds");
+    } else {
+        options->task = TASK_RESCUE;
+    }
+}
+
 /* What only the whole command line can tell. */
 static void judge(struct options *options) {
-    if (options->count == 0) {
+    if (options->rescue != NULL) {
+        judge_rescue(options);
+    } else if (options->count == 0) {
         fprintf(stderr, "stick: which folder is to be checked? For example: stick /media/stick\n"
                         "Try 'stick --help'.\n");
         options->task = TASK_MISTAKE;

@@ -9,7 +9,7 @@
 
 struct refusal;
 
-enum task { TASK_WORK, TASK_HELP, TASK_VERSION, TASK_EXPLAIN, TASK_MISTAKE };
+enum task { TASK_WORK, TASK_RESCUE, TASK_HELP, TASK_VERSION, TASK_EXPLAIN, TASK_MISTAKE };
 
 struct options {
     enum task task;
@@ -18,6 +18,7 @@ struct options {
     const char *edition;           /* what is to be copied first, or NULL */
     bool write_slip;               /* for each folder in which all is well */
     unsigned long batch;           /* how many sticks one after another; 0 without --batch */
+    const char *rescue;            /* a damaged figure that is to be mended, or NULL */
     const char *log;               /* of the batch, or NULL for the usual name */
     const struct refusal *explain; /* for TASK_EXPLAIN */
     char **arguments;              /* folders and files */

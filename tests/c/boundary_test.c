@@ -14,6 +14,7 @@
 #include "mapping_cases.h"
 #include "mesh_cases.h"
 #include "parts_cases.h"
+#include "rescue_cases.h"
 #include "slices.h"
 #include "slip_cases.h"
 #include "tds.h"
@@ -344,6 +345,7 @@ int main(void) {
     try_mappings();
     try_all_meshes();
     try_parts();
+    try_rescue();
     try_writer();
     try_slips();
     try_cobs();

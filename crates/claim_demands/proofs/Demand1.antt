@@ -28,12 +28,15 @@ use Rattle.studio_counted.proofs.All.{all-parts}
 use Rattle.studio_meshes_rules.specs.Standing.{standing}
 use Rattle.studio_meshes_rules.specs.Calls.{meshesCall}
 use Rattle.shared_words.proofs.Refusals.{numbered}
+use Rattle.studio_rescue_rules.specs.declared.Mended.{Mended}
+use Rattle.studio_rescue_rules.specs.Rescue.{Cut, Rescued, beyond, saved, rescue}
+use Rattle.studio_rescue_rules.specs.Call.{Lent, callOf, rescueCall}
 use Rattle.shared_words.specs.declared.Written.{Written}
 use Rattle.shared_words.specs.declared.Written.the-variants.{Size, Refused}
 use Rattle.studio_write_judge.specs.Judged.{judged}
 use Rattle.studio_write.specs.Write.{writing, writeCall}
 use Rattle.shared_words.specs.Refusals.{codeOf}
-use Rattle.claim_demands.specs.Demand1.{RefusedWith, Answered, AnsweredOn, around, Demand1}
+use Rattle.claim_demands.specs.Demand1.{RefusedWith, Answered, AnsweredOn, around, mended, Demand1}
 
 -- ---- a refusal
 
@@ -66,6 +69,9 @@ name-apart r q e = cc
 
 box-apart : Apart Boxed.Refused
 box-apart r q e = cc
+
+mended-apart : Apart Mended.Refused
+mended-apart r q e = cc
 
 write-apart : Apart Written.Refused
 write-apart r q e = cc
@@ -116,6 +122,15 @@ all-things things e row (accepted kids) =
 boxed : (m : Mesh) → Answered around Boxed.Refused (aroundOf m)
 boxed m = by-test (Answered around Boxed.Refused) (eqb (m .vertexCount) 0) (refuses around Boxed.Refused box-apart Empty) (inl (_, refl))
 
+rescued : {A : Type 0} (e : Encoding Cut A) (rows : Lent A) (x : Rescued) → AnsweredOn mended Mended.Refused rows (callOf e rows x)
+rescued e rows (beyond r) = leaves mended Mended.Refused mended-apart rows r
+rescued e rows (saved s cuts) =
+    by-test (AnsweredOn mended Mended.Refused rows) (leb (length cuts) (e .room (length (rows .cuts))))
+    (by-test (AnsweredOn mended Mended.Refused rows) (leb (length s) (length (rows .out)))
+    (inl ((length cuts, length s), refl))
+    (leaves mended Mended.Refused mended-apart rows (NoRoom (length s))))
+    (leaves mended Mended.Refused mended-apart rows (NoRoom (length cuts)))
+
 written : (file out : List ℕ) (w : Written) → AnsweredOn Size Refused out (writing file out w)
 written file out (Refused r) = leaves Size Refused write-apart out r
 written file out (Size size) = inl (size, refl)
@@ -123,7 +138,7 @@ written file out (Size size) = inl (size, refl)
 -- ---- the demand
 
 pub demand1 : Demand1
-unfolding checkCall listCall tablesCall nameCall boxCall meshesCall writeCall
+unfolding checkCall listCall tablesCall nameCall boxCall meshesCall rescueCall writeCall
 demand1 = record {
   check = λ s. checked (verdict s);
   list = λ e s row. listed e row (verdict s);
@@ -136,5 +151,6 @@ demand1 = record {
       by-mesh (Answered Named.At Named.Refused) Named.Refused nameOf (refuses Named.At Named.Refused name-apart) (λ m. inl (_, refl)) mesh (verdict s);
   box = λ s mesh.
       by-mesh (Answered around Boxed.Refused) Boxed.Refused aroundOf (refuses around Boxed.Refused box-apart) boxed mesh (verdict s);
+  rescue = λ e s rows. rescued e rows (rescue s);
   write = λ name vertices corners out. written _ out (judged name vertices corners (length out));
 }

@@ -22,6 +22,9 @@ use Rattle.studio_rules.specs.Gives.{Part}
 use Rattle.studio_rules.specs.Calls.{checkCall, listCall, Rows, Tables, tablesCall, nameCall, boxCall, partsCall}
 use Rattle.studio_meshes_rules.specs.Standing.{Standing}
 use Rattle.studio_meshes_rules.specs.Calls.{meshesCall}
+use Rattle.studio_rescue_rules.specs.declared.Mended.{Mended}
+use Rattle.studio_rescue_rules.specs.Rescue.{Cut}
+use Rattle.studio_rescue_rules.specs.Call.{Lent, rescueCall}
 use Rattle.shared_words.specs.declared.Written.{Written}
 use Rattle.studio_write.specs.Write.{writeCall}
 
@@ -47,6 +50,10 @@ AnsweredOn {X} accept refuse lent e =
 abbrev pub around : BoundingBox × Corner → Boxed
 around b = Boxed.Around (b .0) (b .1)
 
+-- how many cuts and how many bytes, as one
+abbrev pub mended : ℕ × ℕ → Mended
+mended x = Mended.Written (x .0) (x .1)
+
 pub record Demand1 : Type 1 where
   pub check : (s : List ℕ) → Answered Checked.Accepted Checked.Refused (checkCall s)
   pub list : {A : Type 0} (e : Encoding Record A) (s : List ℕ) (row : List A) →
@@ -59,5 +66,6 @@ pub record Demand1 : Type 1 where
       AnsweredOn Counted.Filled Counted.Refused row (meshesCall e s row)
   pub name : (s : List ℕ) (mesh : ℕ) → Answered Named.At Named.Refused (nameCall s mesh)
   pub box : (s : List ℕ) (mesh : ℕ) → Answered around Boxed.Refused (boxCall s mesh)
+  pub rescue : {A : Type 0} (e : Encoding Cut A) (s : List ℕ) (rows : Lent A) → AnsweredOn mended Mended.Refused rows (rescueCall e s rows)
   pub write : (name : List ℕ) (vertices : List Float) (corners out : List ℕ) →
       AnsweredOn Written.Size Written.Refused out (writeCall name vertices corners out)

@@ -1,4 +1,5 @@
 pub mod Places
 pub mod Meshes
 pub mod Parts
+pub mod Rescues
 pub mod Told

@@ -27,7 +27,7 @@ abbrev PlacesTo : ℕ → List Condition → Type 0
 PlacesTo n [] = Unit
 PlacesTo n (must b r ∷ cs) = (placeOf r ≤ n) × PlacesTo n cs
 
-abbrev PlaceTo : ℕ → Option Refusal → Type 0
+abbrev pub PlaceTo : ℕ → Option Refusal → Type 0
 PlaceTo n none = Unit
 PlaceTo n (some r) = placeOf r ≤ n
 
@@ -73,7 +73,7 @@ step-in p seen o s =
 
 -- ---- a run of n bytes at offset o
 
-abbrev RunIn : ℕ → ℕ → Answer Run → Type 0
+abbrev pub RunIn : ℕ → ℕ → Answer Run → Type 0
 RunIn o n (refused r) = placeOf r ≤ o + n
 RunIn o n (accepted t) = size t ≤ n
 
@@ -128,7 +128,7 @@ run-in zero p seen o s = omega arith
 run-in (suc k) p seen o [] = omega arith
 run-in (suc k) p seen o (b ∷ bs) = taken-in (run k) (run-in k) p seen o (length (b ∷ bs)) (step p seen o (b ∷ bs)) (step-in p seen o (b ∷ bs))
 
-walk-in : (p : Parent) (seen : List ℕ) (o : ℕ) (s : List ℕ) → RunIn o (length s) (walk p seen o s)
+pub walk-in : (p : Parent) (seen : List ℕ) (o : ℕ) (s : List ℕ) → RunIn o (length s) (walk p seen o s)
 unfolding walk
 walk-in p seen o s = run-in (suc (length s)) p seen o s
 
@@ -149,7 +149,7 @@ asked-to n [] h = tt
 asked-to n (must true r ∷ cs) h = asked-to n cs (h .1 refl)
 asked-to n (must false r ∷ cs) h = h .0 refl
 
-file-to : (s : List ℕ) (n : ℕ) → PlaceTo limit (broken (fileConditions s n))
+pub file-to : (s : List ℕ) (n : ℕ) → PlaceTo limit (broken (fileConditions s n))
 file-to s n =
     asked-to limit (fileConditions s n)
     (λ _. omega arith, λ l. (λ _. omega arith, λ _. (λ _. omega arith, λ _. (λ _. omega arith, λ _. (λ _. omega arith, λ _. (λ t. omega (arith, leb-true (length s) limit l, leb-false (length s) n t), λ _. tt))))))

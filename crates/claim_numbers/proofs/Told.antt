@@ -42,9 +42,14 @@ use Rattle.studio_write.specs.Write.{writing, writeCall}
 use Rattle.c_codes.specs.Codes.{refusalCode, recordsOr, sizesOr, numbersOr, sizeOr}
 use Rattle.c_answers.specs.Given.{given, nine, countsGiven, nameGiven, boxGiven}
 use Rattle.c_counted.specs.Codes.{countedOr}
-use Rattle.claim_numbers.specs.Told.{Proper, Tells, TellsCapped, CheckTold, TablesTold, CountedTold, WriteTold, Gives, CountsTold, NameTold, BoxTold, Told}
+use Rattle.studio_rescue_rules.specs.declared.Mended.{Mended}
+use Rattle.studio_rescue_rules.specs.Rescue.{Cut, Rescued, beyond, saved, rescue}
+use Rattle.studio_rescue_rules.specs.Call.{Lent, callOf, rescueCall}
+use Rattle.c_rescue.specs.Codes.{cutsOr}
+use Rattle.claim_numbers.specs.Told.{Proper, Tells, TellsCapped, CheckTold, TablesTold, CountedTold, RescueTold, WriteTold, Gives, CountsTold, NameTold, BoxTold, Told}
 use Rattle.claim_numbers.proofs.Places.{Within, verdict-within}
 use Rattle.claim_numbers.proofs.Parts.{parts-few}
+use Rattle.claim_numbers.proofs.Rescues.{RescueWithin, rescue-within}
 use Rattle.claim_numbers.proofs.Meshes.{records-few, meshes-few, Small, SmallAt, small-at, meshes-small}
 
 -- ---- a refusal
@@ -94,6 +99,14 @@ all-told things e row few (refused r) h = tells r h
 all-told {X} {A} things e row few (accepted kids) h =
     by-test (λ (x : Effect Counted (List A)). CountedTold (x .answer) (countedOr (x .answer))) (leb (length (things kids)) (e .room (length row)))
     (omega (arith, few kids)) (tells (NoRoom (length (things kids))) (omega (arith, few kids)))
+
+-- ---- the rescue
+
+rescue-told : {A : Type 0} (e : Encoding Cut A) (rows : Lent A) (x : Rescued) → RescueWithin x → RescueTold (callOf e rows x .answer) (cutsOr (callOf e rows x .answer))
+rescue-told e rows (beyond r) h = tells r h
+rescue-told {A} e rows (saved s cuts) h =
+    let T : Effect Mended (Lent A) → Type 0 = λ x. RescueTold (x .answer) (cutsOr (x .answer)) in
+    by-test T (leb (length cuts) (e .room (length (rows .cuts)))) (by-test T (leb (length s) (length (rows .out))) (omega (arith, h .0)) (tells (NoRoom (length s)) (h .1))) (tells (NoRoom (length cuts)) (h .0))
 
 -- ---- one mesh
 
@@ -164,7 +177,7 @@ write-told name vertices corners out file = go (broken (writeConditions name ver
 -- ---- THE THEOREM
 
 pub told : Told
-unfolding checkCall listCall tablesCall nameCall boxCall meshesCall writeCall
+unfolding checkCall listCall tablesCall nameCall boxCall meshesCall rescueCall writeCall
 told = record {
   check = λ s. records-told (verdict s) (verdict-within s);
   list = λ e s row. list-told e row (verdict s) (verdict-within s);
@@ -184,5 +197,6 @@ told = record {
   parts = λ {A} e s row.
       subst (λ (x : Effect Counted (List A)). CountedTold (x .answer) (countedOr (x .answer))) (sym (all-parts e s row)) (all-told parts e row (λ kids. omega (arith, parts-few kids, records-few (figure kids))) (verdict s) (verdict-within s));
   meshes = λ e s row. all-told standing e row (λ kids. standing-few 0 0 0 (figure kids)) (verdict s) (verdict-within s);
+  rescue = λ e s b rows. rescue-told e rows (rescue s) (rescue-within s b);
   write = λ name vertices corners out. write-told name vertices corners out _;
 }

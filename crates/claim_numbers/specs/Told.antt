@@ -1,6 +1,6 @@
 -- WHAT C IS TOLD. One 64-bit number answers each call of the boundary: an answer proper is below 2^32, and so is never taken
 -- for a refusal; of a refusal the number and the place are read off whole. Only the writer can have a place of more than 32
--- bits, which is told as the largest. Nothing is asked of the file, but for the tables that it is bytes.
+-- bits, which is told as the largest. Nothing is asked of the file, but for the tables and the rescue that it is bytes.
 use mathlib.Core.Path.{_≡_}
 use mathlib.Core.Logic.{_⊎_}
 use mathlib.Core.List.{List}
@@ -26,6 +26,10 @@ use Rattle.studio_write.specs.Write.{writeCall}
 use Rattle.c_codes.specs.Codes.{recordsOr, sizesOr, numbersOr, sizeOr}
 use Rattle.c_answers.specs.Given.{countsGiven, nameGiven, boxGiven}
 use Rattle.c_counted.specs.Codes.{countedOr}
+use Rattle.studio_rescue_rules.specs.declared.Mended.{Mended}
+use Rattle.studio_rescue_rules.specs.Rescue.{Cut}
+use Rattle.studio_rescue_rules.specs.Call.{Lent, rescueCall}
+use Rattle.c_rescue.specs.Codes.{cutsOr}
 
 -- n is an answer proper
 abbrev pub Proper : ℕ → Type 0
@@ -59,6 +63,10 @@ abbrev pub WriteTold : Written → ℕ → Type 0
 WriteTold (Written.Size size) n = Proper n
 WriteTold (Written.Refused r) n = TellsCapped r n
 
+abbrev pub RescueTold : Mended → ℕ → Type 0
+RescueTold (Mended.Written cuts size) n = Proper n
+RescueTold (Mended.Refused r) n = Tells r n
+
 -- k numbers are given out, which is the answer, or there is no room for k
 abbrev pub Gives : ℕ → ℕ → Type 0
 Gives k n = (n ≡ k) ⊎ Tells (NoRoom k) n
@@ -89,5 +97,6 @@ pub record Told : Type 1 where
   pub box : (s : List ℕ) (mesh : ℕ) (out : List ℕ) → BoxTold (boxCall s mesh) (boxGiven out (boxCall s mesh) .answer)
   pub parts : {A : Type 0} (e : Encoding Part A) (s : List ℕ) (row : List A) → CountedTold (partsCall e s row .answer) (countedOr (partsCall e s row .answer))
   pub meshes : {A : Type 0} (e : Encoding Standing A) (s : List ℕ) (row : List A) → CountedTold (meshesCall e s row .answer) (countedOr (meshesCall e s row .answer))
+  pub rescue : {A : Type 0} (e : Encoding Cut A) (s : List ℕ) → Bytes s → (rows : Lent A) → RescueTold (rescueCall e s rows .answer) (cutsOr (rescueCall e s rows .answer))
   pub write : (name : List ℕ) (vertices : List Float) (corners out : List ℕ) →
       WriteTold (writeCall name vertices corners out .answer) (sizeOr (writeCall name vertices corners out .answer))

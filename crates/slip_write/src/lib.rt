@@ -2,6 +2,7 @@
 // that put answer the position behind what they put.
 use shared_big_endian::put_long;
 use shared_big_endian::put_word;
+use shared_copy::put_part;
 use shared_words::Written;
 use slip_rules::Numbers;
 use slip_write_judge::judge;
@@ -9,7 +10,7 @@ use slip_write_judge::row;
 ghost use mathlib.Core.Path.{_≡_};
 ghost use mathlib.Core.List.{[], _∷_};
 ghost use Prim.Native.Nat.{_+_, _<_, _≤_};
-ghost use lib.ListN.{length, take, drop};
+ghost use lib.ListN.{length};
 ghost use Rattle.shared_words.specs.Lists.{All};
 ghost use Rattle.shared_numbers.specs.Put.{Put};
 ghost use Rattle.slip_rules.specs.Slip.{entryBytes, allBytes, bytes};
@@ -24,28 +25,13 @@ fn put_byte(b: u8, at: usize, out: &mut [u8]) -> usize
     at + 1
 }
 
-// The name of n bytes that stands somewhere in the names.
-fn put_name(names: &[u8], from: usize, n: usize, at: usize, out: &mut [u8]) -> usize
-    requires { ⌜ (from + n ≤ length (now names)) × (at + n ≤ length (now out)) ⌝ }
-    ensures { λ r. ⌜ Put (now (out .entry)) at (take n (drop from (now (names .entry)))) (now (out .exit)) r ⌝ }
-{
-    let mut next = at;
-    let mut i = 0usize;
-    while i < n {
-        out[next] = names[from + i];
-        next += 1;
-        i += 1;
-    }
-    next
-}
-
 // One entry.
 fn put_entry(names: &[u8], it: Numbers, at: usize, out: &mut [u8]) -> usize
     requires { ⌜ Fitting (now names) it × (at + (7 + it .len) ≤ length (now out)) ⌝ }
     ensures { λ r. ⌜ Put (now (out .entry)) at (entryBytes (entryFrom (now (names .entry)) it)) (now (out .exit)) r ⌝ }
 {
     let name = put_byte(it.len as u8, at, out);
-    let file = put_name(names, it.name as usize, it.len as usize, name, out);
+    let file = put_part(names, it.name as usize, it.len as usize, name, out);
     let sums = put_long(it.file, file, out);
     let second = put_byte((it.sums % 256) as u8, sums, out);
     put_byte((it.sums / 256) as u8, second, out)

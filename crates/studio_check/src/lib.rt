@@ -16,7 +16,7 @@ ghost use Rattle.studio_marks.specs.Marks.{ShutIs};
 ghost use Rattle.studio_check.specs.Figure.{CountsAre, figureAnswer};
 
 // The file's own conditions: its length, and the header of its one chunk 4D4D.
-fn judge_file(file: &[u8]) -> Shut
+pub fn judge_file(file: &[u8]) -> Shut
     ensures { λ r. ⌜ ShutIs (broken (fileConditions (now (file .entry)) (lengthField (now (file .entry))))) r ⌝ }
 {
     let size = file.len();

@@ -36,39 +36,39 @@ module _ (p : List ℕ) (e : ℕ) (at : length p ≡ e) where
 -- ---- the two files
 
 module _ (s : List ℕ) (kids : Run) (f : MendedFile s kids) where
-  abbrev v : ℕ
+  abbrev pub v : ℕ
   v = versionOf s
 
-  abbrev w : Torn v 6 (drop 6 s) kids
+  abbrev pub w : Torn v 6 (drop 6 s) kids
   w = f .torn
 
-  abbrev kept : Run
+  abbrev pub kept : Run
   kept = sift v (w .at + 6) (w .body) .kept
 
-  abbrev cuts : List Cut
+  abbrev pub cuts : List Cut
   cuts = cutsIn v 6 (drop 6 s) kids w
 
   -- what stands before 3D3D, where n is the length of the file, and after it
-  abbrev before : ℕ → List ℕ
+  abbrev pub before : ℕ → List ℕ
   before n = header 0x4D4D n ++ bytes (w .before)
 
-  abbrev after : List ℕ
+  abbrev pub after : List ℕ
   after = bytes (w .after)
 
   before-length : (n : ℕ) → length (before n) ≡ w .at
   before-length n = omega (arith, w .at-is, length-bytes (w .before))
 
-  damaged : s ≡ before (length s) ++ (header 0x3D3D (6 + length (w .body)) ++ (w .body ++ after))
+  pub damaged : s ≡ before (length s) ++ (header 0x3D3D (6 + length (w .body)) ++ (w .body ++ after))
   damaged = sym (f .head) ∙ ap (λ (y : List ℕ). header 0x4D4D (length s) ++ y) (w .damaged)
 
   -- the result's own length
-  abbrev len : ℕ
+  abbrev pub len : ℕ
   len = 6 + 0 + size kids
 
-  result : bytes (figure kids) ≡ before len ++ (header 0x3D3D (6 + size kept) ++ (bytes kept ++ after))
+  pub result : bytes (figure kids) ≡ before len ++ (header 0x3D3D (6 + size kept) ++ (bytes kept ++ after))
   result = ap (λ (y : List ℕ). header 0x4D4D len ++ y) (append-nil (bytes kids) ∙ ap bytes (w .is) ∙ bytes-then (w .before) (known 0x3D3D [] kept (w .after)))
 
-  sizes : size kept + gone cuts ≡ length (w .body)
+  pub sizes : size kept + gone cuts ≡ length (w .body)
   sizes = sift-says v (w .at + 6) (w .body) (w .body-bytes) .sizes
 
   body-small : 6 + length (w .body) < 2 ^ 32
@@ -79,7 +79,7 @@ module _ (s : List ℕ) (kids : Run) (f : MendedFile s kids) where
 
   -- ---- the lengths
 
-  old-length : lengthField (drop (w .at) s) ≡ 6 + length (w .body)
+  pub old-length : lengthField (drop (w .at) s) ≡ 6 + length (w .body)
   old-length =
       ap (λ (z : List ℕ). lengthField (drop (w .at) z)) damaged ∙
       field-read (before (length s)) (w .at) (before-length (length s)) 0x3D3D (6 + length (w .body)) (w .body ++ after) body-small
@@ -90,7 +90,7 @@ module _ (s : List ℕ) (kids : Run) (f : MendedFile s kids) where
       ap (λ (z : List ℕ). lengthField (drop (w .at) z)) result ∙
       field-read (before len) (w .at) (before-length len) 0x3D3D (6 + size kept) (bytes kept ++ after) (omega (arith, sizes))
 
-  len-lowered : len + gone cuts ≡ length s
+  pub len-lowered : len + gone cuts ≡ length s
   len-lowered = let l = f .long in omega (arith, torn-sizes v 6 (drop 6 s) kids w, length-drop 6 s)
 
   file-length : lengthField (bytes (figure kids)) ≡ len
@@ -98,7 +98,7 @@ module _ (s : List ℕ) (kids : Run) (f : MendedFile s kids) where
 
   -- ---- the cuts
 
-  body-is : take (lengthField (drop (w .at) s) - 6) (drop (w .at + 6) s) ≡ w .body
+  pub body-is : take (lengthField (drop (w .at) s) - 6) (drop (w .at + 6) s) ≡ w .body
   body-is =
       let n : lengthField (drop (w .at) s) - 6 ≡ length (w .body) = omega (arith, old-length) in
       let b : drop (w .at + 6) s ≡ w .body ++ after =

@@ -9,21 +9,22 @@ use Rattle.shared_words.specs.declared.Refusal.{Refusal}
 use Rattle.shared_words.specs.declared.Refusal.the-variants.{NoRoom}
 use Rattle.shared_words.specs.Encodings.{Encoding}
 use Rattle.shared_words.specs.Effects.{leaving}
+use Rattle.studio_rescue_rules.specs.declared.Mended.{Mended}
 use Rattle.studio_rescue_rules.specs.Rescue.{Cut, Rescued, beyond, saved, rescue}
-use Rattle.studio_rescue_rules.specs.Call.{Mended, refused, written, Lent, callOf, rescueCall, RefusalLeaves}
+use Rattle.studio_rescue_rules.specs.Call.{Lent, callOf, rescueCall, RefusalLeaves}
 
 module _ {A : Type 0} (rows : Lent A) (r : Refusal) where
-  leaves : (q : Refusal) → refused q ≡ refused r → leaving (refused q) rows ≡ leaving (refused r) rows
+  leaves : (q : Refusal) → Mended.Refused q ≡ Mended.Refused r → leaving (Mended.Refused q) rows ≡ leaving (Mended.Refused r) rows
   leaves q k = ap (λ (x : Mended). leaving x rows) k
 
   by-room : (b₁ b₂ : Bool) (m n k l : ℕ) (new : Lent A) →
-      cond b₁ (cond b₂ (leaving (written m n) new) (leaving (refused (NoRoom k)) rows)) (leaving (refused (NoRoom l)) rows) .answer ≡ refused r →
-      cond b₁ (cond b₂ (leaving (written m n) new) (leaving (refused (NoRoom k)) rows)) (leaving (refused (NoRoom l)) rows) ≡ leaving (refused r) rows
+      cond b₁ (cond b₂ (leaving (Mended.Written m n) new) (leaving (Mended.Refused (NoRoom k)) rows)) (leaving (Mended.Refused (NoRoom l)) rows) .answer ≡ Mended.Refused r →
+      cond b₁ (cond b₂ (leaving (Mended.Written m n) new) (leaving (Mended.Refused (NoRoom k)) rows)) (leaving (Mended.Refused (NoRoom l)) rows) ≡ leaving (Mended.Refused r) rows
   by-room true true m n k l new h = let z : _≡_ {A = ℕ} 0 1 = cc in absurd (omega arith)
   by-room true false m n k l new h = leaves (NoRoom k) h
   by-room false b₂ m n k l new h = leaves (NoRoom l) h
 
-  by-answer : (e : Encoding Cut A) (x : Rescued) → callOf e rows x .answer ≡ refused r → callOf e rows x ≡ leaving (refused r) rows
+  by-answer : (e : Encoding Cut A) (x : Rescued) → callOf e rows x .answer ≡ Mended.Refused r → callOf e rows x ≡ leaving (Mended.Refused r) rows
   by-answer e (beyond q) h = leaves q h
   by-answer e (saved s cuts) h = by-room (leb (length cuts) (e .room (length (rows .cuts)))) (leb (length s) (length (rows .out))) _ _ _ _ _ h
 

@@ -158,7 +158,7 @@ agrees v (suc n) seen o (x ∷ s) h l b =
 -- ---- the file
 
 -- 4D4D ends well, as it has a 3D3D
-file-ends-well : (v : ℕ) (before kept after : Run) → ended (top v) 0 (accepted (holding before kept after)) ≡ accepted (holding before kept after)
+pub file-ends-well : (v : ℕ) (before kept after : Run) → ended (top v) 0 (accepted (holding before kept after)) ≡ accepted (holding before kept after)
 file-ends-well v before kept after =
     ended-good (top v) 0 (holding before kept after)
     record { in-plus = top-plus v (holding before kept after); none-missing = none-missing v before kept after; corners-below = refl; mapping-matches = refl }

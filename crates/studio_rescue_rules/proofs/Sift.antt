@@ -29,6 +29,7 @@ pub record Sifts (v o : ℕ) (s : List ℕ) (x : Sifted) : Type 0 where
   pub obeys : Obeys (scene v) [] (x .kept)
   pub sizes : size (x .kept) + gone (x .cuts) ≡ length s
   pub no-cut : gone (x .cuts) ≡ 0 → x .cuts ≡ []
+  pub few : length (x .cuts) ≤ gone (x .cuts)
   pub back : (pre post : List ℕ) → length pre ≡ o → putIn (x .cuts) (pre ++ (bytes (x .kept) ++ post)) ≡ pre ++ (s ++ post)
   pub fail : (pre post : List ℕ) → length pre ≡ o → All (Failed v (pre ++ (s ++ post))) (x .cuts)
 
@@ -37,7 +38,7 @@ failed : (v o : ℕ) (r : Refusal) (piece pre post : List ℕ) → length pre �
 failed v o r piece pre post e w = record { stands = rw (drop-at pre (piece ++ post) o e) (take-at piece post (length piece) refl); fault = r; fails = w; number-is = refl }
 
 -- a bad header: all goes
-bad-header : (v o x : ℕ) (s : List ℕ) (r : Refusal) → broken (headerConditions o (x ∷ s) (lengthField (x ∷ s))) ≡ some r → walk (scene v) [] o (x ∷ s) ≡ refused r
+pub bad-header : (v o x : ℕ) (s : List ℕ) (r : Refusal) → broken (headerConditions o (x ∷ s) (lengthField (x ∷ s))) ≡ some r → walk (scene v) [] o (x ∷ s) ≡ refused r
 unfolding step
 bad-header v o x s r e = walk-cons (scene v) [] o x s ∙ rw e
 
@@ -46,6 +47,7 @@ all-says v o r s h w = record {
   obeys = tt;
   sizes = omega arith;
   no-cut = λ e. absurd (omega arith);
+  few = omega arith;
   back = λ pre post e. rw (take-at pre post o e, drop-at pre post o e);
   fail = λ pre post e. (failed v o r s pre post e w, tt);
 }
@@ -77,6 +79,7 @@ module _ (v o n : ℕ) (child rest : List ℕ) (x : Sifted) (l : length child �
     obeys = h .obeys;
     sizes = omega (arith, h .sizes, length-append child rest);
     no-cut = λ e. absurd (omega arith);
+    few = omega (arith, h .few);
     back = λ pre post e. ap (putIn (x .cuts)) (child-back pre post e) ∙ rest-back pre post e;
     fail = λ pre post e. (rw (append-assoc child rest post) (failed v o r child pre (rest ++ post) e w), rest-fail pre post e);
   }
@@ -84,6 +87,7 @@ module _ (v o n : ℕ) (child rest : List ℕ) (x : Sifted) (l : length child �
     obeys = scene-join 0 v t (x .kept) (g .obeys) (h .obeys);
     sizes = omega (arith, h .sizes, length-append child rest, size-then t (x .kept), length-bytes t, ap length (g .is));
     no-cut = h .no-cut;
+    few = h .few;
     back = λ pre post e. ap (putIn (x .cuts)) (child-kept t (g .is) pre post) ∙ rest-back pre post e;
     fail = rest-fail;
   }
@@ -113,7 +117,7 @@ module _ (v : ℕ) (go : ℕ → List ℕ → Sifted) (o x : ℕ) (u : List ℕ)
 
 run-says : (v k o : ℕ) (s : List ℕ) → length s < k → Bytes s → Sifts v o s (siftRun v k o s)
 run-says v zero o s h b = absurd (omega arith)
-run-says v (suc k) o [] h b = record { obeys = tt; sizes = refl; no-cut = λ e. refl; back = λ pre post e. refl; fail = λ pre post e. tt }
+run-says v (suc k) o [] h b = record { obeys = tt; sizes = refl; no-cut = λ e. refl; few = omega arith; back = λ pre post e. refl; fail = λ pre post e. tt }
 run-says v (suc k) o (x ∷ s) h b =
     sifted-says v (siftRun v k) o x s b (λ o′ t l b′. run-says v k o′ t (omega arith) b′) (broken (headerConditions o (x ∷ s) (lengthField (x ∷ s)))) refl
 

@@ -19,7 +19,7 @@ use Rattle.studio_scene.specs.Scene.{holding}
 use Rattle.studio_scene.proofs.Then.{identifiers-then, obeys-parts}
 use Rattle.studio_scene.proofs.Contents.{contents-holding}
 use Rattle.studio_rescue_rules.specs.Rescue.{versionOf, Cut, Sifted, sift, mended, siftedAt, saved, rescueOf, rescue, gone}
-use Rattle.studio_rescue_rules.specs.Theorems.{ResultAccepted, AcceptedUnchanged, Restored, CutsRestore, CutsFail, MeshesKept, SameAround, AroundKept, VersionKept, FaultInScene}
+use Rattle.studio_rescue_rules.specs.Theorems.{ResultAccepted, AcceptedUnchanged, Restored, CutsRestore, CutsFew, FewCuts, CutsFail, MeshesKept, SameAround, AroundKept, VersionKept, FaultInScene}
 use Rattle.studio_rescue_rules.proofs.Sift.{sift-says}
 use Rattle.studio_rescue_rules.proofs.File.{MendedFile, file-mended}
 use Rattle.studio_rescue_rules.proofs.Back.{sifted-is, restored, all-failed}
@@ -59,6 +59,15 @@ cuts-restore s b s′ cuts e kids v =
     let g = saved-is s s′ cuts b e in
     let r = reads s s′ cuts g in
     restored-as s s′ cuts (g .kids) kids (g .file) (g .result-is) (g .cuts-are) (cc)
+
+-- NO CUT IS EMPTY
+few-as : (s : List ℕ) (t : Run) → MendedFile s t → CutsFew s (siftedAt (offsetOf 0x3D3D 6 t) s .cuts)
+few-as s t f =
+    let w = f .torn in
+    record { few = rw (w .place, sifted-is s t f) (sift-says (versionOf s) (w .at + 6) (w .body) (w .body-bytes) .few); within-limit = f .within-limit }
+
+pub few-cuts : FewCuts
+few-cuts s b s′ cuts e = let g = saved-is s s′ cuts b e in rw (g .cuts-are) (few-as s (g .kids) (g .file))
 
 -- NOTHING IS CUT THAT DOES NOT FAIL
 pub cuts-fail : CutsFail

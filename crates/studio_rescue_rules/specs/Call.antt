@@ -8,14 +8,11 @@ use lib.Dec.{leb}
 use lib.ListN.{length}
 use Rattle.shared_words.specs.declared.Refusal.{Refusal}
 use Rattle.shared_words.specs.declared.Refusal.the-variants.{NoRoom}
+use Rattle.shared_words.specs.Bytes.{packed}
 use Rattle.shared_words.specs.Encodings.{Encoding}
 use Rattle.shared_words.specs.Effects.{Effect, leaving, filled}
+use Rattle.studio_rescue_rules.specs.declared.Mended.{Mended}
 use Rattle.studio_rescue_rules.specs.Rescue.{Cut, Rescued, beyond, saved, rescue}
-
--- a refusal; or how many cuts there are, and how many bytes the mended file has
-pub data Mended : Type 0 where
-  refused : Refusal → Mended
-  written : ℕ → ℕ → Mended
 
 pub record Lent (A : Type 0) : Type 0 where
   pub cuts : List A
@@ -26,21 +23,22 @@ abbrev pub flat : List Cut → List ℕ
 flat [] = []
 flat (c ∷ cs) = c .at ∷ c .number ∷ length (c .piece) ∷ flat cs
 
-abbrev pub flatCuts : Encoding Cut ℕ
-flatCuts = record { room = λ n. n / 3; encode = flat }
+-- four bytes a number
+abbrev pub cutBytes : Encoding Cut ℕ
+cutBytes = record { room = λ n. n / 12; encode = λ cs. packed 4 (flat cs) }
 
 abbrev pub callOf : {A : Type 0} → Encoding Cut A → Lent A → Rescued → Effect Mended (Lent A)
-callOf e rows (beyond r) = leaving (refused r) rows
+callOf e rows (beyond r) = leaving (Mended.Refused r) rows
 callOf e rows (saved s cuts) =
     cond (leb (length cuts) (e .room (length (rows .cuts))))
     (cond (leb (length s) (length (rows .out)))
-    (leaving (written (length cuts) (length s)) record { cuts = filled (e .encode cuts) (rows .cuts); out = filled s (rows .out) })
-    (leaving (refused (NoRoom (length s))) rows))
-    (leaving (refused (NoRoom (length cuts))) rows)
+    (leaving (Mended.Written (length cuts) (length s)) record { cuts = filled (e .encode cuts) (rows .cuts); out = filled s (rows .out) })
+    (leaving (Mended.Refused (NoRoom (length s))) rows))
+    (leaving (Mended.Refused (NoRoom (length cuts))) rows)
 
 unfoldable pub rescueCall : {A : Type 0} → Encoding Cut A → List ℕ → Lent A → Effect Mended (Lent A)
 rescueCall e s rows = callOf e rows (rescue s)
 
 -- A REFUSAL LEAVES WHAT IS LENT as it was
 abbrev pub RefusalLeaves : Type 1
-RefusalLeaves = (A : Type 0) (e : Encoding Cut A) (s : List ℕ) (rows : Lent A) (r : Refusal) → rescueCall e s rows .answer ≡ refused r → rescueCall e s rows ≡ leaving (refused r) rows
+RefusalLeaves = (A : Type 0) (e : Encoding Cut A) (s : List ℕ) (rows : Lent A) (r : Refusal) → rescueCall e s rows .answer ≡ Mended.Refused r → rescueCall e s rows ≡ leaving (Mended.Refused r) rows

@@ -1,7 +1,7 @@
 -- What is proved of the rescue.
 use mathlib.Core.Path.{_≡_}
 use mathlib.Core.Logic.{_⊎_}
-use Prim.Native.Nat.{ℕ, _+_}
+use Prim.Native.Nat.{ℕ, _+_, _≤_}
 use mathlib.Core.List.{List, [], _∷_, _++_, map}
 use lib.ListN.{length, take, drop}
 use Rattle.shared_words.specs.declared.Refusal.{Refusal}
@@ -9,7 +9,7 @@ use Rattle.shared_words.specs.Refusals.{numberOf}
 use Rattle.shared_words.specs.Lists.{All}
 use Rattle.shared_words.specs.Bytes.{Bytes}
 use Rattle.studio_rules.specs.Layout.{Run, header, size, bytes, offsetOf}
-use Rattle.studio_rules.specs.Rules.{Obeys}
+use Rattle.studio_rules.specs.Rules.{limit, Obeys}
 use Rattle.studio_rules.specs.Walk.{walk, top, verdict, lengthField}
 use Rattle.shared_words.specs.Conditions.{refused, accepted}
 use Rattle.studio_rules.specs.Gives.{meshes}
@@ -38,6 +38,14 @@ pub record Restored (s s′ : List ℕ) (cuts : List Cut) (e : ℕ) : Type 0 whe
 abbrev pub CutsRestore : Type 0
 CutsRestore = (s : List ℕ) → Bytes s → (s′ : List ℕ) (cuts : List Cut) → rescue s ≡ saved s′ cuts → (kids : Run) → verdict s′ ≡ accepted kids →
     Restored s s′ cuts (offsetOf 0x3D3D 6 kids)
+
+-- NO CUT IS EMPTY, and the damaged file is within the limit: so there are no more cuts than that
+pub record CutsFew (s : List ℕ) (cuts : List Cut) : Type 0 where
+  pub few : length cuts ≤ gone cuts
+  pub within-limit : length s ≤ limit
+
+abbrev pub FewCuts : Type 0
+FewCuts = (s : List ℕ) → Bytes s → (s′ : List ℕ) (cuts : List Cut) → rescue s ≡ saved s′ cuts → CutsFew s cuts
 
 -- a cut of the damaged file s of version v: its bytes stand there, and walked alone as children of 3D3D they are refused with
 -- its number (the rest of 3D3D too, where all of it went)

@@ -22,6 +22,9 @@ ghost use Rattle.cob_rules.specs.Calls.{checkCall as cobCheckCall, listCall as 
 ghost use Rattle.cob_tables.specs.Rows.{rows as cobRows};
 ghost use Rattle.c_slip.specs.Codes.{entriesOr};
 ghost use Rattle.c_counted.specs.Codes.{countedOr};
+ghost use Rattle.studio_rescue_rules.specs.Call.{cutBytes, rescueCall};
+ghost use Rattle.studio_rescue.specs.Parts.{twoRows as rescueRows};
+ghost use Rattle.c_rescue.specs.Codes.{cutsOr};
 ghost use Rattle.c_cob.specs.Codes.{countOr};
 ghost use Rattle.c_sums.specs.Numbers.{sumsOr, zeroOr, sumIn, withPartNumber, joinNumbers};
 
@@ -121,6 +124,16 @@ pub extern "C" fn tds_meshes(file: &[u8], meshes: &mut [u8]) -> u64
     ensures meshes { λ _. ⌜ now (meshes .exit) ≡ meshesCall meshBytes (now (file .entry)) (now (meshes .entry)) .rows ⌝ }
 {
     c_counted::counted_code(studio_meshes::meshes_bytes(file, meshes))
+}
+
+// The count of cuts that now stand in the front of the first slice, 12 bytes each, the mended file in the front of the second, or a
+// refusal.
+#[no_mangle]
+pub extern "C" fn tds_rescue(file: &[u8], cuts: &mut [u8], out: &mut [u8]) -> u64
+    ensures answer { λ n. ⌜ n ≡ cutsOr (rescueCall cutBytes (now (file .entry)) (rescueRows (now (cuts .entry)) (now (out .entry))) .answer) ⌝ }
+    ensures rows { λ _. ⌜ rescueRows (now (cuts .exit)) (now (out .exit)) ≡ rescueCall cutBytes (now (file .entry)) (rescueRows (now (cuts .entry)) (now (out .entry))) .rows ⌝ }
+{
+    c_rescue::mended_code(studio_rescue::rescue(file, cuts, out))
 }
 
 // The size of the figure that now stands in the front of out, or a refusal.

@@ -12,14 +12,14 @@ cast-put-byte c = search needs
 put-byte-requires : tie.Need-put-byte-requires
 put-byte-requires c κs = search needs
 
-cast-put-name : tie.Need-cast-put-name
-cast-put-name c = search needs
+cast-put-part : tie.Need-cast-put-part
+cast-put-part c = search needs
 
-cast-put-name-2 : tie.Need-cast-put-name-2
-cast-put-name-2 c = search needs
+cast-put-part-2 : tie.Need-cast-put-part-2
+cast-put-part-2 c = search needs
 
-put-name-requires : tie.Need-put-name-requires
-put-name-requires c κs = search needs
+put-part-requires : tie.Need-put-part-requires
+put-part-requires c κs = search needs
 
 put-long-requires : tie.Need-put-long-requires
 put-long-requires c κs =
@@ -49,7 +49,7 @@ put-byte-requires-3 c κs =
       start .pre .1,
       name-long (start .args .names .now) (start .args .it) (start .pre .0 .inside),
       first .put-byte .ensures .ends,
-      second .put-name .ensures .ends,
+      second .put-part .ensures .ends,
       third .put-long .ensures .ends,
       fourth .put-byte2 .ensures .ends,
       second .before .before .before .before .before .out .given,
@@ -70,7 +70,7 @@ returns c =
     let first = second .before .before .before .before .before .before in
     let start = first .before .before .before .before .before in
     entry-puts (start .args .names .now) (start .args .it) (start .pre .0) (omega (arith, start .pre .1)) (first .put-byte .ensures)
-    (second .put-name .ensures) (third .put-long .ensures) (fourth .put-byte2 .ensures) (fifth .put-byte3 .ensures)
+    (second .put-part .ensures) (third .put-long .ensures) (fourth .put-byte2 .ensures) (fifth .put-byte3 .ensures)
 
 pub put-entry-spec : {M : Type 1} → statement M
 put-entry-spec =
@@ -78,9 +78,9 @@ put-entry-spec =
     (tie.spec
     cast-put-byte
     put-byte-requires
-    cast-put-name
-    cast-put-name-2
-    put-name-requires
+    cast-put-part
+    cast-put-part-2
+    put-part-requires
     put-long-requires
     cast-put-byte-2
     put-byte-requires-2

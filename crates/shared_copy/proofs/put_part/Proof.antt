@@ -1,4 +1,4 @@
--- After i turns the first i bytes of the name are put.
+-- After i turns the first i bytes of the part are put.
 use mathlib.Core.Path.{_≡_, refl, _∙_}
 use Prim.Native.Nat.{_+_, _-_, _<_, _≤_}
 use native.Mathlib.Numerals.{add-one}
@@ -7,15 +7,15 @@ use lib.ListN.{length, take, drop, getD, length-set, length-drop}
 use lib.Seq.{take-suc, getD-drop}
 use Rattle.shared_numbers.specs.Put.{Put}
 use Rattle.shared_numbers.proofs.Put.{put-none, put-byte, put-then}
-use Rattle.slip_write.proofs.put_name.Statement.{statement}
-use Rattle.slip_write.proofs.put_name.Tie as tie
+use Rattle.shared_copy.proofs.put_part.Statement.{statement}
+use Rattle.shared_copy.proofs.put_part.Tie as tie
 
 abbrev Inv-loop : tie.InvT-loop
-Inv-loop names from n at out₀ next₀ i₀ out next i =
-    (i ≤ n) × (length out ≡ length out₀) × (next ≡ at + i) × Put out₀ at (take i (drop from names)) out next
+Inv-loop s from n at out₀ next₀ i₀ out next i =
+    (i ≤ n) × (length out ≡ length out₀) × (next ≡ at + i) × Put out₀ at (take i (drop from s)) out next
 
 abbrev μ-loop : tie.MeasureT-loop
-μ-loop names from n at out₀ next₀ i₀ out next i = n - i
+μ-loop s from n at out₀ next₀ i₀ out next i = n - i
 
 loop-holds : tie.Need-loop-holds Inv-loop μ-loop
 loop-holds c = (omega arith, refl, omega arith, put-none _ _)
@@ -42,7 +42,7 @@ loop-again : tie.Need-loop-again Inv-loop μ-loop
 loop-again c =
     let a = c .before .before .before .args in
     let l = c .before .before .loop in
-    let s = a .names .now in
+    let s = a .s .now in
     let x = getD s (a .from + l .i) 0 in
     let k : l .i < length (drop (a .from) s) = omega (arith, length-drop (a .from) s) in (
       omega arith,
@@ -62,8 +62,8 @@ returns c =
     let e : l .i ≡ a .n = omega arith in
     rw e at (l .inv .3)
 
-pub put-name-spec : {M : Type 1} → statement M
-put-name-spec =
+pub put-part-spec : {M : Type 1} → statement M
+put-part-spec =
     tie.close
     (tie.spec
     Inv-loop

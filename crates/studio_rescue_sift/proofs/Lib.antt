@@ -1,0 +1,3 @@
+pub mod Spans
+pub mod Judging
+pub mod Filling
