@@ -5,7 +5,7 @@ use mathlib.Core.List.{List, [], _∷_, _++_}
 use mathlib.Core.Option.{Option, none, some}
 use Prim.Native.Nat.{ℕ, _+_, _≤_}
 use native.Mathlib.Omega.{arith}
-use lib.ListN.{length, drop, length-append, length-drop}
+use lib.ListN.{length, length-append, length-drop}
 use borrow.Author.Tests.{leb-true}
 use Rattle.shared_words.specs.declared.Refusal.{Refusal}
 use Rattle.shared_words.specs.Refusals.{placeOf}
@@ -17,7 +17,7 @@ use Rattle.studio_rules.specs.Rules.{limit}
 use Rattle.studio_rules.specs.Walk.{fileConditions, lengthField, walk, top, verdict}
 use Rattle.studio_rules.proofs.Sound.{length-bytes}
 use Rattle.studio_scene.specs.Passed.{passed}
-use Rattle.studio_rescue_rules.specs.Rescue.{versionOf, Cut, mended, Rescued, beyond, saved, rescueOf, rescue, gone}
+use Rattle.studio_rescue_rules.specs.Rescue.{versionOf, mended, Rescued, beyond, saved, rescueOf, rescue}
 use Rattle.studio_rescue_rules.specs.Theorems.{FaultInScene}
 use Rattle.studio_rescue_rules.proofs.First.{first-fault}
 use Rattle.studio_rescue_rules.proofs.Theorems.{result-accepted, cuts-restore, few-cuts}

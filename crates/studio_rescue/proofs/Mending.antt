@@ -1,18 +1,16 @@
 -- The mended file by its parts, and the call by what the code found.
-use mathlib.Core.Path.{_≡_, refl, sym, ap, _∙_, subst}
-use Prim.Native.Nat.{ℕ, _+_, _-_, _*_, _/_, _≤_, _<_}
+use mathlib.Core.Path.{_≡_, refl, sym, ap, _∙_}
+use Prim.Native.Nat.{ℕ, _+_, _-_, _/_, _≤_, _<_}
 use native.Mathlib.Omega.{arith}
-use mathlib.Core.List.{List, [], _∷_, _++_, append-assoc}
-use lib.Dec.{leb}
+use mathlib.Core.List.{List, _++_, append-assoc}
 use lib.ListN.{length, take, drop, length-append, length-drop}
-use lib.Seq.{slice, length-slice, length-take-le, take-length, take-append-add, drop-drop, drop-append-add, drop-at, take-at}
+use lib.Seq.{slice, length-slice, length-take-le, take-append-add, drop-drop, drop-append-add, drop-at}
 use borrow.Author.Tests.{le-leb, lt-leb}
 use Rattle.shared_words.specs.declared.Refusal.{Refusal}
 use Rattle.shared_words.specs.declared.Refusal.the-variants.{NoRoom}
 use Rattle.shared_words.specs.Bytes.{Bytes, le, packed}
 use Rattle.shared_words.specs.Conditions.{Answer, refused, accepted}
 use Rattle.shared_words.specs.Effects.{leaving, filled}
-use Rattle.shared_words.proofs.Bytes.{length-le}
 use Rattle.shared_numbers.proofs.Slices.{drop-take}
 use Rattle.studio_rules.specs.Layout.{Run, figure, size, bytes, offsetOf, header}
 use Rattle.studio_rules.specs.Rules.{limit}
@@ -22,7 +20,7 @@ use Rattle.studio_rules.proofs.Verdict.{length-figure}
 use Rattle.studio_walk.proofs.Chunks.{clash}
 use Rattle.studio_walk.proofs.Parts.{bytes-slice}
 use Rattle.studio_rescue_rules.specs.declared.Mended.{Mended}
-use Rattle.studio_rescue_rules.specs.Rescue.{versionOf, Cut, Sifted, sift, siftedAt, mended, beyond, saved, rescue, gone}
+use Rattle.studio_rescue_rules.specs.Rescue.{versionOf, Cut, Sifted, sift, siftedAt, mended, saved, rescue, gone}
 use Rattle.studio_rescue_rules.specs.Call.{flat, cutBytes, rescueCall}
 use Rattle.studio_rescue_rules.proofs.Sift.{sift-says}
 use Rattle.studio_rescue_rules.proofs.Mend.{Torn}

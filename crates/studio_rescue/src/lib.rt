@@ -6,21 +6,19 @@ use shared_words::Refusal;
 use studio_rescue_around::Outside;
 use studio_rescue_rules::Mended;
 ghost use mathlib.Core.Path.{_≡_};
-ghost use mathlib.Core.List.{_++_};
 ghost use Prim.Native.Nat.{_+_, _-_, _<_, _≤_};
-ghost use lib.ListN.{length, take, drop};
+ghost use lib.ListN.{length};
 ghost use lib.Seq.{slice};
-ghost use Rattle.shared_words.specs.Bytes.{le, packed};
-ghost use Rattle.shared_words.specs.Effects.{filled};
 ghost use Rattle.shared_numbers.specs.Put.{Put};
 ghost use Rattle.studio_rescue_rules.specs.Rescue.{sift};
-ghost use Rattle.studio_rescue_rules.specs.Call.{flat, cutBytes, rescueCall};
+ghost use Rattle.studio_rescue_rules.specs.Call.{cutBytes, rescueCall};
 ghost use Rattle.studio_rescue.specs.Parts.{frontOf, Ready, PutIs, twoRows};
 
 // What stands before the children of 3D3D, which stands at at: all as it was but the two lengths. Answers the position behind it.
 fn put_front(file: &[u8], at: usize, size: usize, len: usize, out: &mut [u8]) -> usize
     requires { ⌜ (6 ≤ at) × (at + 6 ≤ length (now file)) × (at + 6 ≤ length (now out)) × (size < 4294967296) × (len < 4294967296) ⌝ }
-    ensures { λ r. ⌜ Put (now (out .entry)) 0 (frontOf (now (file .entry)) at size len) (now (out .exit)) r ⌝ }
+    ensures is { λ r. ⌜ Put (now (out .entry)) 0 (frontOf (now (file .entry)) at size len) (now (out .exit)) r ⌝ }
+    ensures ends { λ r. ⌜ r ≡ at + 6 ⌝ }
 {
     let sized = put_part(file, 0, 2, 0, out);
     let children = put_long(size as u32, sized, out);

@@ -1,30 +1,30 @@
 -- What stands around 3D3D, by the two runs before and behind it.
 use mathlib.Core.Path.{_≡_, refl, sym, ap, _∙_, subst}
-use Prim.Native.Nat.{ℕ, _+_, _-_, _≤_, _<_, _^_}
+use Prim.Native.Nat.{ℕ, _+_, _-_, _≤_, _<_}
 use native.Mathlib.Omega.{arith}
 use mathlib.Core.Bool.{Bool, true, false, _&&_}
 use mathlib.Core.List.{List, [], _∷_, append-nil}
-use mathlib.Core.Option.{none, some}
+use mathlib.Core.Option.{none}
 use lib.Dec.{eqb, leb}
 use lib.ListN.{length, take, drop, length-drop, drop-of-length-le}
-use lib.Seq.{slice, drop-drop, take-length, length-take-le}
-use borrow.Author.Tests.{le-leb, leb-true, lt-leb}
+use lib.Seq.{slice, drop-drop, take-length}
+use borrow.Author.Tests.{le-leb}
 use Rattle.shared_words.specs.declared.Refusal.{Refusal}
 use Rattle.shared_words.specs.declared.Refusal.the-variants.{Missing}
 use Rattle.shared_words.specs.Lists.{every}
-use Rattle.shared_words.specs.Bytes.{Bytes, value}
+use Rattle.shared_words.specs.Bytes.{value}
 use Rattle.shared_words.specs.Conditions.{broken, Answer, refused, accepted}
 use Rattle.shared_words.proofs.Bools.{both, and-parts}
-use Rattle.shared_words.proofs.Conditions.{met, unbroken, broken-here}
+use Rattle.shared_words.proofs.Conditions.{unbroken, broken-here}
 use Rattle.shared_numbers.proofs.Slices.{drop-take}
 use Rattle.studio_rules.specs.Table.{rows, listed, shape, plus, under, limits, atMostOne, needs, atLeastOne}
 use Rattle.studio_rules.specs.Layout.{Run, end, skip, known, size, identifiers, offsetOf}
 use Rattle.studio_rules.specs.Readings.{_then_}
-use Rattle.studio_rules.specs.Rules.{Parent, inside, tally, few, noneMissing, Obeys}
-use Rattle.studio_rules.specs.Walk.{headerConditions, childConditions, endConditions, lengthField, Step, enter, sorted, step, ended, withKnown, walk, top}
+use Rattle.studio_rules.specs.Rules.{tally, few, noneMissing}
+use Rattle.studio_rules.specs.Walk.{headerConditions, childConditions, lengthField, enter, sorted, step, ended, withKnown, walk, top}
 use Rattle.studio_scene.specs.Passed.{passed}
 use Rattle.studio_scene.proofs.Then.{identifiers-then}
-use Rattle.studio_rescue_rules.specs.Rescue.{scene, sift, around, mendStep, mend}
+use Rattle.studio_rescue_rules.specs.Rescue.{sift, mendStep, mend}
 use Rattle.studio_rescue_rules.proofs.Fuel.{mend-nil}
 use Rattle.studio_rescue_rules.proofs.Mend.{ends-well}
 use Rattle.studio_rescue_rules.proofs.First.{file-ends-well}

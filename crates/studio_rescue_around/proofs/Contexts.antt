@@ -1,6 +1,6 @@
 -- Where the code stands behind a run: what it has seen, and its marks.
 use mathlib.Core.Path.{_≡_, refl, sym, ap, _∙_, subst}
-use Prim.Native.Nat.{ℕ, _+_, _-_, _≤_, _<_}
+use Prim.Native.Nat.{ℕ, _+_, _-_, _≤_}
 use native.Mathlib.Omega.{arith}
 use mathlib.Core.Bool.{Bool, true, cond}
 use mathlib.Core.List.{List, [], _∷_}
@@ -11,7 +11,7 @@ use Rattle.shared_words.specs.declared.Refusal.{Refusal}
 use Rattle.shared_words.specs.Bytes.{Bytes}
 use Rattle.shared_words.specs.Conditions.{Answer, refused, accepted}
 use Rattle.studio_rules.specs.Table.{rows, listed, under}
-use Rattle.studio_rules.specs.Layout.{Run, end, skip, known, size, bytes}
+use Rattle.studio_rules.specs.Layout.{Run, end, skip, known, size}
 use Rattle.studio_rules.specs.Rules.{Parent, few, Obeys}
 use Rattle.studio_rules.specs.Walk.{walk, top}
 use Rattle.studio_rules.proofs.Sound.{length-bytes, Tells}

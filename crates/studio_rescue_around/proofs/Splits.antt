@@ -2,12 +2,11 @@
 use mathlib.Core.Path.{_≡_, refl, sym, ap, _∙_}
 use Prim.Native.Nat.{ℕ, zero, suc, _+_, _-_, _≤_, _<_}
 use native.Mathlib.Omega.{arith}
-use native.Mathlib.Nat.{add-zero}
 use mathlib.Core.Bool.{Bool, true, false, cond}
 use mathlib.Core.List.{List, [], _∷_}
 use mathlib.Core.Option.{Option, none, some}
-use lib.Dec.{eqb, leb}
-use lib.ListN.{length, take, drop, length-drop, length-take, take-append-drop, length-append, drop-of-length-le}
+use lib.Dec.{eqb}
+use lib.ListN.{length, take, drop, length-drop, take-append-drop, length-append}
 use lib.Seq.{take-take, drop-drop, take-length, length-take-le}
 use borrow.Author.Tests.{le-leb, leb-true, eqb-true}
 use Rattle.shared_words.specs.declared.Refusal.{Refusal}
@@ -23,8 +22,8 @@ use Rattle.studio_rules.specs.Rules.{Parent, inside, tally}
 use Rattle.studio_rules.specs.Walk.{headerConditions, childConditions, lengthField, Step, stop, pass, enter, opened, sorted, step, ended, withSkip, withKnown, taken, walk, top}
 use Rattle.studio_rules.proofs.Fuel.{walk-nil, walk-cons}
 use Rattle.studio_scene.specs.Passed.{passed}
-use Rattle.studio_rescue_rules.specs.Rescue.{around, mendStep, mend}
-use Rattle.studio_rescue_rules.proofs.Fuel.{mend-nil, mend-cons}
+use Rattle.studio_rescue_rules.specs.Rescue.{mendStep, mend}
+use Rattle.studio_rescue_rules.proofs.Fuel.{mend-cons}
 use Rattle.studio_rescue_around.specs.Around.{aheadBy, ahead}
 use Rattle.studio_rescue_around.proofs.Ahead.{ahead-next}
 

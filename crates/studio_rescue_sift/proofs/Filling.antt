@@ -7,7 +7,6 @@ use lib.ListN.{length, take, drop, length-append}
 use lib.Seq.{slice, length-slice}
 use Rattle.shared_words.specs.Bytes.{Bytes, packed}
 use Rattle.shared_words.specs.Conditions.{Answer, refused, accepted}
-use Rattle.shared_words.specs.Effects.{filled}
 use Rattle.shared_words.specs.Refusals.{numberOf}
 use Rattle.shared_words.proofs.Bytes.{length-packed, packed-append}
 use Rattle.shared_numbers.specs.Put.{Put}
@@ -20,10 +19,10 @@ use Rattle.studio_rules.proofs.Sound.{length-bytes, Tells}
 use Rattle.studio_scene.proofs.Then.{bytes-then}
 use Rattle.studio_walk.proofs.Chunks.{clash, walk-tells}
 use Rattle.studio_walk.proofs.Parts.{bytes-slice}
-use Rattle.studio_rescue_rules.specs.Rescue.{scene, Cut, Sifted, nothing, cutting, judged, sift, gone}
+use Rattle.studio_rescue_rules.specs.Rescue.{scene, Cut, Sifted, cutting, judged, sift, gone}
 use Rattle.studio_rescue_rules.specs.Call.{flat}
 use Rattle.studio_rescue_sift.specs.declared.Child.{Child}
-use Rattle.studio_rescue_sift.specs.Children.{span, childOf, Fillable, FilledIs}
+use Rattle.studio_rescue_sift.specs.Children.{span, childOf, FilledIs}
 use Rattle.studio_rescue_sift.proofs.Spans.{child-first, no-child}
 
 -- ---- one child

@@ -6,11 +6,9 @@ use mathlib.Core.List.{List, [], _∷_}
 use mathlib.Core.Option.{Option, none, some}
 use lib.ListN.{length, take, drop, getD, drop-of-length-le, length-take}
 use lib.Seq.{slice, slice-cons, length-slice, take-length}
-use borrow.Author.Tests.{leb-true}
 use Rattle.shared_words.specs.declared.Refusal.{Refusal}
 use Rattle.shared_words.specs.Bytes.{value}
 use Rattle.shared_words.specs.Conditions.{broken}
-use Rattle.shared_words.proofs.Conditions.{met}
 use Rattle.studio_rules.specs.Walk.{headerConditions, lengthField, walk}
 use Rattle.shared_numbers.specs.Numbers.{longAt}
 use Rattle.shared_numbers.proofs.Slices.{drop-slice, take-slice, long-slice}

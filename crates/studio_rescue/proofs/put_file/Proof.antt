@@ -1,17 +1,16 @@
 -- What stands before the children, what is kept of them, and what stands behind.
-use mathlib.Core.Path.{_≡_, refl, sym, ap, _∙_}
+use mathlib.Core.Path.{_≡_, sym, ap, _∙_}
 use Prim.Native.Nat.{ℕ, _+_, _-_, _≤_}
 use native.Mathlib.Omega.{arith}
-use mathlib.Core.List.{List}
 use lib.ListN.{length, take, drop, length-drop}
 use lib.Seq.{slice, take-length}
 use Rattle.shared_words.specs.Bytes.{Bytes}
 use Rattle.shared_words.proofs.Bytes.{bytes-all}
 use Rattle.shared_numbers.proofs.Put.{put-then, put-front}
-use Rattle.studio_rules.specs.Layout.{size, bytes}
+use Rattle.studio_rules.specs.Layout.{size}
 use Rattle.studio_rules.proofs.Sound.{length-bytes}
-use Rattle.studio_rescue_rules.specs.Rescue.{Sifted, sift, gone}
-use Rattle.studio_rescue.proofs.Mending.{front-length, kept-or-cut}
+use Rattle.studio_rescue_rules.specs.Rescue.{Sifted, sift}
+use Rattle.studio_rescue.proofs.Mending.{kept-or-cut}
 use borrow.Author.Needs.{needs}
 use Rattle.studio_rescue.proofs.put_file.Statement.{statement}
 use Rattle.studio_rescue.proofs.put_file.Tie as tie
@@ -31,14 +30,6 @@ start d = d .before .before .before .before .before
 
 are-bytes : (d : tie.After-put-front) → Bytes (start d .args .file .now)
 are-bytes d = bytes-all (start d .args .file .now) (λ i. omega (arith, d .before .before .before .before .shared-slice-known .given i))
-
-begun : (d : tie.After-put-front) → d .put-front .result ≡ start d .args .at + 6
-begun d =
-    let a = start d .args in
-    let g = start d .pre in
-    let o = g .order in
-    let e = g .ends in
-    omega (arith, d .put-front .ensures .ends, front-length (a .file .now) (a .at) (length (a .file .now) - a .gone) (a .stop - a .at - a .gone) (g .begins) (omega arith))
 
 sub-put-front : tie.Need-sub-put-front
 sub-put-front c =
@@ -76,7 +67,7 @@ fill-requires c κs =
     record {
       within = record { begins = omega (arith, g .begins); order = g .order; ends = g .ends; short = g .short; table-is = g .table-is };
       cuts-room = g .cuts-room;
-      out-room = omega (arith, begun d, shares x (are-bytes d), g .out-room, g .order, g .ends, c .before .before .before .out .given);
+      out-room = omega (arith, d .put-front .ensures .1, shares x (are-bytes d), g .out-room, g .order, g .ends, c .before .before .before .out .given);
     }
 
 sub-put-part : tie.Need-sub-put-part
@@ -88,7 +79,7 @@ put-part-requires c κs =
     let x = start d in
     let g = x .pre in
     let k = c .before .before .before .before .before .fill .ensures .kept-is .ends in
-    (omega (arith, g .ends), omega (arith, begun d, k, length-bytes (sifted x .kept), shares x (are-bytes d), g .out-room, g .order, g .ends, c .before .before .out2 .given, c .before .before .before .before .before .before .before .before .before .out .given))
+    (omega (arith, g .ends), omega (arith, d .put-front .ensures .1, k, length-bytes (sifted x .kept), shares x (are-bytes d), g .out-room, g .order, g .ends, c .before .before .out2 .given, c .before .before .before .before .before .before .before .before .before .out .given))
 
 same-length : tie.Need-same-length
 same-length c = search needs
@@ -106,7 +97,7 @@ returns c =
     let k = c .before .before .before .before .before .before .before .before .fill .ensures in
     let rest : take (length s - a .stop) (drop (a .stop) s) ≡ drop (a .stop) s = ap (λ (n : ℕ). take n (drop (a .stop) s)) (sym (length-drop (a .stop) s)) ∙ take-length (drop (a .stop) s) in
     let p = c .before .before .put-part .ensures in
-    record { cuts-are = k .cuts-are; out-is = put-front (put-then h (put-then h (d .put-front .ensures) (k .kept-is)) (rw rest at p)) }
+    record { cuts-are = k .cuts-are; out-is = put-front (put-then h (put-then h (d .put-front .ensures .0) (k .kept-is)) (rw rest at p)) }
 
 pub put-file-spec : {M : Type 1} → statement M
 put-file-spec =

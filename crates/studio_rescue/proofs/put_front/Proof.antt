@@ -1,10 +1,11 @@
 -- Four pieces, one behind the other.
 use mathlib.Core.Path.{_≡_}
-use Prim.Native.Nat.{ℕ, _+_, _-_, _≤_}
+use Prim.Native.Nat.{_-_, _≤_}
 use native.Mathlib.Omega.{arith}
 use lib.ListN.{length, take, drop, length-drop}
 use lib.Seq.{length-take-le}
 use Rattle.shared_numbers.proofs.Put.{put-then}
+use Rattle.studio_rescue.proofs.Mending.{front-length}
 use borrow.Author.Needs.{needs}
 use Rattle.studio_rescue.proofs.put_front.Statement.{statement}
 use Rattle.studio_rescue.proofs.put_front.Tie as tie
@@ -64,7 +65,9 @@ returns c =
     let first = second .before .before .before .before in
     let a = first .before .before .before .before in
     let h : 0 ≤ length (a .args .out .now) = omega arith in
-    put-then h (put-then h (put-then h (first .put-part .ensures) (second .put-long .ensures)) (third .put-part2 .ensures)) (fourth .put-long2 .ensures)
+    let put = put-then h (put-then h (put-then h (first .put-part .ensures) (second .put-long .ensures)) (third .put-part2 .ensures)) (fourth .put-long2 .ensures) in
+    let s = a .args .file .now in
+    (put, omega (arith, put .ends, front-length s (a .args .at) (a .args .size) (a .args .len) (a .pre .0) (a .pre .1)))
 
 pub put-front-spec : {M : Type 1} → statement M
 put-front-spec =

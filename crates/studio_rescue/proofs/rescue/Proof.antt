@@ -1,6 +1,6 @@
 -- What is beyond it stays refused; the rest is put where there is room.
-use mathlib.Core.Path.{_≡_, refl, sym, ap, _∙_, subst}
-use Prim.Native.Nat.{ℕ, _+_, _-_, _*_, _/_, _≤_}
+use mathlib.Core.Path.{_≡_, sym, ap, _∙_}
+use Prim.Native.Nat.{ℕ, _+_, _-_, _≤_}
 use native.Mathlib.Omega.{arith}
 use mathlib.Core.List.{List}
 use lib.ListN.{length}
@@ -13,7 +13,6 @@ use Rattle.studio_rescue_rules.specs.declared.Mended.{Mended}
 use Rattle.studio_rescue_rules.specs.Rescue.{versionOf, sift, gone, mended}
 use Rattle.studio_rescue_rules.specs.Call.{Lent}
 use Rattle.studio_rescue_sift.specs.declared.Cuts.{Cuts}
-use Rattle.studio_rescue.specs.Parts.{PutIs}
 use Rattle.studio_rescue.proofs.Mending.{kept-or-cut, Found, outside-beyond, outside-scene, after, places, rescue-is, new-length, rows-are, call-beyond, few-cuts, few-bytes, both-filled}
 use borrow.Author.Needs.{needs}
 use Rattle.studio_rescue.proofs.rescue.Statement.{statement}

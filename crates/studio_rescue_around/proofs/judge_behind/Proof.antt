@@ -1,5 +1,5 @@
 -- 3D3D is noted, and the rest is read.
-use mathlib.Core.Path.{_≡_, refl, sym, ap, _∙_}
+use mathlib.Core.Path.{_≡_, refl, ap}
 use Prim.Native.Nat.{ℕ, _+_}
 use native.Mathlib.Omega.{arith}
 use mathlib.Core.List.{List, [], _∷_}
@@ -16,7 +16,6 @@ use Rattle.studio_head.specs.Contexts.{Context}
 use Rattle.studio_walk.specs.declared.Ran.{Ran}
 use Rattle.studio_walk.specs.Runs.{RunIs}
 use Rattle.studio_scene.specs.Passed.{passed}
-use Rattle.studio_rescue_around.specs.Before.{Before}
 use Rattle.studio_rescue_around.proofs.Answers.{behind-refused, scene-found}
 use Rattle.studio_rescue_around.proofs.Contexts.{run-refused, run-read}
 use Rattle.studio_rescue_around.proofs.Behind.{length-field, few-here, scene-ends, six-still, context-behind, run-behind}

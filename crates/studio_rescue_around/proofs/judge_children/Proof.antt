@@ -1,9 +1,8 @@
 -- The children before 3D3D were refused; there is none; or those behind it are judged.
-use mathlib.Core.Path.{_≡_, refl, sym, ap, _∙_}
-use Prim.Native.Nat.{ℕ, _+_}
+use mathlib.Core.Path.{_≡_, refl}
+use Prim.Native.Nat.{ℕ}
 use native.Mathlib.Omega.{arith}
-use mathlib.Core.List.{List, [], _∷_}
-use lib.ListN.{length, drop}
+use mathlib.Core.List.{List, []}
 use lib.Seq.{slice}
 use Rattle.shared_words.specs.Bytes.{Bytes}
 use Rattle.shared_words.proofs.Bytes.{bytes-all}
