@@ -11,7 +11,6 @@ pub struct Figure {
 
 /// All kinds at one size.
 pub fn all(size: usize) -> Vec<Figure> {
-    let unlisted = |size| vec![chunk(0x8123, &[]); size / 6];
     let known = |size| vec![chunk(0x1470, &[]); size / 6];
     let small = |size| vec![object(b"a\0", 1, 1); size / 80];
     let large = |size| vec![object(b"large\0", size / 2 / 20, size / 2 / 20); 2];
@@ -19,7 +18,7 @@ pub fn all(size: usize) -> Vec<Figure> {
     let short = |size| vec![object(&name(40), 1, 1); size / 89];
     let cubes = |size| vec![object(b"cube\0", 28, 16); size / 400];
     vec![
-        figure("smallest unlisted chunks", size, &unlisted),
+        unlisted(size),
         figure("mixed unlisted chunks", size, &mixed),
         figure("smallest known chunks", size, &known),
         figure("many small meshes", size, &small),
@@ -30,6 +29,24 @@ pub fn all(size: usize) -> Vec<Figure> {
         figure("materials", size, &materials),
         figure("faces and groups", size, &groups),
     ]
+}
+
+/// Unlisted chunks of 6 bytes.
+pub fn unlisted(size: usize) -> Figure {
+    figure("smallest unlisted chunks", size, &|size| {
+        vec![chunk(0x8123, &[]); size / 6]
+    })
+}
+
+/// Small meshes, of which every second has a coordinate that is no number.
+pub fn broken(size: usize) -> Figure {
+    let good = object(b"a\0", 1, 1);
+    let mut bad = good.clone();
+    let first = good.len() - 16 - 12;
+    bad[first..first + 4].fill(0xFF);
+    figure("every second mesh broken", size, &|size| {
+        vec![[good.clone(), bad.clone()]; size / 100].concat()
+    })
 }
 
 /// Unlisted chunks of 6 to 69 bytes, hardly two of one identifier.

@@ -6,6 +6,7 @@ mod calls;
 mod cobs;
 mod figures;
 mod measure;
+mod rescues;
 mod slips;
 
 use calls::{write, Call, Lent, CALLS};
@@ -31,59 +32,45 @@ fn main() {
 fn limit(lent: &mut Lent) {
     println!("\nfigure of 1,048,576 bytes call      copying    second   library     ratio    ns/B");
     for figure in figures::all(second::LIMIT) {
-        assert_eq!(figure.bytes.len(), second::LIMIT);
-        let copying = copying(&figure.bytes);
-        for call in CALLS {
-            let times = lent.time(call, &figure, TURNS);
-            line(
-                figure.what,
-                &format!("{call:?}"),
-                copying,
-                times,
-                figure.bytes.len(),
-            );
-        }
+        let calls = CALLS.map(|call| (name(call), lent.time(call, &figure, TURNS)));
+        lines(figure.what, &figure.bytes, &calls);
     }
-    let bytes: Vec<u8> = (0..second::LIMIT).map(|k| (k * 31 % 251) as u8).collect();
-    let times = slips::sums(&bytes, TURNS);
-    line("bytes", "Sums", copying(&bytes), times, bytes.len());
-    let (size, read, written) = slips::worst(TURNS / 20);
-    line(
-        "the worst slip",
-        "Read",
-        copying(&vec![7; size]),
-        read,
-        size,
-    );
-    line(
-        "the worst slip",
-        "Write",
-        copying(&vec![7; size]),
-        written,
-        size,
-    );
+    for figure in [
+        figures::unlisted(second::LIMIT),
+        figures::broken(second::LIMIT),
+    ] {
+        let times = rescues::times(&figure.bytes, TURNS);
+        lines(figure.what, &figure.bytes, &[("Rescue", times)]);
+    }
     for figure in c4ds::all() {
-        assert_eq!(figure.bytes.len(), second::LIMIT);
-        let copying = copying(&figure.bytes);
-        for (call, times) in c4ds::times(&figure.bytes, TURNS) {
-            line(figure.what, call, copying, times, figure.bytes.len());
-        }
+        let calls = c4ds::times(&figure.bytes, TURNS);
+        lines(figure.what, &figure.bytes, &calls);
     }
     for figure in cobs::all() {
-        assert_eq!(figure.bytes.len(), second::LIMIT);
-        let copying = copying(&figure.bytes);
-        for (call, times) in cobs::times(&figure.bytes, TURNS) {
-            line(figure.what, call, copying, times, figure.bytes.len());
-        }
+        let calls = cobs::times(&figure.bytes, TURNS);
+        lines(figure.what, &figure.bytes, &calls);
     }
     let (size, times) = write(second::LIMIT, TURNS);
-    line(
-        "a figure written",
-        "Write",
-        copying(&vec![7; size]),
-        times,
-        size,
-    );
+    lines("a figure written", &vec![7; size], &[("Write", times)]);
+    slip();
+}
+
+/// The sums of a file, and the slip that takes longest.
+fn slip() {
+    let bytes: Vec<u8> = (0..second::LIMIT).map(|k| (k * 31 % 251) as u8).collect();
+    let times = slips::sums(&bytes, TURNS);
+    lines("bytes", &bytes, &[("Sums", times)]);
+    let (size, read, written) = slips::worst(TURNS / 20);
+    let calls = [("Read", read), ("Write", written)];
+    lines("the worst slip", &vec![7; size], &calls);
+}
+
+/// A line for each call over a file.
+fn lines<Call: AsRef<str>>(what: &str, file: &[u8], calls: &[(Call, Times)]) {
+    let copying = copying(file);
+    for (call, times) in calls {
+        line(what, call.as_ref(), copying, *times, file.len());
+    }
 }
 
 /// One line: both times, their ratio, and the library's time for each byte.
