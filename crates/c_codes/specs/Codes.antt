@@ -1,4 +1,4 @@
--- An answer as document 01's one number for C. An answer proper is below 2^32, so it is never mistaken for a refusal: crate
+-- An answer as the one number for C of include/tds.h. An answer proper is below 2^32, so it is never mistaken for a refusal: crate
 -- claim_numbers proves it of every call.
 use Prim.Native.Nat.{ℕ, _+_, _-_, _*_, _^_, min}
 use Rattle.shared_words.specs.declared.Refusal.{Refusal}

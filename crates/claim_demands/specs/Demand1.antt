@@ -1,5 +1,5 @@
--- DEMAND 1, of the calls. "Any file, of any length, is either accepted or refused with one number and one place from the
--- table in document 01. The caller need check nothing first. A refusal leaves every lent table and buffer untouched."
+-- DEMAND 1 of docs/DEMANDS.md, of the calls. "Any file, of any length, is either accepted or refused with one number and
+-- one place from the table … The caller need check nothing first. A refusal leaves every lent table and buffer untouched."
 -- Nothing is asked of the file, the number of the mesh, the rows or what stands in them.
 use mathlib.Core.Path.{_≡_}
 use mathlib.Core.Logic.{_⊎_}

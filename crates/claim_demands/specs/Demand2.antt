@@ -1,6 +1,6 @@
--- DEMAND 2, of the calls. "Given room, a file within the length limit is accepted exactly when it meets the chunk rules of
--- document 01 … The list, tables and byte counts are those the rules give. A figure we write is accepted and reads back to
--- the same name, numbers and corners."
+-- DEMAND 2 of docs/DEMANDS.md, of the calls. "Given room, a file within the length limit is accepted exactly when it meets
+-- the chunk rules … The list, tables and byte counts are those the rules give. A figure we write is accepted and reads back
+-- to the same name, numbers and corners."
 use mathlib.Core.Path.{_≡_}
 use mathlib.Core.Logic.{_↔_}
 use mathlib.Core.List.{List}

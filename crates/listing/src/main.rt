@@ -1,4 +1,4 @@
-// Document 01's listing program: what standard input holds, chunk by chunk. No contract can say what is written to the
+// The listing program of docs/FORMAT.md: what standard input holds, chunk by chunk. No contract can say what is written to the
 // output; it is the bytes that `listing_text::answer` makes, whose contract has them.
 use libc::STDERR_FILENO;
 use libc::STDIN_FILENO;

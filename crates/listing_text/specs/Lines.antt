@@ -1,4 +1,4 @@
--- The lines of the listing program, by document 01's section "Bench samples", in ASCII.
+-- The lines of the listing program, by docs/FORMAT.md, in ASCII.
 use Prim.Native.Nat.{ℕ, zero, suc, _+_}
 use mathlib.Core.List.{List, [], _∷_, _++_}
 use lib.ListN.{drop, getD}

@@ -1,4 +1,4 @@
--- Document 01's listing of the triangle, byte for byte, and two refusals.
+-- The listing of the triangle in docs/FORMAT.md, byte for byte, and two refusals.
 use mathlib.Core.Path.{_≡_}
 use Prim.Native.Nat.{ℕ}
 use mathlib.Core.List.{List, [], _∷_}

@@ -1,4 +1,4 @@
-// Runs the bench samples P1 to P12 of document 01, and two figures of the greatest length whose chunks nearly all stand
+// Runs the bench samples P1 to P12 of docs/FORMAT.md, and two figures of the greatest length whose chunks nearly all stand
 // under 3D3D, and prints a line for each answer.
 use libc::STDOUT_FILENO;
 use shared_words::Refusal;

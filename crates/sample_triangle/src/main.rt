@@ -1,4 +1,4 @@
-// Writes the triangle of document 01 and prints its bytes, in hexadecimal: a line for each chunk, and one for each vertex.
+// Writes the triangle of docs/FORMAT.md and prints its bytes, in hexadecimal: a line for each chunk, and one for each vertex.
 use libc::STDOUT_FILENO;
 use shared_words::Refusal;
 use shared_words::Written;

@@ -1,4 +1,4 @@
--- The strict reading, in the order of refusals that document 02 gives: a walk over bytes, which answers the first fault met
+-- The strict reading, in the order of refusals that docs/SLIP.md gives: a walk over bytes, which answers the first fault met
 -- or the entries. A place is an offset in the slip.
 use Prim.Native.Nat.{ℕ, zero, suc, _+_}
 use mathlib.Core.List.{List, [], _∷_}

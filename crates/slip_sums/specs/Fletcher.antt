@@ -1,4 +1,4 @@
--- The 8-bit Fletcher sum of RFC 1146, as document 02 says it: first the sum of all bytes, second the sum of the running
+-- The 8-bit Fletcher sum of RFC 1146, as docs/SLIP.md says it: first the sum of all bytes, second the sum of the running
 -- first sums, both as remainders modulo 255.
 use mathlib.Core.Path.{_≡_}
 use mathlib.Core.List.{List, [], _∷_}

@@ -1,4 +1,4 @@
--- The box is what document 01 says.
+-- The box is what docs/FORMAT.md says.
 use mathlib.Core.Path.{_≡_, refl}
 use mathlib.Core.Bool.{true}
 use mathlib.Core.List.{List}

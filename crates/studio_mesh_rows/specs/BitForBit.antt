@@ -1,4 +1,4 @@
--- What document 01 says of the floats of a table, as a statement about the definitions of crate studio_rules.
+-- What docs/FORMAT.md says of the floats of a table, as a statement about the definitions of crate studio_rules.
 use mathlib.Core.Path.{_≡_}
 use mathlib.Core.Bool.{true}
 use mathlib.Core.List.{List, map}

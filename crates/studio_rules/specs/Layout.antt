@@ -8,7 +8,7 @@ use Rattle.shared_words.specs.Bytes.{le}
 
 -- A run of chunks ends, or begins with a chunk and goes on with the rest of the run. The chunk is skipped, with its
 -- identifier and its inside; or known, with its identifier, its own data and its children.
--- (Document 01's known chunk: 4D4D, or a chunk whose identifier has a row and whose parent is known.)
+-- (A known chunk is 4D4D, or a chunk whose identifier has a row and whose parent is known.)
 pub data Run : Type 0 where
   end : Run
   skip : ℕ → List ℕ → Run → Run

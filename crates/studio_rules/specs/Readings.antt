@@ -1,6 +1,6 @@
--- Worked cases for the places where document 01 leaves room or where others have gone wrong, and for the requests: what is
--- answered, and of several faults which. One list under one statement, like P1 to P12. (More cases are run, not proved: the
--- differ's named cases in second/.)
+-- Worked cases for the places where the paper leaves room (docs/DECISIONS.md) or where others have gone wrong, and for the
+-- requests: what is answered, and of several faults which. One list under one statement, like P1 to P12. (More cases are
+-- run, not proved: the differ's named cases in second/.)
 use mathlib.Core.Path.{_≡_}
 use Prim.Native.Nat.{ℕ, _*_}
 use mathlib.Core.List.{List, [], _∷_, _++_, map}

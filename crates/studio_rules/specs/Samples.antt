@@ -1,4 +1,4 @@
--- P1 to P12 of document 01, as one list under one statement.
+-- P1 to P12 of docs/FORMAT.md, as one list under one statement.
 use mathlib.Core.Path.{_≡_}
 use Prim.Native.Nat.{ℕ}
 use mathlib.Core.List.{List, [], _∷_, _++_}

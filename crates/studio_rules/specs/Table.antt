@@ -1,5 +1,5 @@
--- The chunk table of document 01, with what document 02 changes in it, "at most one" and "at least one", as data. All that is
--- said of one identifier is read from here.
+-- The chunk table of docs/FORMAT.md, "at most one" and "at least one", as data. All that is said of one identifier is read
+-- from here.
 use Prim.Native.Nat.{ℕ}
 use mathlib.Core.Bool.{Bool, true, false, cond}
 use mathlib.Core.List.{List, [], _∷_}

@@ -1,4 +1,4 @@
--- The strict reading, as document 01's paragraph "Order" gives it: a walk in file order over bytes, which answers the
+-- The strict reading, in the order of refusals that docs/FORMAT.md gives: a walk in file order over bytes, which answers the
 -- first fault met or the layout.
 use Prim.Native.Nat.{ℕ, zero, suc, _+_, _-_}
 use mathlib.Core.Bool.{Bool, true, false, _&&_, _||_, cond}

@@ -1,4 +1,4 @@
--- Worked cases of the writer, as one list under one statement: document 01's triangle, and of several faults which is
+-- Worked cases of the writer, as one list under one statement: the triangle of docs/FORMAT.md, and of several faults which is
 -- answered.
 use mathlib.Core.Path.{_≡_}
 use Prim.Native.Nat.{ℕ}

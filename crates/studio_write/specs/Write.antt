@@ -1,5 +1,5 @@
--- What the writer answers and leaves in the lent buffer, for every name, rows and buffer: document 01's section "The
--- writer". The contract of `write` is an equation with `writeCall`.
+-- What the writer answers and leaves in the lent buffer, for every name, rows and buffer: docs/FORMAT.md,
+-- "What the writer writes". The contract of `write` is an equation with `writeCall`.
 use Prim.Native.Nat.{ℕ}
 use mathlib.Core.List.{List}
 use lib.Ieee.{Float}

@@ -1,5 +1,5 @@
--- What the writer judges before it writes, for every name, rows and room: document 01's section "The writer", with Q-8. The contract
--- of `judge` is an equation with `judged`.
+-- What the writer judges before it writes, for every name, rows and room: docs/FORMAT.md, "What the writer
+-- writes". The contract of `judge` is an equation with `judged`.
 use Prim.Native.Nat.{ℕ, _+_, _*_, _/_, _%_}
 use mathlib.Core.Bool.{Bool, true, false, not, _&&_}
 use mathlib.Core.List.{List, [], _∷_}
