@@ -20,6 +20,7 @@ samples = record {
   pierced = refl;
   one-too-long = λ s h. rw (lt-leb (length s) limit h);
   twenty-header = refl;
+  twenty-cut = refl;
   five-overrun = refl;
   five-stated = refl;
   twenty-one-zero = refl;

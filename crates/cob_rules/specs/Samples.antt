@@ -106,6 +106,7 @@ pub record Samples : Type 0 where
       row 0x2044_4E45 270 20 0 0 0 ∷ []) (tables (0 ∷ 1 ∷ 1 ∷ []))
   pub one-too-long : (s : List ℕ) → limit < length s → verdict s ≡ refused TooLong
   pub twenty-header : answer (set smallest 15 0x41) ≡ no 20 0
+  pub twenty-cut : answer (take 31 smallest) ≡ no 20 0
   pub five-overrun : answer (take 51 smallest) ≡ no 5 32
   pub five-stated : answer (fileHeader ++ (chunk bitm 1 0 21 [] ++ theEnd)) ≡ no 5 32
   pub twenty-one-zero : answer (fileHeader ++ (chunk bitm 0 0 0 [] ++ theEnd)) ≡ no 21 32
