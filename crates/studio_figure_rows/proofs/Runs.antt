@@ -8,7 +8,7 @@ use mathlib.Core.List.{List, [], _∷_, _++_, map}
 use lib.Dec.{eqb, leb}
 use lib.ListN.{length, take, drop, getD}
 use borrow.Author.Tests.{eqb-true, eqb-false, eq-eqb, ne-eqb, leb-true, leb-false}
-use Rattle.studio_figure_rows.specs.Rows.{entry, sumTo, run, Capped}
+use Rattle.studio_figure_rows.specs.Rows.{entry, sumTo, run, part, Capped}
 
 module _ {A : Type 0} (thing : ℕ → A) where
   pub run-length : (i n : ℕ) → length (run thing i n) ≡ n
@@ -79,11 +79,11 @@ pub stride : (k i n : ℕ) → i < n → k * i + k ≤ k * n
 stride k i n h = le-trans (le-of-eq (sym (mul-suc k i))) (mul-le-mul-left k h)
 
 -- a sum that was left, and one that was finished
-pub capped-past : (before here all cap sum : ℕ) → before + sum ≡ here → here ≤ all → cap < sum → Capped before all cap sum
-capped-past before here all cap sum e h p = record { exact = λ l. absurd (omega arith); past = λ q. omega arith }
+pub capped-past : (before here all cap sum : ℕ) → before + sum ≡ here → here ≤ all → cap < sum → sum ≤ cap + 4_294_967_295 → Capped before all cap sum
+capped-past before here all cap sum e h p w = record { exact = λ l. absurd (omega arith); past = λ q. omega arith; within = w }
 
-pub capped-all : (before all cap sum : ℕ) → before + sum ≡ all → Capped before all cap sum
-capped-all before all cap sum e = record { exact = λ l. e; past = λ q. omega arith }
+pub capped-all : (before all cap sum : ℕ) → before + sum ≡ all → sum ≤ cap + 4_294_967_295 → Capped before all cap sum
+capped-all before all cap sum e w = record { exact = λ l. e; past = λ q. omega arith; within = w }
 
 -- the sum is its cap exactly when all is
 pub capped-is : (all cap sum : ℕ) → Capped 0 all cap sum → eqb sum cap ≡ eqb cap all
@@ -104,3 +104,15 @@ shift-eqb a b c d f g = go (eqb a b) refl
     go : (t : Bool) → eqb a b ≡ t → t ≡ eqb c d
     go true h = sym (eq-eqb c d (f (eqb-true a b h)))
     go false h = sym (ne-eqb c d (λ (p : c ≡ d). eqb-false a b h (g p)))
+
+-- a part from `at` to `at + n`, where both are known by equations
+pub part-is : {A : Type 0} (row : List A) (at n from to : ℕ) → at ≡ from → n ≡ to → part at (at + n - at) row ≡ part from to row
+part-is row at n from to e f = let g : at + n - at ≡ to = omega arith in rw (g, e)
+
+-- a cap that is not reached
+pub capped-under : (before all cap sum : ℕ) → Capped before all cap sum → all ≤ cap → before + sum ≡ all
+capped-under before all cap sum h u = go (leb sum cap) refl
+  where
+    go : (b : Bool) → leb sum cap ≡ b → before + sum ≡ all
+    go true e = h .exact (leb-true sum cap e)
+    go false e = absurd (omega (arith, h .past (leb-false sum cap e)))

@@ -96,3 +96,4 @@ figureOf r = record { objects = run (objectAt r) 0 (objectCount r); materials = 
 pub record Capped (before all cap sum : ℕ) : Type 0 where
   pub exact : sum ≤ cap → before + sum ≡ all
   pub past : cap < sum → before + cap < all
+  pub within : sum ≤ cap + 4_294_967_295

@@ -37,12 +37,12 @@ parts : (x : Float) (xs : List Float) → Floats32 (x ∷ xs) → T (fits binary
 unfolding every
 parts x xs f = let p = and-parts (fits binary32 x) (every (fits binary32) xs) f in (subst T (sym (p .0)) tt, p .1)
 
-all-finite : (xs : List Float) → Floats32 xs → every finite (map bits xs) ≡ every finiteFloat xs
+pub all-finite : (xs : List Float) → Floats32 xs → every finite (map bits xs) ≡ every finiteFloat xs
 unfolding every
 all-finite [] f = refl
 all-finite (x ∷ xs) f = let p = parts x xs f in rw (finite-bits x (p .0), all-finite xs (p .1))
 
-first-finite : (xs : List Float) → Floats32 xs → firstFault finite (map bits xs) ≡ firstFault finiteFloat xs
+pub first-finite : (xs : List Float) → Floats32 xs → firstFault finite (map bits xs) ≡ firstFault finiteFloat xs
 first-finite [] f = refl
 first-finite (x ∷ xs) f = let p = parts x xs f in rw (finite-bits x (p .0), first-finite xs (p .1))
 

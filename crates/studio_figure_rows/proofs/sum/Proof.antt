@@ -20,7 +20,7 @@ returns : tie.Need-returns Inv-loop μ-loop
 returns c =
     let l = c .before .before .loop in
     let a = c .before .before .before .before .args in
-    capped-past _ _ _ _ _ (l .inv .3) (sum-up (a .width) (a .column) (a .row .now) (l .i) (a .to) (l .inv .1)) (c .if1 .taken)
+    capped-past _ _ _ _ _ (l .inv .3) (sum-up (a .width) (a .column) (a .row .now) (l .i) (a .to) (l .inv .1)) (c .if1 .taken) (l .inv .2)
 
 number-requires : tie.Need-number-requires Inv-loop μ-loop
 number-requires c κs =
@@ -47,7 +47,7 @@ returns-2 c =
     let l = c .before .loop in
     let a = c .before .before .before .args in
     let e : l .i ≡ a .to = omega arith in
-    capped-all _ _ _ _ (rw e at (l .inv .3))
+    capped-all _ _ _ _ (rw e at (l .inv .3)) (l .inv .2)
 
 pub sum-spec : {M : Type 1} → statement M
 sum-spec =
