@@ -247,7 +247,7 @@ fn smoothing_size(words: usize) -> usize
 }
 
 // The size of object i, as far as it matters.
-fn object_size(objects: &[u32], groups: &[u32], i: usize, group: usize) -> usize
+pub fn object_size(objects: &[u32], groups: &[u32], i: usize, group: usize) -> usize
     requires { ⌜ (5 * i + 5 ≤ length (now objects)) × (group ≡ sumTo 5 4 (now objects) i) × (2 * (group + entry 5 4 (now objects) i) ≤ length (now groups)) ⌝ }
     ensures { λ r. ⌜ Capped 0 (objectBytes (now (objects .entry)) (now (groups .entry)) i) 1048576 r × (r ≤ 1048577) ⌝ }
 {
