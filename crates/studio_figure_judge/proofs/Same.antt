@@ -116,7 +116,7 @@ module _ (r : Flat) (f : Fits r) where
         let v = group-faces g (omega arith) in
         rw a (omega arith)
 
-    size-same : objectSize (objectAt r i) ≡ objectBytes (r .objects) (r .groups) i
+    pub size-same : objectSize (objectAt r i) ≡ objectBytes (r .objects) (r .groups) i
     size-same =
         let g = group-sizes first many groups-inside in
         let x : triples (objectAt r i .vertices) ≡ entry 5 1 (r .objects) i / 3 = ap (λ (t : ℕ). t / 3) object-vertices in
