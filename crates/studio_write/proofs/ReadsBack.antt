@@ -53,7 +53,7 @@ module _ (name : List ℕ) (vertices : List Float) (corners : List ℕ) (room si
     exact-data : Exact (nameData name) (vertexData vertices) (faceData corners)
     exact-data = record {
       name-ends = name-size name (r .no-zero);
-      name-fits = rw (name-text name (r .no-zero)) (r .fits-label);
+      name-fits = rw (name-text name [] (r .no-zero)) (r .fits-label);
       vertices-exact = omega (arith, vertex-count, length-vertex-data vertices (r .whole-vertices));
       faces-exact = omega (arith, face-count, length-face-data corners);
       numbers-finite = rw vertex-numbers (floats-finite vertices f (r .finite));

@@ -29,12 +29,12 @@ use Rattle.studio_write_bytes.specs.Bare.{sixChunks}
 use Rattle.studio_write.specs.ReadsBack.{sixRecords}
 
 -- the rules of one chunk and of its children, in the order of the records
-own-obeys : {p : Parent} {seen : List ℕ} {id : ℕ} {own : List ℕ} →
+pub own-obeys : {p : Parent} {seen : List ℕ} {id : ℕ} {own : List ℕ} →
     inPlace p id own ≡ true → notTwice p seen id ≡ true → namesFit p id own ≡ true → ownDataExact p id own ≡ true → numbersFinite p id own ≡ true →
     faceNumbersBelow p id own ≡ true → fatherEarlier p id own ≡ true → Own p seen id own
 own-obeys a b c d e f g = record { in-place = a; not-twice = b; names-fit = c; own-data-exact = d; numbers-finite = e; face-numbers-below = f; father-earlier = g }
 
-children-obey : {q : Parent} {kids : Run} → childrenInPlus q kids ≡ true → noneMissing q kids ≡ true → cornersBelow q kids ≡ true → mappingMatches q kids ≡ true → Children q kids
+pub children-obey : {q : Parent} {kids : Run} → childrenInPlus q kids ≡ true → noneMissing q kids ≡ true → cornersBelow q kids ≡ true → mappingMatches q kids ≡ true → Children q kids
 children-obey a b c d = record { in-plus = a; none-missing = b; corners-below = c; mapping-matches = d }
 
 module _ (name vertices faces : List ℕ) where

@@ -3,7 +3,7 @@ use mathlib.Core.Path.{_≡_, refl, ap}
 use Prim.Native.Nat.{ℕ, zero, suc, _*_, _^_, _<_}
 use native.Mathlib.Omega.{arith}
 use mathlib.Core.Bool.{Bool, true, false, not, _&&_, cond, false≢true}
-use mathlib.Core.List.{List, [], _∷_}
+use mathlib.Core.List.{List, [], _∷_, _++_}
 use lib.Dec.{eqb, ltb}
 use lib.ListN.{length}
 use lib.Seq.{take-at, drop-at}
@@ -51,13 +51,13 @@ name-size (b ∷ name) h = go (eqb b 0) h (name-size name)
     go true h ih = absurd (false≢true h)
     go false h ih = ap suc (ih h)
 
--- the bytes of a name are those before its zero
-pub name-text : (name : List ℕ) → every notZero name ≡ true → text (nameData name) ≡ name
+-- the bytes of a name are those before its zero, whatever follows
+pub name-text : (name more : List ℕ) → every notZero name ≡ true → text (name ++ (0 ∷ more)) ≡ name
 unfolding every
-name-text [] h = refl
-name-text (b ∷ name) h = go (eqb b 0) h (name-text name)
+name-text [] more h = refl
+name-text (b ∷ name) more h = go (eqb b 0) h (name-text name more)
   where
-    go : (z : Bool) → (not z && every notZero name) ≡ true → (every notZero name ≡ true → text (nameData name) ≡ name) →
-        cond z [] (b ∷ text (nameData name)) ≡ b ∷ name
+    go : (z : Bool) → (not z && every notZero name) ≡ true → (every notZero name ≡ true → text (name ++ (0 ∷ more)) ≡ name) →
+        cond z [] (b ∷ text (name ++ (0 ∷ more))) ≡ b ∷ name
     go true h ih = absurd (false≢true h)
     go false h ih = ap (λ (l : List ℕ). b ∷ l) (ih h)

@@ -160,7 +160,7 @@ module _ (name vertices faces : List ℕ) (x : Exact name vertices faces) (bv : 
   fits-again : fitsLabel short ≡ true
   fits-again =
       let n = name-parts name (x .name-ends) in
-      subst (λ (t : List ℕ). fitsLabel t ≡ true) (ap text (n .1) ∙ name-text short (n .2)) (x .name-fits)
+      subst (λ (t : List ℕ). fitsLabel t ≡ true) (ap text (n .1) ∙ name-text short [] (n .2)) (x .name-fits)
 
   met-again : (room : ℕ) → figureSize short (floats vertices) (faceCorners faces) ≤ limit → figureSize short (floats vertices) (faceCorners faces) ≤ room →
       Met (writeConditions short (floats vertices) (faceCorners faces) room)

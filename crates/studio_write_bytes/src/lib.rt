@@ -16,7 +16,7 @@ ghost use Rattle.studio_write_judge.specs.Judged.{triples, finiteFloat, judged}
 ghost use Rattle.studio_write_bytes.specs.Bare.{faceWords, nameData, vertexData, faceData, bareBytes};
 
 // The header of a chunk.
-fn put_header(id: u16, len: usize, at: usize, out: &mut [u8]) -> usize
+pub fn put_header(id: u16, len: usize, at: usize, out: &mut [u8]) -> usize
     requires { ⌜ (len < 4294967296) × (at + 6 ≤ length (now out)) ⌝ }
     ensures { λ r. ⌜ Put (now (out .entry)) at (header id len) (now (out .exit)) r ⌝ }
 {
@@ -24,7 +24,7 @@ fn put_header(id: u16, len: usize, at: usize, out: &mut [u8]) -> usize
 }
 
 // A name and its zero.
-fn put_name(name: &[u8], at: usize, out: &mut [u8]) -> usize
+pub fn put_name(name: &[u8], at: usize, out: &mut [u8]) -> usize
     requires { ⌜ at + length (now name) + 1 ≤ length (now out) ⌝ }
     ensures { λ r. ⌜ Put (now (out .entry)) at (nameData (now (name .entry))) (now (out .exit)) r ⌝ }
 {
@@ -66,7 +66,7 @@ fn put_face(a: u16, b: u16, c: u16, at: usize, out: &mut [u8]) -> usize
 }
 
 // The faces of a row of corners.
-fn put_faces(corners: &[u16], at: usize, out: &mut [u8]) -> usize
+pub fn put_faces(corners: &[u16], at: usize, out: &mut [u8]) -> usize
     requires { ⌜ at + 8 * triples (now corners) ≤ length (now out) ⌝ }
     ensures { λ r. ⌜ Put (now (out .entry)) at (packed 2 (faceWords (triples (now (corners .entry))) (now (corners .entry)))) (now (out .exit)) r ⌝ }
 {
@@ -82,7 +82,7 @@ fn put_faces(corners: &[u16], at: usize, out: &mut [u8]) -> usize
 }
 
 // The chunk 4110.
-fn put_vertex_list(vertices: &[f32], at: usize, out: &mut [u8]) -> usize
+pub fn put_vertex_list(vertices: &[f32], at: usize, out: &mut [u8]) -> usize
     requires { ⌜ (length (now vertices) % 3 ≡ 0) × (length (now vertices) ≤ 196605) × (every finiteFloat (now vertices) ≡ true) ⌝ }
     requires { ⌜ at + 8 + 12 * triples (now vertices) ≤ length (now out) ⌝ }
     ensures { λ r. ⌜ Put (now (out .entry)) at (bytes (known 0x4110 (vertexData (now (vertices .entry))) end end)) (now (out .exit)) r ⌝ }

@@ -21,7 +21,7 @@ use Rattle.shared_words.specs.declared.Written.the-variants.{Size, Refused}
 use Rattle.studio_write_judge.specs.Judged.{triples, notZero, wholeRow, finiteFloat, figureSize, writeConditions, answerOf, judged}
 
 -- the first k hold, and the next does not
-broken-at : (k : ℕ) (cs : List Condition) {b : Bool} {r : Refusal} {rest : List Condition} → Met (take k cs) → drop k cs ≡ must b r ∷ rest → b ≡ false → broken cs ≡ some r
+pub broken-at : (k : ℕ) (cs : List Condition) {b : Bool} {r : Refusal} {rest : List Condition} → Met (take k cs) → drop k cs ≡ must b r ∷ rest → b ≡ false → broken cs ≡ some r
 unfolding broken
 broken-at zero cs m e f = ap broken e ∙ rw f
 broken-at (suc k) [] m e f = let z : _≡_ {A = ℕ} 0 1 = cc in absurd (omega arith)

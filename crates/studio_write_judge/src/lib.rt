@@ -13,7 +13,7 @@ const LIMIT: usize = 1048576;
 const LONGEST_ROW: usize = 196605;
 
 // The position of the first zero byte; where there is none, the length.
-fn first_zero(name: &[u8]) -> usize
+pub fn first_zero(name: &[u8]) -> usize
     ensures { λ r. ⌜ r ≡ firstFault notZero (now (name .entry)) ⌝ }
 {
     let mut i = 0usize;
@@ -34,7 +34,7 @@ fn label_size(name: &[u8]) -> usize
 }
 
 // Whether a row of this length is made of whole vertices or faces, and not of too many.
-fn whole_row(n: usize) -> bool
+pub fn whole_row(n: usize) -> bool
     ensures { λ r. ⌜ r ≡ wholeRow n ⌝ }
 {
     n % 3 == 0 && n <= LONGEST_ROW
@@ -49,7 +49,7 @@ fn is_finite(x: f32) -> bool
 }
 
 // Whether all floats are finite. The loop branches on nothing that it reads, and becomes vector code.
-fn all_finite(vertices: &[f32]) -> bool
+pub fn all_finite(vertices: &[f32]) -> bool
     ensures { λ r. ⌜ r ≡ every finiteFloat (now (vertices .entry)) ⌝ }
 {
     let mut good = true;
@@ -64,7 +64,7 @@ fn all_finite(vertices: &[f32]) -> bool
 }
 
 // Whether all corners are below n. The two are as wide as each other, so that vector code compares eight at a time.
-fn all_below(n: u16, corners: &[u16]) -> bool
+pub fn all_below(n: u16, corners: &[u16]) -> bool
     ensures { λ r. ⌜ r ≡ every (λ c. ltb c n) (now (corners .entry)) ⌝ }
 {
     let mut good = true;
@@ -79,7 +79,7 @@ fn all_below(n: u16, corners: &[u16]) -> bool
 }
 
 // The position of the first float that is not finite; where there is none, the length.
-fn first_not_finite(vertices: &[f32]) -> usize
+pub fn first_not_finite(vertices: &[f32]) -> usize
     ensures { λ r. ⌜ r ≡ firstFault finiteFloat (now (vertices .entry)) ⌝ }
 {
     let mut i = 0usize;
@@ -93,7 +93,7 @@ fn first_not_finite(vertices: &[f32]) -> usize
 }
 
 // The position of the first corner that is not below n; where there is none, the length.
-fn first_not_below(n: usize, corners: &[u16]) -> usize
+pub fn first_not_below(n: usize, corners: &[u16]) -> usize
     ensures { λ r. ⌜ r ≡ firstFault (λ c. ltb c n) (now (corners .entry)) ⌝ }
 {
     let mut i = 0usize;

@@ -10,6 +10,8 @@ ghost use Rattle.studio_list_table.specs.Listed.{inTable, inRow};
 ghost use Rattle.shared_words.specs.Encodings.{numberBytes};
 ghost use Rattle.studio_mesh_tables.specs.Rows.{twoRows, mappingRow};
 ghost use Rattle.studio_write.specs.Write.{writeCall};
+ghost use Rattle.studio_figure_rules.specs.Described.{writeFlat};
+ghost use Rattle.studio_figure_rows.specs.Rows.{flat};
 ghost use Rattle.c_version.specs.Version.{versionCode};
 ghost use Rattle.c_codes.specs.Codes.{recordsOr, sizesOr, numbersOr, sizeOr};
 ghost use Rattle.c_answers.specs.Given.{countsGiven, nameGiven, boxGiven};
@@ -143,6 +145,37 @@ pub extern "C" fn tds_write(name: &[u8], vertices: &[f32], corners: &[u16], out:
     ensures out { λ _. ⌜ now (out .exit) ≡ writeCall (now (name .entry)) (now (vertices .entry)) (now (corners .entry)) (now (out .entry)) .rows ⌝ }
 {
     c_codes::written_code(studio_write::write(name, vertices, corners, out))
+}
+
+// The size of the figure with many objects and materials that now stands in the front of out, or a refusal.
+#[no_mangle]
+pub extern "C" fn tds_write_figure(
+    names: &[u8],
+    objects: &[u32],
+    vertices: &[f32],
+    corners: &[u16],
+    smoothing: &[u32],
+    groups: &[u32],
+    faces: &[u16],
+    materials: &[u32],
+    colours: &[u8],
+    out: &mut [u8],
+) -> u64
+    ensures answer { λ n. ⌜ n ≡ sizeOr (writeFlat (flat (now (names .entry)) (now (objects .entry)) (now (vertices .entry)) (now (corners .entry)) (now (smoothing .entry)) (now (groups .entry)) (now (faces .entry)) (now (materials .entry)) (now (colours .entry))) (now (out .entry)) .answer) ⌝ }
+    ensures out { λ _. ⌜ now (out .exit) ≡ writeFlat (flat (now (names .entry)) (now (objects .entry)) (now (vertices .entry)) (now (corners .entry)) (now (smoothing .entry)) (now (groups .entry)) (now (faces .entry)) (now (materials .entry)) (now (colours .entry))) (now (out .entry)) .rows ⌝ }
+{
+    c_codes::written_code(studio_figure::write_figure(
+        names,
+        objects,
+        vertices,
+        corners,
+        smoothing,
+        groups,
+        faces,
+        materials,
+        colours,
+        out,
+    ))
 }
 
 // ---- the slip of a stick: the checksum of a file

@@ -1,0 +1,3 @@
+pub mod Objects
+pub mod Steps
+pub mod Figure

@@ -1,0 +1,72 @@
+-- `studio_figure_bytes::put_objects` meets its contract: after i turns the first i objects are put.
+use mathlib.Core.Path.{_≡_, refl, sym, ap, _∙_, subst}
+use Prim.Native.Nat.{ℕ, _+_, _-_, _*_, _≤_}
+use native.Mathlib.Omega.{arith}
+use mathlib.Core.List.{List}
+use lib.ListN.{length}
+use Rattle.shared_numbers.specs.Put.{Put}
+use Rattle.shared_numbers.proofs.Put.{put-none, put-then}
+use Rattle.studio_figure_rules.specs.Given.{over}
+use Rattle.studio_figure_rules.specs.Judged.{total}
+use Rattle.studio_figure_rows.specs.Rows.{entry, sumTo, run}
+use Rattle.studio_figure_objects.specs.Sizes.{objectBytes}
+use Rattle.studio_figure_chunks.proofs.Chunks.{over-last}
+use Rattle.studio_figure_bytes.specs.Objects.{At, Behind, Writable, pieces}
+use Rattle.studio_figure_bytes.proofs.Steps.{at-first, at-next, place-small, pieces-length, total-next, total-inside}
+use Rattle.studio_figure_bytes.proofs.put_objects.Statement.{statement}
+use Rattle.studio_figure_bytes.proofs.put_objects.Tie as tie
+
+abbrev Inv-loop : tie.InvT-loop
+Inv-loop names objects vertices corners smoothing groups faces from n at out₀ p₀ next₀ i₀ out p next i = (i ≤ n) × (length out ≡ length out₀) × At objects groups from i p × (next ≡ at + total (objectBytes objects groups) (run (λ (k : ℕ). k) 0 i)) × Put out₀ at (over (pieces names objects vertices corners smoothing groups faces from) (run (λ (k : ℕ). k) 0 i)) out next
+
+abbrev μ-loop : tie.MeasureT-loop
+μ-loop names objects vertices corners smoothing groups faces from n at out₀ p₀ next₀ i₀ out p next i = n - i
+
+loop-holds : tie.Need-loop-holds Inv-loop μ-loop
+loop-holds c = (omega arith, refl, at-first _ _ _, omega arith, put-none _ _)
+
+next-place-requires : tie.Need-next-place-requires Inv-loop μ-loop
+next-place-requires c κs = place-small (c .before .before .before .before .before .before .before .before .before .before .args .names .now) (c .before .before .before .before .before .before .before .before .before .before .args .objects .now) (c .before .before .before .before .before .before .before .before .before .before .args .vertices .now) (c .before .before .before .before .before .before .before .before .before .before .args .corners .now) (c .before .before .before .before .before .before .before .before .before .before .args .smoothing .now) (c .before .before .before .before .before .before .before .before .before .before .args .groups .now) (c .before .before .before .before .before .before .before .before .before .before .args .faces .now) (c .before .before .before .before .before .before .before .before .before .before .args .from) (c .before .loop .i) (c .before .loop .p) (c .before .loop .inv .2) (c .before .before .before .before .before .before .before .before .before .before .pre .0 .0 (c .before .loop .i) (omega arith)) (omega (arith, c .before .before .before .before .before .before .before .before .before .before .good .0 .1)) (omega (arith, c .before .before .before .before .before .before .before .before .before .before .good .1 .1 .0 .1)) (omega (arith, c .before .before .before .before .before .before .before .before .before .before .good .1 .1 .1 .0 .1)) (omega (arith, c .before .before .before .before .before .before .before .before .before .before .good .1 .1 .1 .1 .0 .1)) (omega (arith, c .before .before .before .before .before .before .before .before .before .before .good .1 .1 .1 .1 .1 .1 .0 .1))
+
+put-object-requires : tie.Need-put-object-requires Inv-loop μ-loop
+put-object-requires c κs = ((c .before .before .before .loop .inv .2, c .before .next-place .ensures, c .before .before .before .before .before .before .before .before .before .before .before .before .pre .0 .0 (c .before .before .before .loop .i) (omega arith)), omega (arith, c .before .before .before .loop .inv .3, c .before .before .before .before .before .before .before .before .before .before .before .before .pre .1, total-inside (objectBytes (c .before .before .before .before .before .before .before .before .before .before .before .before .args .objects .now) (c .before .before .before .before .before .before .before .before .before .before .before .before .args .groups .now)) (c .before .before .before .loop .i) (c .before .before .before .before .before .before .before .before .before .before .before .before .args .n) (omega arith)))
+
+add-i : tie.Need-add-i Inv-loop μ-loop
+add-i c = omega arith
+
+loop-less : tie.Need-loop-less Inv-loop μ-loop
+loop-less c = omega arith
+
+loop-again : tie.Need-loop-again Inv-loop μ-loop
+loop-again c =
+    let w = c .before .before .before .before .before .before .before .before .before .before .before .before .before .before .before .pre .0 .0 (c .before .before .before .before .before .before .loop .i) (omega arith) in
+    let l = pieces-length (c .before .before .before .before .before .before .before .before .before .before .before .before .before .before .before .args .names .now) (c .before .before .before .before .before .before .before .before .before .before .before .before .before .before .before .args .objects .now) (c .before .before .before .before .before .before .before .before .before .before .before .before .before .before .before .args .vertices .now) (c .before .before .before .before .before .before .before .before .before .before .before .before .before .before .before .args .corners .now) (c .before .before .before .before .before .before .before .before .before .before .before .before .before .before .before .args .smoothing .now) (c .before .before .before .before .before .before .before .before .before .before .before .before .before .before .before .args .groups .now) (c .before .before .before .before .before .before .before .before .before .before .before .before .before .before .before .args .faces .now) (c .before .before .before .before .before .before .before .before .before .before .before .before .before .before .before .args .from) (c .before .before .before .before .before .before .loop .i) w in (
+      omega arith,
+      omega arith,
+      at-next (c .before .before .before .before .before .before .before .before .before .before .before .before .before .before .before .args .objects .now) (c .before .before .before .before .before .before .before .before .before .before .before .before .before .before .before .args .groups .now) (c .before .before .before .before .before .before .before .before .before .before .before .before .before .before .before .args .from) (c .before .before .before .before .before .before .loop .i) (c .before .before .before .before .before .before .loop .p) (c .before .before .before .before .next-place .result) (c .before .before .before .before .before .before .loop .inv .2) (c .before .before .before .before .next-place .ensures),
+      omega (arith, c .before .before .before .before .before .before .loop .inv .3, c .before .before .put-object .ensures .ends, l, total-next (objectBytes (c .before .before .before .before .before .before .before .before .before .before .before .before .before .before .before .args .objects .now) (c .before .before .before .before .before .before .before .before .before .before .before .before .before .before .before .args .groups .now)) (c .before .before .before .before .before .before .loop .i)),
+      rw (over-last (pieces (c .before .before .before .before .before .before .before .before .before .before .before .before .before .before .before .args .names .now) (c .before .before .before .before .before .before .before .before .before .before .before .before .before .before .before .args .objects .now) (c .before .before .before .before .before .before .before .before .before .before .before .before .before .before .before .args .vertices .now) (c .before .before .before .before .before .before .before .before .before .before .before .before .before .before .before .args .corners .now) (c .before .before .before .before .before .before .before .before .before .before .before .before .before .before .before .args .smoothing .now) (c .before .before .before .before .before .before .before .before .before .before .before .before .before .before .before .args .groups .now) (c .before .before .before .before .before .before .before .before .before .before .before .before .before .before .before .args .faces .now) (c .before .before .before .before .before .before .before .before .before .before .before .before .before .before .before .args .from)) (λ (k : ℕ). k) (c .before .before .before .before .before .before .loop .i)) (put-then (omega (arith, c .before .before .before .before .before .before .before .before .before .before .before .before .before .before .before .pre .1)) (c .before .before .before .before .before .before .loop .inv .4) (c .before .before .put-object .ensures)),
+    )
+
+same-length : tie.Need-same-length Inv-loop μ-loop
+same-length c = c .before .loop .inv .1
+
+returns : tie.Need-returns Inv-loop μ-loop
+returns c =
+    let e : c .before .loop .i ≡ c .before .before .before .before .before .before .before .before .before .before .args .n = omega arith in
+    rw e at (c .before .loop .inv .4)
+
+pub put-objects-spec : {M : Type 1} → statement M
+put-objects-spec =
+    tie.close
+    (tie.spec
+    Inv-loop
+    μ-loop
+    loop-holds
+    next-place-requires
+    put-object-requires
+    add-i
+    loop-less
+    loop-again
+    same-length
+    returns)

@@ -1,0 +1,3 @@
+pub mod Things
+pub mod Same
+pub mod Whole

@@ -1,0 +1,150 @@
+-- Conditions over things by number, for loops that judge one after another: one law for every list of conditions. And names that are
+-- looked for among others.
+use mathlib.Core.Path.{_≡_, refl, sym, ap, _∙_}
+use Prim.Native.Nat.{ℕ, zero, suc, _+_, _-_, _<_, _≤_}
+use native.Mathlib.Omega.{arith}
+use mathlib.Core.Bool.{Bool, true, false, not, _||_}
+use mathlib.Core.List.{List, [], _∷_, _++_}
+use mathlib.Core.Option.{Option, none, some}
+use lib.ListN.{length}
+use Rattle.shared_words.specs.declared.Refusal.{Refusal}
+use Rattle.shared_words.specs.declared.Refusal.the-variants.{SameName}
+use Rattle.shared_words.specs.declared.Written.{Written}
+use Rattle.shared_words.specs.declared.Written.the-variants.{Refused, Size}
+use Rattle.shared_words.specs.Conditions.{Condition, must, broken}
+use Rattle.shared_words.specs.Lists.{same}
+use Rattle.shared_words.proofs.Conditions.{broken-here, broken-later}
+use Rattle.studio_write_judge.specs.Judged.{answerOf}
+use Rattle.studio_figure_rules.specs.Given.{over}
+use Rattle.studio_figure_rules.specs.Judged.{oneOf, differ}
+use Rattle.studio_figure_rules.proofs.Described.{broken-first, broken-rest}
+use Rattle.studio_figure_rows.specs.Rows.{run}
+use Rattle.studio_figure_names.specs.Names.{nameAsked, nameAnswer, namesAnswer, differAnswer}
+use Rattle.studio_figure_rows.proofs.Runs.{run-opened, run-none, run-joined}
+
+-- what an answer tells of the first broken condition
+pub refused-told : (n : ℕ) (o : Option Refusal) (r : Refusal) → Refused r ≡ answerOf n o → o ≡ some r
+refused-told n none r e = let z : _≡_ {A = ℕ} 0 1 = cc in absurd (omega arith)
+refused-told n (some x) r e = cc
+
+pub size-told : (n m : ℕ) (o : Option Refusal) → Size m ≡ answerOf n o → o ≡ none
+size-told n m none e = refl
+size-told n m (some x) e = let z : _≡_ {A = ℕ} 0 1 = cc in absurd (omega arith)
+
+module _ {A : Type 0} (give : A → List Condition) (thing : ℕ → A) (n : ℕ) where
+  -- what is left to judge from i on
+  abbrev pub Left : ℕ → Type 0
+  Left i = broken (over give (run thing 0 n)) ≡ broken (over give (run thing i (n - i)))
+
+  pub left-all : Left 0
+  left-all = let a : n - 0 ≡ n = omega arith in rw a
+
+  opened : (i : ℕ) → i < n → broken (over give (run thing i (n - i))) ≡ broken (give (thing i) ++ over give (run thing (i + 1) (n - (i + 1))))
+  opened i h = ap (λ (l : List A). broken (over give l)) (run-opened thing i n h)
+
+  pub left-on : (i : ℕ) → i < n → Left i → broken (give (thing i)) ≡ none → Left (i + 1)
+  left-on i h l b = l ∙ opened i h ∙ broken-rest (give (thing i)) (over give (run thing (i + 1) (n - (i + 1)))) b
+
+  pub left-out : (i : ℕ) → i < n → Left i → (m : ℕ) (r : Refusal) → broken (give (thing i)) ≡ some r → Refused r ≡ answerOf m (broken (over give (run thing 0 n)))
+  left-out i h l m r b = sym (ap (answerOf m) (l ∙ opened i h ∙ broken-first (give (thing i)) (over give (run thing (i + 1) (n - (i + 1)))) r b))
+
+  pub left-none : (i : ℕ) → n ≤ i → Left i → (m : ℕ) → Size m ≡ answerOf m (broken (over give (run thing 0 n)))
+  unfolding broken
+  left-none i h l m = sym (ap (answerOf m) (l ∙ ap (λ (xs : List A). broken (over give xs)) (run-none thing i n h)))
+
+-- ---- a name among others
+
+module _ (thing : ℕ → List ℕ) (n : ℕ) (x : List ℕ) where
+  abbrev pub Looked : ℕ → Type 0
+  Looked i = oneOf (run thing 0 n) x ≡ oneOf (run thing i (n - i)) x
+
+  pub looked-none : Looked 0
+  looked-none = let a : n - 0 ≡ n = omega arith in rw a
+
+  pub looked-here : (i : ℕ) → i < n → Looked i → same (thing i) x ≡ true → true ≡ oneOf (run thing 0 n) x
+  looked-here i h l e = sym (l ∙ ap (λ (xs : List (List ℕ)). oneOf xs x) (run-opened thing i n h) ∙ rw e)
+
+  pub looked-on : (i : ℕ) → i < n → Looked i → same (thing i) x ≡ false → Looked (i + 1)
+  looked-on i h l e = l ∙ ap (λ (xs : List (List ℕ)). oneOf xs x) (run-opened thing i n h) ∙ rw e
+
+  pub looked-all : (i : ℕ) → n ≤ i → Looked i → false ≡ oneOf (run thing 0 n) x
+  looked-all i h l = sym (l ∙ ap (λ (xs : List (List ℕ)). oneOf xs x) (run-none thing i n h))
+
+-- ---- names that differ
+
+or-comm : (a b : Bool) → (a || b) ≡ (b || a)
+or-comm true true = refl
+or-comm true false = refl
+or-comm false true = refl
+or-comm false false = refl
+
+one-of-last : (xs : List (List ℕ)) (y x : List ℕ) → oneOf (xs ++ (y ∷ [])) x ≡ (same y x || oneOf xs x)
+one-of-last [] y x = refl
+one-of-last (z ∷ xs) y x = go (same z x) (same y x) (oneOf xs x) (one-of-last xs y x)
+  where
+    go : (a b c : Bool) → oneOf (xs ++ (y ∷ [])) x ≡ (b || c) → (a || oneOf (xs ++ (y ∷ [])) x) ≡ (b || (a || c))
+    go true b c e = or-comm true b
+    go false b c e = e
+
+module _ (thing : ℕ → List ℕ) (n : ℕ) where
+  -- the first i differ; `seen` are they, the last one first
+  pub record Differing (i : ℕ) : Type 0 where
+    pub seen : List (List ℕ)
+    pub count : length seen ≡ i
+    pub those : (x : List ℕ) → oneOf seen x ≡ oneOf (run thing 0 i) x
+    pub left : broken (differ [] (run thing 0 n)) ≡ broken (differ seen (run thing i (n - i)))
+
+  pub differing-none : Differing 0
+  differing-none = let a : n - 0 ≡ n = omega arith in record { seen = []; count = refl; those = λ x. refl; left = rw a }
+
+  module _ (i : ℕ) (h : i < n) (d : Differing i) where
+    next : broken (differ (d .seen) (run thing i (n - i))) ≡
+        broken (must (not (oneOf (d .seen) (thing i))) (SameName (length (d .seen))) ∷ differ (thing i ∷ d .seen) (run thing (i + 1) (n - (i + 1))))
+    next = ap (λ (l : List (List ℕ)). broken (differ (d .seen) l)) (run-opened thing i n h)
+
+    pub differing-on : false ≡ oneOf (run thing 0 i) (thing i) → Differing (i + 1)
+    differing-on e =
+        let z : 0 + i ≡ i = omega arith in
+        record {
+          seen = thing i ∷ d .seen;
+          count = omega (arith, d .count);
+          those = λ x.
+              ap (λ (b : Bool). same (thing i) x || b) (d .those x) ∙ sym (one-of-last (run thing 0 i) (thing i) x) ∙
+              sym (ap (λ (l : List (List ℕ)). oneOf l x) (run-joined thing 0 i 1 ∙ ap (λ (k : ℕ). run thing 0 i ++ run thing k 1) z));
+          left = d .left ∙ next ∙ broken-later _ _ _ (ap not (d .those (thing i) ∙ sym e));
+        }
+
+    pub differing-out : (m : ℕ) → true ≡ oneOf (run thing 0 i) (thing i) → Refused (SameName i) ≡ answerOf m (broken (differ [] (run thing 0 n)))
+    differing-out m e =
+        sym (ap (answerOf m) (d .left ∙ next ∙ broken-here _ _ _ (ap not (d .those (thing i) ∙ sym e)) ∙ ap (λ (k : ℕ). some (SameName k)) (d .count)))
+
+  pub differing-all : (i : ℕ) → n ≤ i → Differing i → (m : ℕ) → Size m ≡ answerOf m (broken (differ [] (run thing 0 n)))
+  unfolding broken
+  differing-all i h d m = sym (ap (answerOf m) (d .left ∙ ap (λ (l : List (List ℕ)). broken (differ (d .seen) l)) (run-none thing i n h)))
+
+  -- as the answer that is promised
+  pub differing-said : (i : ℕ) → i < n → Differing i → true ≡ oneOf (run thing 0 i) (thing i) → Refused (SameName i) ≡ differAnswer (run thing 0 n)
+  unfolding differAnswer
+  differing-said i h d e = differing-out i h d 0 e
+
+  pub differing-end : (i : ℕ) → n ≤ i → Differing i → Size 0 ≡ differAnswer (run thing 0 n)
+  unfolding differAnswer
+  differing-end i h d = differing-all i h d 0
+
+-- ---- each name judged by itself
+
+module _ (text : Bool) (thing : ℕ → List ℕ) (n : ℕ) where
+  abbrev pub Judged : ℕ → Type 0
+  Judged i = Left (nameAsked text) thing n i
+
+  pub judged-on : (i : ℕ) → i < n → Judged i → (m : ℕ) → Size m ≡ nameAnswer text (thing i) → Judged (i + 1)
+  unfolding nameAnswer
+  judged-on i h j m e = left-on (nameAsked text) thing n i h j (size-told 0 m _ e)
+
+  pub judged-out : (i : ℕ) → i < n → Judged i → (r : Refusal) → Refused r ≡ nameAnswer text (thing i) → Refused r ≡ namesAnswer text (run thing 0 n)
+  unfolding nameAnswer namesAnswer
+  judged-out i h j r e = left-out (nameAsked text) thing n i h j 0 r (refused-told 0 _ r e)
+
+  pub judged-all : (i : ℕ) → n ≤ i → Judged i → Size 0 ≡ namesAnswer text (run thing 0 n)
+  unfolding namesAnswer
+  judged-all i h j = left-none (nameAsked text) thing n i h j 0
