@@ -12,6 +12,7 @@
 #include "cob_cases.h"
 #include "mapping_cases.h"
 #include "mesh_cases.h"
+#include "figure_cases.h"
 #include "parts_cases.h"
 #include "slices.h"
 #include "slip_cases.h"
@@ -343,6 +344,7 @@ int main(void) {
     try_mappings();
     try_parts();
     try_writer();
+    try_figures();
     try_slips();
     try_cobs();
     try_c4ds();
