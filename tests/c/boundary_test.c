@@ -13,6 +13,7 @@
 #include "cob_cases.h"
 #include "mapping_cases.h"
 #include "mesh_cases.h"
+#include "figure_cases.h"
 #include "parts_cases.h"
 #include "rescue_cases.h"
 #include "slices.h"
@@ -347,6 +348,7 @@ int main(void) {
     try_parts();
     try_rescue();
     try_writer();
+    try_figures();
     try_slips();
     try_cobs();
     try_c4ds();
