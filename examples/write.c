@@ -1,5 +1,5 @@
 /*
- * Writes a figure with two materials, a mallet of two boxes without faces but one, to a file:
+ * Writes a small figure to a file: a mallet with two materials, its head and its handle.
  *
  *     cc write.c $(pkg-config --cflags --libs tds) -o write && ./write mallet.3ds
  */

@@ -390,34 +390,35 @@ uint64_t tds_write(const uint8_t *name, size_t name_len, const float *vertices, 
                    const uint16_t *corners, size_t corners_len, uint8_t *out, size_t out_len);
 
 /*
- * Writes a figure with many objects and materials, described by flat rows. Lengths of the rows are in
- * numbers, and the rows are the machine's own numbers; names, colours and out are bytes.
+ * Writes a figure with many objects and materials, described by flat rows. The lengths of the rows
+ * are in numbers, and the rows are the machine's own numbers; names, colours and out are bytes.
  *
  *   names      all names without their zeros, one after another: of the objects, of the materials,
  *              of the face groups
  *   objects    five numbers an object: bytes of its name, floats, corners, smoothing words, groups
  *   vertices, corners, smoothing   those of all objects, one after another
- *   groups     two numbers a face group, in the order of the objects: bytes of its name, face numbers
+ *   groups     two numbers a face group, in the order of the objects: bytes of its name, and how
+ *              many face numbers
  *   faces      the face numbers of all groups, one after another
  *   materials  one number a material: bytes of its name
- *   colours    nine bytes a material: ambient, diffuse and specular, each red, green and blue
+ *   colours    nine bytes a material: ambient, diffuse, specular, each red, green, blue
  *
- * Fills the file from the start of `out`, which overlaps none of the others, and answers its size in
- * bytes; the bytes behind keep their contents. Or it refuses, changing nothing, before all else with
+ * Fills the file from the start of `out`, which overlaps none of the others, and answers its size
+ * in bytes; the bytes behind keep their contents. Or it refuses, changing nothing; before all else
  *
- *   13  a row's length is not what the description says (place: that length), in this order: objects
- *       (no multiple of 5), groups (2 for each that the objects have), names, vertices, corners,
- *       smoothing, faces, colours
+ *   13  a row's length is not what the description says (place: that length), in this order:
+ *       objects (no multiple of 5), groups (two for each that the objects have), names, vertices,
+ *       corners, smoothing, faces, colours
  *
- * and then with the first of these, each over all objects, then over all materials; a position counts
- * within its own name, row or group:
+ * and then with the first of these, each over all objects, then over all materials; a position
+ * counts within its own name, row or group:
  *
  *    9  a name of an object or material holds a zero byte (place: its position)
  *   24  such a name does not fit the label (place: as for tds_write)
  *   29  two objects, or two materials, have the same name (place: the number of the later one)
  *   30  a face group has the name of no material (place: its number in the figure)
- *   13  of one object its floats, corners (both as for tds_write), smoothing words (neither none nor
- *       one a face) or a group's face numbers (over 65,535) (place: that length)
+ *   13  of one object its floats, its corners (both as for tds_write), its smoothing words (neither
+ *       none nor one a face), or the face numbers of a group (over 65,535) (place: that length)
  *   11  a float is infinite or not a number (place: its position)
  *   12  a corner is not below the count of vertices, or a face number not below that of faces
  *       (place: its position)
@@ -425,18 +426,18 @@ uint64_t tds_write(const uint8_t *name, size_t name_len, const float *vertices, 
  *   15  out_len is below the size (place: the size)
  *
  * A place that would not fit in 32 bits is given as 2^32 - 1. What it writes is accepted by every
- * call above, and reads back to the same tables, names, colours, groups and words, in order. The time
- * is linear in the rows but for 29 and 30: each name is compared with the earlier ones, each group's
- * with those of the materials. A triangle A with a material B on its face:
+ * call above, and reads back to the same tables, names, colours, groups and words, in order. The
+ * time is linear in the rows but for 29 and 30: each name is compared with the earlier ones, each
+ * group's with those of the materials. A triangle A with a material B on its face:
  *
  *     const uint32_t objects[] = {1, 9, 3, 0, 1}, groups[] = {1, 1}, materials[] = {1};
  *     const float vertices[] = {0, 0, 0, 1, 0, 0, 0, 1, 0};
  *     const uint16_t corners[] = {0, 1, 2}, faces[] = {0};
  *     const uint8_t colours[] = {10, 10, 10, 200, 160, 90, 255, 255, 255};
  *     uint8_t out[256];
- *     uint64_t size = tds_write_figure((const uint8_t *)"ABB", 3, objects, 5, vertices, 9, corners, 3,
- *                                      NULL, 0, groups, 2, faces, 1, materials, 1, colours, 9, out,
- *                                      sizeof out);
+ *     uint64_t size = tds_write_figure((const uint8_t *)"ABB", 3, objects, 5, vertices, 9,
+ *                                      corners, 3, NULL, 0, groups, 2, faces, 1, materials, 1,
+ *                                      colours, 9, out, sizeof out);
  */
 uint64_t tds_write_figure(const uint8_t *names, size_t names_len, const uint32_t *objects,
                           size_t objects_len, const float *vertices, size_t vertices_len,

@@ -11,6 +11,14 @@ status_is 0
 matches out 'mesh 0 "A": vertices 3, faces 1, box \(0, 0, 0\) \(1, 1, 0\)'
 matches out 'meshes 1'
 
+try 'what the example of the writer wrote'
+run "$BUILD/write" "$T/mallet.3ds"
+status_is 0
+run "$V" "$T/mallet.3ds"
+status_is 0
+matches out 'mesh 0 "head": vertices 3, faces 1, box \(0, 0, 0\) \(1, 1, 0\)'
+matches out 'mesh 1 "handle": vertices 2, faces 0, box \(0, 0, 0\) \(0, 0, 3\)'
+
 try 'the adze with its handle'
 run "$V" samples/edition/adze.3ds
 status_is 0
