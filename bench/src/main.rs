@@ -8,6 +8,7 @@ mod figures;
 mod measure;
 mod rescues;
 mod slips;
+mod writers;
 
 use calls::{write, Call, Lent, CALLS};
 use measure::{one, Times};
@@ -51,7 +52,11 @@ fn limit(lent: &mut Lent) {
         lines(figure.what, &figure.bytes, &calls);
     }
     let (size, times) = write(second::LIMIT, TURNS);
-    lines("a figure written", &vec![7; size], &[("Write", times)]);
+    lines("a bare figure", &vec![7; size], &[("Write", times)]);
+    for (what, rows) in writers::all() {
+        let (size, times) = writers::times(&rows, TURNS);
+        lines(what, &vec![7; size], &[("Write", times)]);
+    }
     slip();
 }
 
@@ -112,7 +117,7 @@ fn growth(lent: &mut Lent) {
     let cells: Vec<String> = sizes.collect();
     println!(
         "{:<26}{:<8}{}",
-        "a figure written",
+        "a bare figure",
         "Write",
         cells.join("  ")
     );
