@@ -32,7 +32,9 @@ put-figure-requires c κs = sym (c .before .before .before .before .judge-figure
 
 returns : tie.Need-returns
 returns c =
-    let e = called (rows (c .before .before .before .before .before .before .before .before .before .before .before .before .before .before)) (c .before .before .before .before .before .before .before .before .before .before .before .before .before .before .args .out .now) _ (sym (c .before .before .before .judge-figure .ensures) ∙ c .before .r .given .1) in
+    let c3 = c .before .before .before in
+    let x = c .before .before .before .before .before .before .before .before .before .before .before .before .before .before in
+    let e = called (rows x) (x .args .out .now) _ (sym (c3 .judge-figure .ensures) ∙ c .before .r .given .1) in
     (sym (ap (λ (w : Effect Written (List ℕ)). w .answer) e), sym (ap (λ (w : Effect Written (List ℕ)). w .rows) e))
 
 same-length : tie.Need-same-length
@@ -40,8 +42,12 @@ same-length c = search needs
 
 returns-2 : tie.Need-returns-2
 returns-2 c =
-    let e = called (rows (c .before .before .before .before .before .before .before .before .before .before .before .before .before .before .before .before .before .before)) (c .before .before .before .before .before .before .before .before .before .before .before .before .before .before .before .before .before .before .args .out .now) _ (sym (c .before .before .before .before .before .before .before .judge-figure .ensures) ∙ c .before .before .before .before .before .size .given .1) in
-    (sym (ap (λ (w : Effect Written (List ℕ)). w .answer) e), put-front (c .before .before .put-figure .ensures) ∙ sym (ap (λ (w : Effect Written (List ℕ)). w .rows) e))
+    let c2 = c .before .before in
+    let c5 = c .before .before .before .before .before in
+    let c7 = c .before .before .before .before .before .before .before in
+    let x = c .before .before .before .before .before .before .before .before .before .before .before .before .before .before .before .before .before .before in
+    let e = called (rows x) (x .args .out .now) _ (sym (c7 .judge-figure .ensures) ∙ c5 .size .given .1) in
+    (sym (ap (λ (w : Effect Written (List ℕ)). w .answer) e), put-front (c2 .put-figure .ensures) ∙ sym (ap (λ (w : Effect Written (List ℕ)). w .rows) e))
 
 pub write-figure-spec : {M : Type 1} → statement M
 write-figure-spec =

@@ -9,14 +9,18 @@ use Rattle.studio_figure_bytes.proofs.next_place.Statement.{statement}
 use Rattle.studio_figure_bytes.proofs.next_place.Tie as tie
 
 -- what the groups of the object add up to
-labels : (c : tie.After-sum) → sumTo 2 0 (c .before .before .before .before .args .groups .now) (c .before .before .before .before .args .p .group) + c .sum .result ≡ sumTo 2 0 (c .before .before .before .before .args .groups .now) (c .before .before .before .before .args .p .group + entry 5 4 (c .before .before .before .before .args .objects .now) (c .before .before .before .before .args .i))
+labels : (c : tie.After-sum) →
+    let x = c .before .before .before .before in
+    sumTo 2 0 (x .args .groups .now) (x .args .p .group) + c .sum .result ≡ sumTo 2 0 (x .args .groups .now) (x .args .p .group + entry 5 4 (x .args .objects .now) (x .args .i))
 labels c =
     let a = c .before .before .before .before .args in
     let g : sumTo 2 0 (a .groups .now) (a .p .group + c .before .number .result) ≡ sumTo 2 0 (a .groups .now) (a .p .group + entry 5 4 (a .objects .now) (a .i)) = ap (λ (k : ℕ). sumTo 2 0 (a .groups .now) (a .p .group + k)) (c .before .number .ensures .0) in
     let x = capped-under _ _ _ _ (c .sum .ensures) (omega (arith, g, c .before .before .before .before .pre .1 .1 .1 .0 .0)) in
     omega (arith, g)
 
-faces : (c : tie.After-sum2) → sumTo 2 1 (c .before .before .before .before .before .args .groups .now) (c .before .before .before .before .before .args .p .group) + c .sum2 .result ≡ sumTo 2 1 (c .before .before .before .before .before .args .groups .now) (c .before .before .before .before .before .args .p .group + entry 5 4 (c .before .before .before .before .before .args .objects .now) (c .before .before .before .before .before .args .i))
+faces : (c : tie.After-sum2) →
+    let x = c .before .before .before .before .before in
+    sumTo 2 1 (x .args .groups .now) (x .args .p .group) + c .sum2 .result ≡ sumTo 2 1 (x .args .groups .now) (x .args .p .group + entry 5 4 (x .args .objects .now) (x .args .i))
 faces c =
     let a = c .before .before .before .before .before .args in
     let g : sumTo 2 1 (a .groups .now) (a .p .group + c .before .before .number .result) ≡ sumTo 2 1 (a .groups .now) (a .p .group + entry 5 4 (a .objects .now) (a .i)) = ap (λ (k : ℕ). sumTo 2 1 (a .groups .now) (a .p .group + k)) (c .before .before .number .ensures .0) in
@@ -60,10 +64,16 @@ add-t16 : tie.Need-add-t16
 add-t16 c = omega (arith, c .before .before .before .before .before .before .before .before .before .before .before .before .before .pre .1 .1 .0 .1, c .before .number5 .ensures .0)
 
 add-t17 : tie.Need-add-t17
-add-t17 c = omega (arith, c .before .before .before .before .before .before .before .before .before .before .before .before .before .before .pre .1 .1 .1 .0 .0, c .before .before .before .before .before .before .before .before .before .before .before .before .before .before .pre .1 .1 .1 .1 .0, labels (c .before .before .before .before .before .before .before .before .before .before))
+add-t17 c =
+    let c10 = c .before .before .before .before .before .before .before .before .before .before in
+    let x = c .before .before .before .before .before .before .before .before .before .before .before .before .before .before in
+    omega (arith, x .pre .1 .1 .1 .0 .0, x .pre .1 .1 .1 .1 .0, labels c10)
 
 add-t18 : tie.Need-add-t18
-add-t18 c = omega (arith, c .before .before .before .before .before .before .before .before .before .before .before .before .before .before .before .pre .1 .1 .1 .0 .1, c .before .before .before .before .before .before .before .before .before .before .before .before .before .before .before .pre .1 .1 .1 .1 .1, faces (c .before .before .before .before .before .before .before .before .before .before))
+add-t18 c =
+    let c10 = c .before .before .before .before .before .before .before .before .before .before in
+    let x = c .before .before .before .before .before .before .before .before .before .before .before .before .before .before .before in
+    omega (arith, x .pre .1 .1 .1 .0 .1, x .pre .1 .1 .1 .1 .1, faces c10)
 
 returns : tie.Need-returns
 returns c =

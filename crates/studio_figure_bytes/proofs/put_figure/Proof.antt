@@ -40,14 +40,26 @@ begins-2 c =
     omega (arith, begins (c .before))
 
 -- the materials end here
-materials-end : (c : tie.After-put-materials) → c .put-materials .result ≡ 12 + (58 * length (c .before .before .before .before .before .before .before .before .before .before .before .before .before .before .before .before .before .before .before .before .before .before .args .materials .now) + sumTo 1 0 (c .before .before .before .before .before .before .before .before .before .before .before .before .before .before .before .before .before .before .before .before .before .before .args .materials .now) (length (c .before .before .before .before .before .before .before .before .before .before .before .before .before .before .before .before .before .before .before .before .before .before .args .materials .now)))
+materials-end : (c : tie.After-put-materials) →
+    let x = c .before .before .before .before .before .before .before .before .before .before .before .before .before .before .before .before .before .before .before .before .before .before in
+    c .put-materials .result ≡ 12 + (58 * length (x .args .materials .now) + sumTo 1 0 (x .args .materials .now) (length (x .args .materials .now)))
 materials-end c =
-    let n = known (c .before .before .before .before .before .before .before .before .before .before .before .before .before .before .before .before .before .before .before) .fit .names in
-    let l = materials-length (c .before .before .before .before .before .before .before .before .before .before .before .before .before .before .before .before .before .before .before .before .before .before .args .names .now) (c .before .before .before .before .before .before .before .before .before .before .before .before .before .before .before .before .before .before .before .before .before .before .args .materials .now) (c .before .before .before .before .before .before .before .before .before .before .before .before .before .before .before .before .before .before .before .before .before .before .args .colours .now) (c .before .before .before .before .before .before .before .before .before .before .before .sum .result) (length (c .before .before .before .before .before .before .before .before .before .before .before .before .before .before .before .before .before .before .before .before .before .before .args .materials .now)) (omega (arith, begins (c .before .before .before .before .before .before .before .before .before .before .before), n)) in
-    omega (arith, l, c .put-materials .ensures .ends, c .before .before .before .before .before .before .before .before .put-header .ensures .ends, c .before .before .before .before .put-header2 .ensures .ends)
+    let c4 = c .before .before .before .before in
+    let c8 = c .before .before .before .before .before .before .before .before in
+    let c11 = c .before .before .before .before .before .before .before .before .before .before .before in
+    let c19 = c .before .before .before .before .before .before .before .before .before .before .before .before .before .before .before .before .before .before .before in
+    let x = c .before .before .before .before .before .before .before .before .before .before .before .before .before .before .before .before .before .before .before .before .before .before in
+    let n = known c19 .fit .names in
+    let l = materials-length (x .args .names .now) (x .args .materials .now) (x .args .colours .now) (c11 .sum .result) (length (x .args .materials .now)) (omega (arith, begins c11, n)) in
+    omega (arith, l, c .put-materials .ensures .ends, c8 .put-header .ensures .ends, c4 .put-header2 .ensures .ends)
 
-all-writable : (c : tie.After-sum2) → (i : ℕ) → i < length (c .before .before .before .before .before .before .before .before .before .before .before .before .args .objects .now) / 5 → Writable (c .before .before .before .before .before .before .before .before .before .before .before .before .args .names .now) (c .before .before .before .before .before .before .before .before .before .before .before .before .args .objects .now) (c .before .before .before .before .before .before .before .before .before .before .before .before .args .vertices .now) (c .before .before .before .before .before .before .before .before .before .before .before .before .args .corners .now) (c .before .before .before .before .before .before .before .before .before .before .before .before .args .smoothing .now) (c .before .before .before .before .before .before .before .before .before .before .before .before .args .groups .now) (c .before .before .before .before .before .before .before .before .before .before .before .before .args .faces .now) (c .before .sum .result + c .sum2 .result) i
-all-writable c i h = subst (λ (f : ℕ). Writable (c .before .before .before .before .before .before .before .before .before .before .before .before .args .names .now) (c .before .before .before .before .before .before .before .before .before .before .before .before .args .objects .now) (c .before .before .before .before .before .before .before .before .before .before .before .before .args .vertices .now) (c .before .before .before .before .before .before .before .before .before .before .before .before .args .corners .now) (c .before .before .before .before .before .before .before .before .before .before .before .before .args .smoothing .now) (c .before .before .before .before .before .before .before .before .before .before .before .before .args .groups .now) (c .before .before .before .before .before .before .before .before .before .before .before .before .args .faces .now) f i) (sym (begins-2 c)) (known (c .before .before .before .before .before .before .before .before .before) .writable i h)
+all-writable : (c : tie.After-sum2) →
+    let x = c .before .before .before .before .before .before .before .before .before .before .before .before in
+    (i : ℕ) → i < length (x .args .objects .now) / 5 → Writable (x .args .names .now) (x .args .objects .now) (x .args .vertices .now) (x .args .corners .now) (x .args .smoothing .now) (x .args .groups .now) (x .args .faces .now) (c .before .sum .result + c .sum2 .result) i
+all-writable c i h =
+    let c9 = c .before .before .before .before .before .before .before .before .before in
+    let x = c .before .before .before .before .before .before .before .before .before .before .before .before in
+    subst (λ (f : ℕ). Writable (x .args .names .now) (x .args .objects .now) (x .args .vertices .now) (x .args .corners .now) (x .args .smoothing .now) (x .args .groups .now) (x .args .faces .now) f i) (sym (begins-2 c)) (known c9 .writable i h)
 
 sum-requires : tie.Need-sum-requires
 sum-requires c κs = search needs
@@ -75,15 +87,30 @@ put-header-requires-2 c κs =
 
 put-materials-requires : tie.Need-put-materials-requires
 put-materials-requires c κs =
-    let k = known (c .before .before .before .before .before .before .before .before .before .before .before .before .before .before .before .before .before .before) in
+    let c3 = c .before .before .before in
+    let c7 = c .before .before .before .before .before .before .before in
+    let c10 = c .before .before .before .before .before .before .before .before .before .before in
+    let c18 = c .before .before .before .before .before .before .before .before .before .before .before .before .before .before .before .before .before .before in
+    let k = known c18 in
     let n = k .fit .names in
     let c₉ = k .fit .colours in
-    ((omega (arith, begins (c .before .before .before .before .before .before .before .before .before .before)), omega arith), (omega (arith, k .size-is, k .small), omega (arith, k .size-is, k .enough, c .before .before .before .before .before .before .before .put-header .ensures .ends, c .before .before .before .put-header2 .ensures .ends)))
+    ((omega (arith, begins c10), omega arith), (omega (arith, k .size-is, k .small), omega (arith, k .size-is, k .enough, c7 .put-header .ensures .ends, c3 .put-header2 .ensures .ends)))
 
 put-objects-requires : tie.Need-put-objects-requires
 put-objects-requires c κs =
-    let k = known (c .before .before .before .before .before .before .before .before .before .before .before .before .before .before .before .before .before .before .before .before .before .before) in
-    ((all-writable (c .before .before .before .before .before .before .before .before .before .before .before .before .before), omega (arith, begins-2 (c .before .before .before .before .before .before .before .before .before .before .before .before .before), k .fit .names, c .before .before .before .before .before .before .before .before .before .before .before .before .before .before .before .before .before .before .before .before .before .before .before .before .before .good .0 .1)), omega (arith, materials-end (c .before .before .before), k .size-is, k .enough))
+    let k = known (c .before .before .before .before .before .before .before .before .before .before .before .before .before .before .before .before .before .before .before .before .before .before) in (
+      (
+        all-writable (c .before .before .before .before .before .before .before .before .before .before .before .before .before),
+        omega (
+          arith,
+          begins-2 (c .before .before .before .before .before .before .before .before .before .before .before .before .before),
+          k .fit .names,
+          c .before .before .before .before .before .before .before .before .before .before .before .before .before .before .before .before
+              .before .before .before .before .before .before .before .before .before .good .0 .1,
+        ),
+      ),
+      omega (arith, materials-end (c .before .before .before), k .size-is, k .enough),
+    )
 
 same-length : tie.Need-same-length
 same-length c = search needs
@@ -95,9 +122,18 @@ returns c =
     let e₂ = c .before .before .before .before .before .before .before .before .before .before .put-header2 .ensures .ends in
     let e₃ = materials-end (c .before .before .before .before .before .before) in
     let p = c .before .before .put-objects in
-    subst (λ (new : List ℕ). Put (c .before .before .before .before .before .before .before .before .before .before .before .before .before .before .before .before .before .before .before .before .before .before .before .before .before .before .before .before .args .out .now) 0 new (p .last .1 .1 .1 .1 .1 .1 .1 .1 .1 .1 .0) (p .result))
-    (joined (rows (c .before .before .before .before .before .before .before .before .before .before .before .before .before .before .before .before .before .before .before .before .before .before .before .before .before .before .before .before)) (length (c .before .before .before .before .before .before .before .before .before .before .before .before .before .before .before .before .before .before .before .before .before .before .before .before .before .before .before .before .args .out .now)) (c .before .before .before .before .before .before .before .before .before .before .before .before .before .before .before .before .before .before .before .before .before .before .before .before .before .before .before .before .args .size) k (c .before .before .before .before .before .before .before .before .before .before .before .before .before .before .before .before .before .sum .result) (c .before .before .before .before .before .before .before .before .before .before .before .before .before .before .before .before .before .sum .result + c .before .before .before .before .before .before .before .before .before .before .before .before .before .before .before .before .sum2 .result) (c .before .before .before .before .before .before .before .before .before .before .before .before .before .before .before .before .before .before .before .before .before .before .before .before .before .before .before .before .args .size - c .before .before .before .before .before .before .before .before .before .before .before .before .before .before .put-header .result) (begins (c .before .before .before .before .before .before .before .before .before .before .before .before .before .before .before .before .before)) (begins-2 (c .before .before .before .before .before .before .before .before .before .before .before .before .before .before .before .before)) (omega (arith, k .size-is)))
-    (put-then (omega arith) (c .before .before .before .before .before .before .before .before .before .before .before .before .before .before .put-header .ensures) (put-then (omega (arith, k .size-is, k .enough)) (c .before .before .before .before .before .before .before .before .before .before .put-header2 .ensures) (put-then (omega (arith, k .size-is, k .enough)) (c .before .before .before .before .before .before .put-materials .ensures) (p .ensures))))
+    subst (λ (new : List ℕ). Put (c .before .before .before .before .before .before .before .before .before .before .before .before .before .before .before .before .before .before .before .before .before .before .before .before .before .before .before .before .args .out .now) 0
+    new (p .last .1 .1 .1 .1 .1 .1 .1 .1 .1 .1 .0) (p .result))
+    (joined (rows (c .before .before .before .before .before .before .before .before .before .before .before .before .before .before .before .before .before .before .before .before .before .before .before .before .before .before .before .before))
+    (length (c .before .before .before .before .before .before .before .before .before .before .before .before .before .before .before .before .before .before .before .before .before .before .before .before .before .before .before .before .args .out .now))
+    (c .before .before .before .before .before .before .before .before .before .before .before .before .before .before .before .before .before .before .before .before .before .before .before .before .before .before .before .before .args .size) k
+    (c .before .before .before .before .before .before .before .before .before .before .before .before .before .before .before .before .before .sum .result)
+    (c .before .before .before .before .before .before .before .before .before .before .before .before .before .before .before .before .before .sum .result + c .before .before .before .before .before .before .before .before .before .before .before .before .before .before .before
+    .before .sum2 .result) (c .before .before .before .before .before .before .before .before .before .before .before .before .before .before .before .before .before .before .before .before .before .before .before .before .before .before .before .before .args .size - c .before
+    .before .before .before .before .before .before .before .before .before .before .before .before .before .put-header .result) (begins (c .before .before .before .before .before .before .before .before .before .before .before .before .before .before .before .before .before))
+    (begins-2 (c .before .before .before .before .before .before .before .before .before .before .before .before .before .before .before .before)) (omega (arith, k .size-is)))
+    (put-then (omega arith) (c .before .before .before .before .before .before .before .before .before .before .before .before .before .before .put-header .ensures)
+    (put-then (omega (arith, k .size-is, k .enough)) (c .before .before .before .before .before .before .before .before .before .before .put-header2 .ensures) (put-then (omega (arith, k .size-is, k .enough)) (c .before .before .before .before .before .before .put-materials .ensures) (p .ensures))))
 
 pub put-figure-spec : {M : Type 1} → statement M
 put-figure-spec =

@@ -18,29 +18,51 @@ use Rattle.studio_figure_bytes.proofs.put_object.Statement.{statement}
 use Rattle.studio_figure_bytes.proofs.put_object.Tie as tie
 
 -- the rows between the two places, and what they take
-known : (c : tie.After-object-size) → Pieces (c .before .before .before .before .before .before .before .before .before .args .names .now) (c .before .before .before .before .before .before .before .before .before .args .objects .now) (c .before .before .before .before .before .before .before .before .before .args .vertices .now) (c .before .before .before .before .before .before .before .before .before .args .corners .now) (c .before .before .before .before .before .before .before .before .before .args .smoothing .now) (c .before .before .before .before .before .before .before .before .before .args .groups .now) (c .before .before .before .before .before .before .before .before .before .args .faces .now) (c .before .before .before .before .before .before .before .before .before .args .from) (c .before .before .before .before .before .before .before .before .before .args .i) (c .before .before .before .before .before .before .before .before .before .args .p) (c .before .before .before .before .before .before .before .before .before .args .q) (c .object-size .result)
-known c = pieces-of _ _ _ _ _ _ _ _ _ _ _ _ (c .before .before .before .before .before .before .before .before .before .pre .0 .0) (c .before .before .before .before .before .before .before .before .before .pre .0 .1) (c .before .before .before .before .before .before .before .before .before .pre .0 .2) (c .object-size .ensures .0)
+known : (c : tie.After-object-size) →
+    let x = c .before .before .before .before .before .before .before .before .before in
+    Pieces (x .args .names .now) (x .args .objects .now) (x .args .vertices .now) (x .args .corners .now) (x .args .smoothing .now) (x .args .groups .now) (x .args .faces .now) (x .args .from) (x .args .i) (x .args .p) (x .args .q) (c .object-size .result)
+known c =
+    let x = c .before .before .before .before .before .before .before .before .before in
+    pieces-of _ _ _ _ _ _ _ _ _ _ _ _ (x .pre .0 .0) (x .pre .0 .1) (x .pre .0 .2) (c .object-size .ensures .0)
 
 -- the room for what comes behind the lists
-room : (c : tie.After-put-lists) → (c .put-lists .result ≤ length (c .before .before .before .before .before .before .before .before .before .before .before .before .before .before .args .out .now)) × (c .put-lists .result + groupBytes (c .before .before .before .before .before .before .before .before .before .before .before .before .before .before .args .groups .now) (c .before .before .before .before .before .before .before .before .before .before .before .before .before .before .args .p .group) (c .before .before .before .before .before .before .before .before .before .before .before .before .before .before .args .q .group - c .before .before .before .before .before .before .before .before .before .before .before .before .before .before .args .p .group) ≤ length (c .before .before .before .before .before .before .before .before .before .before .before .before .before .before .args .out .now)) × (c .put-lists .result + groupBytes (c .before .before .before .before .before .before .before .before .before .before .before .before .before .before .args .groups .now) (c .before .before .before .before .before .before .before .before .before .before .before .before .before .before .args .p .group) (c .before .before .before .before .before .before .before .before .before .before .before .before .before .before .args .q .group - c .before .before .before .before .before .before .before .before .before .before .before .before .before .before .args .p .group) + wordsSize (entry 5 3 (c .before .before .before .before .before .before .before .before .before .before .before .before .before .before .args .objects .now) (c .before .before .before .before .before .before .before .before .before .before .before .before .before .before .args .i)) ≤ length (c .before .before .before .before .before .before .before .before .before .before .before .before .before .before .args .out .now))
-room c = pieces-room _ _ _ _ _ _ _ _ _ _ _ _ (known (c .before .before .before .before .before)) (c .before .before .before .before .before .before .before .before .before .before .before .before .before .before .args .at) (length (c .before .before .before .before .before .before .before .before .before .before .before .before .before .before .args .out .now)) (c .put-lists .result) (c .before .before .before .before .before .before .before .before .before .before .before .before .before .before .pre .1) (c .put-lists .ensures .ends)
+room : (c : tie.After-put-lists) →
+    let x = c .before .before .before .before .before .before .before .before .before .before .before .before .before .before in
+    (c .put-lists .result ≤ length (x .args .out .now)) × (c .put-lists .result + groupBytes (x .args .groups .now) (x .args .p .group) (x .args .q .group - x .args .p .group) ≤ length (x .args .out .now)) ×
+    (c .put-lists .result + groupBytes (x .args .groups .now) (x .args .p .group) (x .args .q .group - x .args .p .group) + wordsSize (entry 5 3 (x .args .objects .now) (x .args .i)) ≤ length (x .args .out .now))
+room c =
+    let c5 = c .before .before .before .before .before in
+    let x = c .before .before .before .before .before .before .before .before .before .before .before .before .before .before in
+    pieces-room _ _ _ _ _ _ _ _ _ _ _ _ (known c5) (x .args .at) (length (x .args .out .now)) (c .put-lists .result) (x .pre .1) (c .put-lists .ensures .ends)
 
-grouped : (c : tie.After-put-groups) → c .put-groups .result ≡ c .before .before .before .before .before .before .put-lists .result + groupBytes (c .before .before .before .before .before .before .before .before .before .before .before .before .before .before .before .before .before .before .before .before .args .groups .now) (c .before .before .before .before .before .before .before .before .before .before .before .before .before .before .before .before .before .before .before .before .args .p .group) (c .before .before .before .before .before .before .before .before .before .before .before .before .before .before .before .before .before .before .before .before .args .q .group - c .before .before .before .before .before .before .before .before .before .before .before .before .before .before .before .before .before .before .before .before .args .p .group)
+grouped : (c : tie.After-put-groups) →
+    let c6 = c .before .before .before .before .before .before in
+    let x = c .before .before .before .before .before .before .before .before .before .before .before .before .before .before .before .before .before .before .before .before in
+    c .put-groups .result ≡ c6 .put-lists .result + groupBytes (x .args .groups .now) (x .args .p .group) (x .args .q .group - x .args .p .group)
 grouped c =
-    let k = known (c .before .before .before .before .before .before .before .before .before .before .before) in
-    c .put-groups .ensures .ends ∙ ap (λ (n : ℕ). c .before .before .before .before .before .before .put-lists .result + n) (groups-length (c .before .before .before .before .before .before .before .before .before .before .before .before .before .before .before .before .before .before .before .before .args .names .now) (c .before .before .before .before .before .before .before .before .before .before .before .before .before .before .before .before .before .before .before .before .args .groups .now) (c .before .before .before .before .before .before .before .before .before .before .before .before .before .before .before .before .before .before .before .before .args .faces .now) (c .before .before .before .before .before .before .before .before .before .before .before .before .before .before .before .before .before .before .before .before .args .from) (c .before .before .before .before .before .before .before .before .before .before .before .before .before .before .before .before .before .before .before .before .args .p .group) (c .before .before .before .before .before .before .before .before .before .before .before .before .before .before .before .before .before .before .before .before .args .q .group - c .before .before .before .before .before .before .before .before .before .before .before .before .before .before .before .before .before .before .before .before .args .p .group) (k .labels-in) (k .faces-in))
+    let c6 = c .before .before .before .before .before .before in
+    let c11 = c .before .before .before .before .before .before .before .before .before .before .before in
+    let x = c .before .before .before .before .before .before .before .before .before .before .before .before .before .before .before .before .before .before .before .before in
+    let k = known c11 in
+    c .put-groups .ensures .ends ∙ ap (λ (n : ℕ). c6 .put-lists .result + n) (groups-length (x .args .names .now) (x .args .groups .now) (x .args .faces .now) (x .args .from) (x .args .p .group) (x .args .q .group - x .args .p .group) (k .labels-in) (k .faces-in))
 
-worded : (c : tie.After-put-groups) → c .put-groups .result + wordsSize (length (part (c .before .before .before .before .before .before .before .before .before .before .before .before .before .before .before .before .before .before .before .before .args .p .word) (c .before .before .before .before .before .before .before .before .before .before .before .before .before .before .before .before .before .before .before .before .args .q .word - c .before .before .before .before .before .before .before .before .before .before .before .before .before .before .before .before .before .before .before .before .args .p .word) (c .before .before .before .before .before .before .before .before .before .before .before .before .before .before .before .before .before .before .before .before .args .smoothing .now))) ≤ length (c .before .before .before .before .before .before .before .before .before .before .before .before .before .before .before .before .before .before .before .before .args .out .now)
+worded : (c : tie.After-put-groups) →
+    let x = c .before .before .before .before .before .before .before .before .before .before .before .before .before .before .before .before .before .before .before .before in
+    c .put-groups .result + wordsSize (length (part (x .args .p .word) (x .args .q .word - x .args .p .word) (x .args .smoothing .now))) ≤ length (x .args .out .now)
 worded c =
     let k = known (c .before .before .before .before .before .before .before .before .before .before .before) in
     rw (k .words-long, grouped c) (room (c .before .before .before .before .before .before) .2)
 
-few-words : (c : tie.After-object-size) → length (part (c .before .before .before .before .before .before .before .before .before .args .p .word) (c .before .before .before .before .before .before .before .before .before .args .q .word - c .before .before .before .before .before .before .before .before .before .args .p .word) (c .before .before .before .before .before .before .before .before .before .args .smoothing .now)) ≤ 1048576
+few-words : (c : tie.After-object-size) →
+    let x = c .before .before .before .before .before .before .before .before .before in
+    length (part (x .args .p .word) (x .args .q .word - x .args .p .word) (x .args .smoothing .now)) ≤ 1048576
 few-words c =
     let k = known c in
     rw (k .words-long) (words-small (c .object-size .result) _ _ _ (k .sum-is) (k .small))
 
-labelled : (c : tie.After-object-size) → between 0 (c .before .before .before .before .before .before .before .before .before .args .groups .now) (c .before .before .before .before .before .before .before .before .before .args .p .group) (c .before .before .before .before .before .before .before .before .before .args .q .group - c .before .before .before .before .before .before .before .before .before .args .p .group) ≤ 1048576
+labelled : (c : tie.After-object-size) →
+    let x = c .before .before .before .before .before .before .before .before .before in
+    between 0 (x .args .groups .now) (x .args .p .group) (x .args .q .group - x .args .p .group) ≤ 1048576
 labelled c = let k = known c in labels-small (c .object-size .result) _ _ _ _ _ (k .sum-is) (k .small)
 
 object-size-requires : tie.Need-object-size-requires
@@ -89,10 +111,17 @@ sub-put-groups : tie.Need-sub-put-groups
 sub-put-groups c = omega (arith, c .before .before .before .before .before .before .before .before .before .before .before .before .before .before .before .before .before .before .pre .0 .1 .group)
 
 put-groups-requires : tie.Need-put-groups-requires
-put-groups-requires c κs = ((known (c .before .before .before .before .before .before .before .before .before .before) .groups-in, c .before .before .before .before .before .before .before .before .before .before .before .before .before .before .before .before .before .before .before .pre .0 .0 .label, c .before .before .before .before .before .before .before .before .before .before .before .before .before .before .before .before .before .before .before .pre .0 .0 .face), ((known (c .before .before .before .before .before .before .before .before .before .before) .labels-in, known (c .before .before .before .before .before .before .before .before .before .before) .faces-in), (known (c .before .before .before .before .before .before .before .before .before .before) .few, labelled (c .before .before .before .before .before .before .before .before .before .before), omega (arith, room (c .before .before .before .before .before) .1))))
+put-groups-requires c κs =
+    let c5 = c .before .before .before .before .before in
+    let c10 = c .before .before .before .before .before .before .before .before .before .before in
+    let x = c .before .before .before .before .before .before .before .before .before .before .before .before .before .before .before .before .before .before .before in
+    ((known c10 .groups-in, x .pre .0 .0 .label, x .pre .0 .0 .face), ((known c10 .labels-in, known c10 .faces-in), (known c10 .few, labelled c10, omega (arith, room c5 .1))))
 
 mul-put-smoothing : tie.Need-mul-put-smoothing
-mul-put-smoothing c = let k = known (c .before .before .before .before .before .before .before .before .before .before .before .before .before) in omega (arith, k .words-in, c .before .before .before .before .before .before .before .before .before .before .before .before .before .before .before .before .before .before .before .before .before .before .pre .0 .1 .word, c .before .before .before .before .before .before .before .before .before .before .before .before .before .before .before .before .before .before .before .before .before .before .good .1 .1 .1 .1 .0 .1)
+mul-put-smoothing c =
+    let c13 = c .before .before .before .before .before .before .before .before .before .before .before .before .before in
+    let x = c .before .before .before .before .before .before .before .before .before .before .before .before .before .before .before .before .before .before .before .before .before .before in
+    let k = known c13 in omega (arith, k .words-in, x .pre .0 .1 .word, x .good .1 .1 .1 .1 .0 .1)
 
 sub-put-smoothing : tie.Need-sub-put-smoothing
 sub-put-smoothing c = omega (arith, c .before .before .before .before .before .before .before .before .before .before .before .before .before .before .before .before .before .before .before .before .before .before .pre .0 .1 .word)
@@ -111,8 +140,15 @@ same-length c = search needs
 
 returns : tie.Need-returns
 returns c =
-    subst (λ (new : List ℕ). Put (c .before .before .before .before .before .before .before .before .before .before .before .before .before .before .before .before .before .before .before .before .before .before .before .before .before .before .before .args .out .now) (c .before .before .before .before .before .before .before .before .before .before .before .before .before .before .before .before .before .before .before .before .before .before .before .before .before .before .before .args .at) new (c .before .before .put-smoothing .last .1 .1 .0) (c .before .before .put-smoothing .result)) (pieces-same _ _ _ _ _ _ _ _ _ _ _ _ (c .before .before .before .before .before .before .before .before .before .before .before .before .before .before .before .before .before .before .before .before .before .before .before .before .before .before .before .pre .0 .0) (c .before .before .before .before .before .before .before .before .before .before .before .before .before .before .before .before .before .before .before .before .before .before .before .before .before .before .before .pre .0 .1) (known (c .before .before .before .before .before .before .before .before .before .before .before .before .before .before .before .before .before .before)))
-    (put-then (omega (arith, c .before .before .before .before .before .before .before .before .before .before .before .before .before .before .before .before .before .before .before .before .before .before .before .before .before .before .before .pre .1)) (c .before .before .before .before .before .before .before .before .before .before .before .before .before .put-lists .ensures) (put-then (omega (arith, room (c .before .before .before .before .before .before .before .before .before .before .before .before .before) .0)) (c .before .before .before .before .before .before .before .put-groups .ensures) (c .before .before .put-smoothing .ensures)))
+    subst (λ (new : List ℕ). Put (c .before .before .before .before .before .before .before .before .before .before .before .before .before .before .before .before .before .before .before .before .before .before .before .before .before .before .before .args .out .now)
+    (c .before .before .before .before .before .before .before .before .before .before .before .before .before .before .before .before .before .before .before .before .before .before .before .before .before .before .before .args .at) new
+    (c .before .before .put-smoothing .last .1 .1 .0) (c .before .before .put-smoothing .result))
+    (pieces-same _ _ _ _ _ _ _ _ _ _ _ _ (c .before .before .before .before .before .before .before .before .before .before .before .before .before .before .before .before .before .before .before .before .before .before .before .before .before .before .before .pre .0 .0)
+    (c .before .before .before .before .before .before .before .before .before .before .before .before .before .before .before .before .before .before .before .before .before .before .before .before .before .before .before .pre .0 .1)
+    (known (c .before .before .before .before .before .before .before .before .before .before .before .before .before .before .before .before .before .before)))
+    (put-then (omega (arith, c .before .before .before .before .before .before .before .before .before .before .before .before .before .before .before .before .before .before .before .before .before .before .before .before .before .before .before .pre .1))
+    (c .before .before .before .before .before .before .before .before .before .before .before .before .before .put-lists .ensures)
+    (put-then (omega (arith, room (c .before .before .before .before .before .before .before .before .before .before .before .before .before) .0)) (c .before .before .before .before .before .before .before .put-groups .ensures) (c .before .before .put-smoothing .ensures)))
 
 pub put-object-spec : {M : Type 1} → statement M
 put-object-spec =

@@ -17,7 +17,8 @@ use Rattle.studio_figure_bytes.proofs.put_objects.Statement.{statement}
 use Rattle.studio_figure_bytes.proofs.put_objects.Tie as tie
 
 abbrev Inv-loop : tie.InvT-loop
-Inv-loop names objects vertices corners smoothing groups faces from n at out₀ p₀ next₀ i₀ out p next i = (i ≤ n) × (length out ≡ length out₀) × At objects groups from i p × (next ≡ at + total (objectBytes objects groups) (run (λ (k : ℕ). k) 0 i)) × Put out₀ at (over (pieces names objects vertices corners smoothing groups faces from) (run (λ (k : ℕ). k) 0 i)) out next
+Inv-loop names objects vertices corners smoothing groups faces from n at out₀ p₀ next₀ i₀ out p next i = (i ≤ n) × (length out ≡ length out₀) × At objects groups from i p × (next ≡ at + total (objectBytes objects groups) (run (λ (k : ℕ). k) 0 i)) × Put out₀ at
+    (over (pieces names objects vertices corners smoothing groups faces from) (run (λ (k : ℕ). k) 0 i)) out next
 
 abbrev μ-loop : tie.MeasureT-loop
 μ-loop names objects vertices corners smoothing groups faces from n at out₀ p₀ next₀ i₀ out p next i = n - i
@@ -26,10 +27,16 @@ loop-holds : tie.Need-loop-holds Inv-loop μ-loop
 loop-holds c = (omega arith, refl, at-first _ _ _, omega arith, put-none _ _)
 
 next-place-requires : tie.Need-next-place-requires Inv-loop μ-loop
-next-place-requires c κs = place-small (c .before .before .before .before .before .before .before .before .before .before .args .names .now) (c .before .before .before .before .before .before .before .before .before .before .args .objects .now) (c .before .before .before .before .before .before .before .before .before .before .args .vertices .now) (c .before .before .before .before .before .before .before .before .before .before .args .corners .now) (c .before .before .before .before .before .before .before .before .before .before .args .smoothing .now) (c .before .before .before .before .before .before .before .before .before .before .args .groups .now) (c .before .before .before .before .before .before .before .before .before .before .args .faces .now) (c .before .before .before .before .before .before .before .before .before .before .args .from) (c .before .loop .i) (c .before .loop .p) (c .before .loop .inv .2) (c .before .before .before .before .before .before .before .before .before .before .pre .0 .0 (c .before .loop .i) (omega arith)) (omega (arith, c .before .before .before .before .before .before .before .before .before .before .good .0 .1)) (omega (arith, c .before .before .before .before .before .before .before .before .before .before .good .1 .1 .0 .1)) (omega (arith, c .before .before .before .before .before .before .before .before .before .before .good .1 .1 .1 .0 .1)) (omega (arith, c .before .before .before .before .before .before .before .before .before .before .good .1 .1 .1 .1 .0 .1)) (omega (arith, c .before .before .before .before .before .before .before .before .before .before .good .1 .1 .1 .1 .1 .1 .0 .1))
+next-place-requires c κs =
+    let x = c .before .before .before .before .before .before .before .before .before .before in
+    place-small (x .args .names .now) (x .args .objects .now) (x .args .vertices .now) (x .args .corners .now) (x .args .smoothing .now) (x .args .groups .now) (x .args .faces .now) (x .args .from) (c .before .loop .i) (c .before .loop .p) (c .before .loop .inv .2)
+    (x .pre .0 .0 (c .before .loop .i) (omega arith)) (omega (arith, x .good .0 .1)) (omega (arith, x .good .1 .1 .0 .1)) (omega (arith, x .good .1 .1 .1 .0 .1)) (omega (arith, x .good .1 .1 .1 .1 .0 .1)) (omega (arith, x .good .1 .1 .1 .1 .1 .1 .0 .1))
 
 put-object-requires : tie.Need-put-object-requires Inv-loop μ-loop
-put-object-requires c κs = ((c .before .before .before .loop .inv .2, c .before .next-place .ensures, c .before .before .before .before .before .before .before .before .before .before .before .before .pre .0 .0 (c .before .before .before .loop .i) (omega arith)), omega (arith, c .before .before .before .loop .inv .3, c .before .before .before .before .before .before .before .before .before .before .before .before .pre .1, total-inside (objectBytes (c .before .before .before .before .before .before .before .before .before .before .before .before .args .objects .now) (c .before .before .before .before .before .before .before .before .before .before .before .before .args .groups .now)) (c .before .before .before .loop .i) (c .before .before .before .before .before .before .before .before .before .before .before .before .args .n) (omega arith)))
+put-object-requires c κs =
+    let c3 = c .before .before .before in
+    let x = c .before .before .before .before .before .before .before .before .before .before .before .before in
+    ((c3 .loop .inv .2, c .before .next-place .ensures, x .pre .0 .0 (c3 .loop .i) (omega arith)), omega (arith, c3 .loop .inv .3, x .pre .1, total-inside (objectBytes (x .args .objects .now) (x .args .groups .now)) (c3 .loop .i) (x .args .n) (omega arith)))
 
 add-i : tie.Need-add-i Inv-loop μ-loop
 add-i c = omega arith
@@ -39,13 +46,18 @@ loop-less c = omega arith
 
 loop-again : tie.Need-loop-again Inv-loop μ-loop
 loop-again c =
-    let w = c .before .before .before .before .before .before .before .before .before .before .before .before .before .before .before .pre .0 .0 (c .before .before .before .before .before .before .loop .i) (omega arith) in
-    let l = pieces-length (c .before .before .before .before .before .before .before .before .before .before .before .before .before .before .before .args .names .now) (c .before .before .before .before .before .before .before .before .before .before .before .before .before .before .before .args .objects .now) (c .before .before .before .before .before .before .before .before .before .before .before .before .before .before .before .args .vertices .now) (c .before .before .before .before .before .before .before .before .before .before .before .before .before .before .before .args .corners .now) (c .before .before .before .before .before .before .before .before .before .before .before .before .before .before .before .args .smoothing .now) (c .before .before .before .before .before .before .before .before .before .before .before .before .before .before .before .args .groups .now) (c .before .before .before .before .before .before .before .before .before .before .before .before .before .before .before .args .faces .now) (c .before .before .before .before .before .before .before .before .before .before .before .before .before .before .before .args .from) (c .before .before .before .before .before .before .loop .i) w in (
+    let c2 = c .before .before in
+    let c4 = c .before .before .before .before in
+    let c6 = c .before .before .before .before .before .before in
+    let x = c .before .before .before .before .before .before .before .before .before .before .before .before .before .before .before in
+    let w = x .pre .0 .0 (c6 .loop .i) (omega arith) in
+    let l = pieces-length (x .args .names .now) (x .args .objects .now) (x .args .vertices .now) (x .args .corners .now) (x .args .smoothing .now) (x .args .groups .now) (x .args .faces .now) (x .args .from) (c6 .loop .i) w in (
       omega arith,
       omega arith,
-      at-next (c .before .before .before .before .before .before .before .before .before .before .before .before .before .before .before .args .objects .now) (c .before .before .before .before .before .before .before .before .before .before .before .before .before .before .before .args .groups .now) (c .before .before .before .before .before .before .before .before .before .before .before .before .before .before .before .args .from) (c .before .before .before .before .before .before .loop .i) (c .before .before .before .before .before .before .loop .p) (c .before .before .before .before .next-place .result) (c .before .before .before .before .before .before .loop .inv .2) (c .before .before .before .before .next-place .ensures),
-      omega (arith, c .before .before .before .before .before .before .loop .inv .3, c .before .before .put-object .ensures .ends, l, total-next (objectBytes (c .before .before .before .before .before .before .before .before .before .before .before .before .before .before .before .args .objects .now) (c .before .before .before .before .before .before .before .before .before .before .before .before .before .before .before .args .groups .now)) (c .before .before .before .before .before .before .loop .i)),
-      rw (over-last (pieces (c .before .before .before .before .before .before .before .before .before .before .before .before .before .before .before .args .names .now) (c .before .before .before .before .before .before .before .before .before .before .before .before .before .before .before .args .objects .now) (c .before .before .before .before .before .before .before .before .before .before .before .before .before .before .before .args .vertices .now) (c .before .before .before .before .before .before .before .before .before .before .before .before .before .before .before .args .corners .now) (c .before .before .before .before .before .before .before .before .before .before .before .before .before .before .before .args .smoothing .now) (c .before .before .before .before .before .before .before .before .before .before .before .before .before .before .before .args .groups .now) (c .before .before .before .before .before .before .before .before .before .before .before .before .before .before .before .args .faces .now) (c .before .before .before .before .before .before .before .before .before .before .before .before .before .before .before .args .from)) (λ (k : ℕ). k) (c .before .before .before .before .before .before .loop .i)) (put-then (omega (arith, c .before .before .before .before .before .before .before .before .before .before .before .before .before .before .before .pre .1)) (c .before .before .before .before .before .before .loop .inv .4) (c .before .before .put-object .ensures)),
+      at-next (x .args .objects .now) (x .args .groups .now) (x .args .from) (c6 .loop .i) (c6 .loop .p) (c4 .next-place .result) (c6 .loop .inv .2) (c4 .next-place .ensures),
+      omega (arith, c6 .loop .inv .3, c2 .put-object .ensures .ends, l, total-next (objectBytes (x .args .objects .now) (x .args .groups .now)) (c6 .loop .i)),
+      rw (over-last (pieces (x .args .names .now) (x .args .objects .now) (x .args .vertices .now) (x .args .corners .now) (x .args .smoothing .now) (x .args .groups .now) (x .args .faces .now) (x .args .from)) (λ (k : ℕ). k) (c6 .loop .i))
+          (put-then (omega (arith, x .pre .1)) (c6 .loop .inv .4) (c2 .put-object .ensures)),
     )
 
 same-length : tie.Need-same-length Inv-loop μ-loop

@@ -41,11 +41,16 @@ same-length c = search needs
 
 returns : tie.Need-returns
 returns c =
-    let a = c .before .before .before .before .before .before .before .before .before .before .before .before .before .before .before .before .before .before .before .args in
+    let c2 = c .before .before in
+    let c6 = c .before .before .before .before .before .before in
+    let c10 = c .before .before .before .before .before .before .before .before .before .before in
+    let c14 = c .before .before .before .before .before .before .before .before .before .before .before .before .before .before in
+    let x = c .before .before .before .before .before .before .before .before .before .before .before .before .before .before .before .before .before .before .before in
+    let a = x .args in
     let l = length-append (a .name .now) (0 ∷ []) in
-    let p = c .before .before .put-words in
+    let p = c2 .put-words in
     subst (λ (new : List ℕ). Put (a .out .now) (a .at) new (p .last .1 .1 .0) (p .result)) (sym (group-bytes (groupOf (a .name .now) (a .faces .now))))
-    (put-then (omega arith) (c .before .before .before .before .before .before .before .before .before .before .before .before .before .before .put-header .ensures) (put-then (omega arith) (c .before .before .before .before .before .before .before .before .before .before .put-name .ensures) (put-then (omega arith) (c .before .before .before .before .before .before .put-word .ensures) (p .ensures))))
+    (put-then (omega arith) (c14 .put-header .ensures) (put-then (omega arith) (c10 .put-name .ensures) (put-then (omega arith) (c6 .put-word .ensures) (p .ensures))))
 
 pub put-group-spec : {M : Type 1} → statement M
 put-group-spec =

@@ -31,7 +31,8 @@ inside groups first i n h = record {
 }
 
 abbrev Inv-loop : tie.InvT-loop
-Inv-loop names groups faces from first n name face at out₀ label₀ place₀ next₀ i₀ out label place next i = (i ≤ n) × (length out ≡ length out₀) × (label ≡ from + sumTo 2 0 groups (first + i)) × (place ≡ sumTo 2 1 groups (first + i)) × (next + (sumTo 2 0 groups first + 2 * sumTo 2 1 groups first) ≡ at + (9 * i + sumTo 2 0 groups (first + i) + 2 * sumTo 2 1 groups (first + i))) × Put out₀ at (over (λ j. groupBytes (groupIn names groups faces from (first + j))) (run (λ j. j) 0 i)) out next
+Inv-loop names groups faces from first n name face at out₀ label₀ place₀ next₀ i₀ out label place next i = (i ≤ n) × (length out ≡ length out₀) × (label ≡ from + sumTo 2 0 groups (first + i)) × (place ≡ sumTo 2 1 groups (first + i)) ×
+    (next + (sumTo 2 0 groups first + 2 * sumTo 2 1 groups first) ≡ at + (9 * i + sumTo 2 0 groups (first + i) + 2 * sumTo 2 1 groups (first + i))) × Put out₀ at (over (λ j. groupBytes (groupIn names groups faces from (first + j))) (run (λ j. j) 0 i)) out next
 
 abbrev μ-loop : tie.MeasureT-loop
 μ-loop names groups faces from first n name face at out₀ label₀ place₀ next₀ i₀ out label place next i = n - i
@@ -49,7 +50,10 @@ number-requires : tie.Need-number-requires Inv-loop μ-loop
 number-requires c κs = (omega arith, omega arith)
 
 add-end : tie.Need-add-end Inv-loop μ-loop
-add-end c = let s = inside (c .before .before .before .before .before .before .before .args .groups .now) (c .before .before .before .before .before .before .before .args .first) (c .before .before .loop .i) (c .before .before .before .before .before .before .before .args .n) (omega arith) in omega (arith, c .before .before .loop .inv .2, c .number .ensures .0)
+add-end c =
+    let c2 = c .before .before in
+    let x = c .before .before .before .before .before .before .before in
+    let s = inside (x .args .groups .now) (x .args .first) (c2 .loop .i) (x .args .n) (omega arith) in omega (arith, c2 .loop .inv .2, c .number .ensures .0)
 
 add-number-2 : tie.Need-add-number-2 Inv-loop μ-loop
 add-number-2 c = omega arith
@@ -58,7 +62,10 @@ number-requires-2 : tie.Need-number-requires-2 Inv-loop μ-loop
 number-requires-2 c κs = (omega arith, omega arith)
 
 add-last : tie.Need-add-last Inv-loop μ-loop
-add-last c = let s = inside (c .before .before .before .before .before .before .before .before .args .groups .now) (c .before .before .before .before .before .before .before .before .args .first) (c .before .before .before .loop .i) (c .before .before .before .before .before .before .before .before .args .n) (omega arith) in omega (arith, c .before .before .before .loop .inv .3, c .number2 .ensures .0)
+add-last c =
+    let c3 = c .before .before .before in
+    let x = c .before .before .before .before .before .before .before .before in
+    let s = inside (x .args .groups .now) (x .args .first) (c3 .loop .i) (x .args .n) (omega arith) in omega (arith, c3 .loop .inv .3, c .number2 .ensures .0)
 
 sub-put-group : tie.Need-sub-put-group Inv-loop μ-loop
 sub-put-group c = omega arith
@@ -67,10 +74,16 @@ part-put-group-start : tie.Need-part-put-group-start Inv-loop μ-loop
 part-put-group-start c = omega arith
 
 part-put-group-end : tie.Need-part-put-group-end Inv-loop μ-loop
-part-put-group-end c = let s = inside (c .before .before .before .before .before .before .before .before .args .groups .now) (c .before .before .before .before .before .before .before .before .args .first) (c .before .before .before .loop .i) (c .before .before .before .before .before .before .before .before .args .n) (omega arith) in omega (arith, c .before .before .before .loop .inv .2, c .before .number .ensures .0)
+part-put-group-end c =
+    let c3 = c .before .before .before in
+    let x = c .before .before .before .before .before .before .before .before in
+    let s = inside (x .args .groups .now) (x .args .first) (c3 .loop .i) (x .args .n) (omega arith) in omega (arith, c3 .loop .inv .2, c .before .number .ensures .0)
 
 mul-put-group : tie.Need-mul-put-group Inv-loop μ-loop
-mul-put-group c = let s = inside (c .before .before .before .before .before .before .before .before .before .args .groups .now) (c .before .before .before .before .before .before .before .before .before .args .first) (c .before .before .before .before .loop .i) (c .before .before .before .before .before .before .before .before .before .args .n) (omega arith) in omega (arith, c .before .before .before .before .loop .inv .3, c .before .number2 .ensures .0)
+mul-put-group c =
+    let c4 = c .before .before .before .before in
+    let x = c .before .before .before .before .before .before .before .before .before in
+    let s = inside (x .args .groups .now) (x .args .first) (c4 .loop .i) (x .args .n) (omega arith) in omega (arith, c4 .loop .inv .3, c .before .number2 .ensures .0)
 
 sub-put-group-2 : tie.Need-sub-put-group-2 Inv-loop μ-loop
 sub-put-group-2 c = omega arith
@@ -79,7 +92,10 @@ part-put-group-start-2 : tie.Need-part-put-group-start-2 Inv-loop μ-loop
 part-put-group-start-2 c = omega arith
 
 part-put-group-end-2 : tie.Need-part-put-group-end-2 Inv-loop μ-loop
-part-put-group-end-2 c = let s = inside (c .before .before .before .before .before .before .before .before .before .args .groups .now) (c .before .before .before .before .before .before .before .before .before .args .first) (c .before .before .before .before .loop .i) (c .before .before .before .before .before .before .before .before .before .args .n) (omega arith) in omega (arith, c .before .before .before .before .loop .inv .3, c .before .number2 .ensures .0)
+part-put-group-end-2 c =
+    let c4 = c .before .before .before .before in
+    let x = c .before .before .before .before .before .before .before .before .before in
+    let s = inside (x .args .groups .now) (x .args .first) (c4 .loop .i) (x .args .n) (omega arith) in omega (arith, c4 .loop .inv .3, c .before .number2 .ensures .0)
 
 put-group-requires : tie.Need-put-group-requires Inv-loop μ-loop
 put-group-requires c κs =

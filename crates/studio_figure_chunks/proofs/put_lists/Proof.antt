@@ -41,8 +41,9 @@ put-header-requires-2 c κs = let l = long (c .before .before .before .before .b
 
 put-vertex-list-requires : tie.Need-put-vertex-list-requires
 put-vertex-list-requires c κs =
-    let l = long (c .before .before .before .before .before .before .before .before .before .before .before .before .before .before .before .before .before) in
-    ((c .before .before .before .before .before .before .before .before .before .before .before .before .before .before .before .before .before .pre .0 .0, c .before .before .before .before .before .before .before .before .before .before .before .before .before .before .before .before .before .pre .0 .1, c .before .before .before .before .before .before .before .before .before .before .before .before .before .before .before .before .before .pre .0 .2), omega arith)
+    let x = c .before .before .before .before .before .before .before .before .before .before .before .before .before .before .before .before .before in
+    let l = long x in
+    ((x .pre .0 .0, x .pre .0 .1, x .pre .0 .2), omega arith)
 
 sub-put-header-2 : tie.Need-sub-put-header-2
 sub-put-header-2 c = let l = long (c .before .before .before .before .before .before .before .before .before .before .before .before .before .before .before .before .before .before .before .before) in omega arith
@@ -57,7 +58,18 @@ put-word-requires : tie.Need-put-word-requires
 put-word-requires c κs = let l = long (c .before .before .before .before .before .before .before .before .before .before .before .before .before .before .before .before .before .before .before .before .before .before .before .before .before) in omega arith
 
 put-faces-requires : tie.Need-put-faces-requires
-put-faces-requires c κs = let l = long (c .before .before .before .before .before .before .before .before .before .before .before .before .before .before .before .before .before .before .before .before .before .before .before .before .before .before .before .before .before) in omega (arith, c .before .before .before .before .before .before .before .before .before .before .before .before .before .before .before .before .before .before .before .before .before .before .before .before .before .before .before .before .before .pre .1 .0, c .before .before .before .before .before .before .before .before .before .before .before .before .before .before .before .before .before .before .before .before .before .before .before .before .before .before .before .before .before .pre .1 .2, c .before .before .before .before .before .before .before .before .before .before .before .before .before .before .before .before .before .before .before .before .before .before .before .put-header .ensures .ends, c .before .before .before .before .before .before .before .before .before .before .before .before .before .before .before .before .before .before .before .put-name .ensures .ends, c .before .before .before .before .before .before .before .before .before .before .before .before .before .before .before .put-header2 .ensures .ends, c .before .before .before .before .before .before .before .before .before .before .before .put-vertex-list .ensures .ends, c .before .before .before .before .before .before .before .put-header3 .ensures .ends, c .before .before .before .put-word .ensures .ends)
+put-faces-requires c κs = let l = long (c .before .before .before .before .before .before .before .before .before .before .before .before .before .before .before .before .before .before .before .before .before .before .before .before .before .before .before .before .before) in
+    omega (
+      arith,
+      c .before .before .before .before .before .before .before .before .before .before .before .before .before .before .before .before .before .before .before .before .before .before .before .before .before .before .before .before .before .pre .1 .0,
+      c .before .before .before .before .before .before .before .before .before .before .before .before .before .before .before .before .before .before .before .before .before .before .before .before .before .before .before .before .before .pre .1 .2,
+      c .before .before .before .before .before .before .before .before .before .before .before .before .before .before .before .before .before .before .before .before .before .before .before .put-header .ensures .ends,
+      c .before .before .before .before .before .before .before .before .before .before .before .before .before .before .before .before .before .before .before .put-name .ensures .ends,
+      c .before .before .before .before .before .before .before .before .before .before .before .before .before .before .before .put-header2 .ensures .ends,
+      c .before .before .before .before .before .before .before .before .before .before .before .put-vertex-list .ensures .ends,
+      c .before .before .before .before .before .before .before .put-header3 .ensures .ends,
+      c .before .before .before .put-word .ensures .ends,
+    )
 
 same-length : tie.Need-same-length
 same-length c = search needs

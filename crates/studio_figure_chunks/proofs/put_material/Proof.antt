@@ -60,7 +60,9 @@ returns c =
     let e₅ = c .before .before .before .before .before .before .put-colour2 .ensures .ends in
     let p = c .before .before .put-colour3 in
     subst (λ (new : List ℕ). Put (a .out .now) (a .at) new (p .last .1 .1 .1 .1 .0) (p .result)) (sym (material-bytes (materialWith (a .name .now) (a .colours .now) (a .i))))
-    (put-then (omega arith) (c .before .before .before .before .before .before .before .before .before .before .before .before .before .before .before .before .before .before .before .before .before .before .put-header .ensures) (put-then (omega arith) (c .before .before .before .before .before .before .before .before .before .before .before .before .before .before .before .before .before .before .put-header2 .ensures) (put-then (omega arith) (c .before .before .before .before .before .before .before .before .before .before .before .before .before .before .put-name .ensures)
+    (put-then (omega arith) (c .before .before .before .before .before .before .before .before .before .before .before .before .before .before .before .before .before .before .before .before .before .before .put-header .ensures)
+    (put-then (omega arith) (c .before .before .before .before .before .before .before .before .before .before .before .before .before .before .before .before .before .before .put-header2 .ensures)
+    (put-then (omega arith) (c .before .before .before .before .before .before .before .before .before .before .before .before .before .before .put-name .ensures)
     (put-then (omega arith) (c .before .before .before .before .before .before .before .before .before .before .put-colour .ensures) (put-then (omega arith) (c .before .before .before .before .before .before .put-colour2 .ensures) (p .ensures))))))
 
 pub put-material-spec : {M : Type 1} → statement M

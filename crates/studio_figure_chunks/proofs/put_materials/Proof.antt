@@ -16,7 +16,8 @@ use Rattle.studio_figure_chunks.proofs.put_materials.Statement.{stateme
 use Rattle.studio_figure_chunks.proofs.put_materials.Tie as tie
 
 abbrev Inv-loop : tie.InvT-loop
-Inv-loop names first materials colours at out₀ label₀ next₀ i₀ out label next i = (i ≤ length materials) × (length out ≡ length out₀) × (label ≡ first + sumTo 1 0 materials i) × (next ≡ at + (58 * i + sumTo 1 0 materials i)) × Put out₀ at (over materialBytes (run (materialIn names materials colours first) 0 i)) out next
+Inv-loop names first materials colours at out₀ label₀ next₀ i₀ out label next i = (i ≤ length materials) × (length out ≡ length out₀) × (label ≡ first + sumTo 1 0 materials i) × (next ≡ at + (58 * i + sumTo 1 0 materials i)) × Put out₀ at
+    (over materialBytes (run (materialIn names materials colours first) 0 i)) out next
 
 abbrev μ-loop : tie.MeasureT-loop
 μ-loop names first materials colours at out₀ label₀ next₀ i₀ out label next i = length materials - i
@@ -28,7 +29,10 @@ number-requires : tie.Need-number-requires Inv-loop μ-loop
 number-requires c κs = (omega arith, omega arith)
 
 add-end : tie.Need-add-end Inv-loop μ-loop
-add-end c = omega (arith, c .before .before .loop .inv .2, c .number .ensures .0, sum-inside 1 0 (c .before .before .before .before .before .before .before .args .materials .now) (c .before .before .loop .i) (length (c .before .before .before .before .before .before .before .args .materials .now)) (omega arith))
+add-end c =
+    let c2 = c .before .before in
+    let x = c .before .before .before .before .before .before .before in
+    omega (arith, c2 .loop .inv .2, c .number .ensures .0, sum-inside 1 0 (x .args .materials .now) (c2 .loop .i) (length (x .args .materials .now)) (omega arith))
 
 sub-put-material : tie.Need-sub-put-material Inv-loop μ-loop
 sub-put-material c = omega arith
@@ -37,7 +41,10 @@ part-put-material-start : tie.Need-part-put-material-start Inv-loop μ-loop
 part-put-material-start c = omega arith
 
 part-put-material-end : tie.Need-part-put-material-end Inv-loop μ-loop
-part-put-material-end c = omega (arith, c .before .before .loop .inv .2, c .number .ensures .0, sum-inside 1 0 (c .before .before .before .before .before .before .before .args .materials .now) (c .before .before .loop .i) (length (c .before .before .before .before .before .before .before .args .materials .now)) (omega arith))
+part-put-material-end c =
+    let c2 = c .before .before in
+    let x = c .before .before .before .before .before .before .before in
+    omega (arith, c2 .loop .inv .2, c .number .ensures .0, sum-inside 1 0 (x .args .materials .now) (c2 .loop .i) (length (x .args .materials .now)) (omega arith))
 
 put-material-requires : tie.Need-put-material-requires Inv-loop μ-loop
 put-material-requires c κs =

@@ -66,18 +66,42 @@ judge-size-requires c κs =
     (omega (arith, f .groups), omega (arith, f .names))
 
 returns : tie.Need-returns
-returns c = misfits (rows (c .before .before .before .before .before .before .before .before .before .before .before .before .before)) (c .before .before .before .before .before .before .before .before .before .before .before .before .before .args .room) _ (sym (c .before .r .given .1) ∙ c .before .before .before .fits2 .ensures)
+returns c =
+    let c3 = c .before .before .before in
+    let x = c .before .before .before .before .before .before .before .before .before .before .before .before .before in
+    misfits (rows x) (x .args .room) _ (sym (c .before .r .given .1) ∙ c3 .fits2 .ensures)
 
 returns-2 : tie.Need-returns-2
-returns-2 c = names-refused (rows (c .before .before .before .before .before .before .before .before .before .before .before .before .before .before .before .before)) (c .before .before .before .before .before .before .before .before .before .before .before .before .before .before .before .before .args .room) (bits (c .before .before .before .before .before .before .before .before .before .before .before .before .before)) _ (sym (c .before .before .before .before .enum-told .given .1) ∙ c .before .before .before .before .before .before .fits2 .ensures) _ (sym (c .before .r2 .given .1) ∙ c .before .before .before .judge-all-names .ensures)
+returns-2 c =
+    let c3 = c .before .before .before in
+    let c4 = c .before .before .before .before in
+    let c6 = c .before .before .before .before .before .before in
+    let c13 = c .before .before .before .before .before .before .before .before .before .before .before .before .before in
+    let x = c .before .before .before .before .before .before .before .before .before .before .before .before .before .before .before .before in
+    names-refused (rows x) (x .args .room) (bits c13) _ (sym (c4 .enum-told .given .1) ∙ c6 .fits2 .ensures) _ (sym (c .before .r2 .given .1) ∙ c3 .judge-all-names .ensures)
 
 returns-3 : tie.Need-returns-3
-returns-3 c = objects-refused (rows (c .before .before .before .before .before .before .before .before .before .before .before .before .before .before .before .before .before .before .before)) (c .before .before .before .before .before .before .before .before .before .before .before .before .before .before .before .before .before .before .before .args .room) (bits (c .before .before .before .before .before .before .before .before .before .before .before .before .before .before .before .before)) _ (sym (c .before .before .before .before .before .before .before .enum-told .given .1) ∙ c .before .before .before .before .before .before .before .before .before .fits2 .ensures) _ (sym (c .before .before .before .before .enum-told2 .given .1) ∙ c .before .before .before .before .before .before .judge-all-names .ensures) _ (sym (c .before .r3 .given .1) ∙ c .before .before .before .judge-all-objects .ensures)
+returns-3 c =
+    let c3 = c .before .before .before in
+    let c4 = c .before .before .before .before in
+    let c6 = c .before .before .before .before .before .before in
+    let c7 = c .before .before .before .before .before .before .before in
+    let c9 = c .before .before .before .before .before .before .before .before .before in
+    let c16 = c .before .before .before .before .before .before .before .before .before .before .before .before .before .before .before .before in
+    let x = c .before .before .before .before .before .before .before .before .before .before .before .before .before .before .before .before .before .before .before in
+    objects-refused (rows x) (x .args .room) (bits c16) _ (sym (c7 .enum-told .given .1) ∙ c9 .fits2 .ensures) _ (sym (c4 .enum-told2 .given .1) ∙ c6 .judge-all-names .ensures) _ (sym (c .before .r3 .given .1) ∙ c3 .judge-all-objects .ensures)
 
 returns-4 : tie.Need-returns-4
 returns-4 c =
+    let c3 = c .before .before .before in
+    let c4 = c .before .before .before .before in
+    let c6 = c .before .before .before .before .before .before in
+    let c7 = c .before .before .before .before .before .before .before in
+    let c9 = c .before .before .before .before .before .before .before .before .before in
+    let c16 = c .before .before .before .before .before .before .before .before .before .before .before .before .before .before .before .before in
+    let x = c .before .before .before .before .before .before .before .before .before .before .before .before .before .before .before .before .before .before .before in
     c .judge-size .ensures ∙
-    sized (rows (c .before .before .before .before .before .before .before .before .before .before .before .before .before .before .before .before .before .before .before)) (c .before .before .before .before .before .before .before .before .before .before .before .before .before .before .before .before .before .before .before .args .room) (bits (c .before .before .before .before .before .before .before .before .before .before .before .before .before .before .before .before)) _ (sym (c .before .before .before .before .before .before .before .enum-told .given .1) ∙ c .before .before .before .before .before .before .before .before .before .fits2 .ensures) _ (sym (c .before .before .before .before .enum-told2 .given .1) ∙ c .before .before .before .before .before .before .judge-all-names .ensures) _ (sym (c .before .enum-told3 .given .1) ∙ c .before .before .before .judge-all-objects .ensures)
+    sized (rows x) (x .args .room) (bits c16) _ (sym (c7 .enum-told .given .1) ∙ c9 .fits2 .ensures) _ (sym (c4 .enum-told2 .given .1) ∙ c6 .judge-all-names .ensures) _ (sym (c .before .enum-told3 .given .1) ∙ c3 .judge-all-objects .ensures)
 
 pub judge-figure-spec : {M : Type 1} → statement M
 judge-figure-spec =

@@ -24,7 +24,9 @@ begins-2 : (c : tie.After-sum2) → c .before .sum .result + c .sum2 .result ≡
 begins-2 c = let k = capped-under _ _ _ _ (c .sum2 .ensures) (omega arith) in omega (arith, begins (c .before))
 
 -- the group that was found is the first whose name is no material's
-fault : (c : tie.After-first-unnamed) → c .first-unnamed .result ≡ firstFault (oneOf (materialNames (c .before .before .before .before .before .before .before .args .names .now) (c .before .before .before .before .before .before .before .args .objects .now) (c .before .before .before .before .before .before .before .args .materials .now))) (groupNames (c .before .before .before .before .before .before .before .args .names .now) (c .before .before .before .before .before .before .before .args .objects .now) (c .before .before .before .before .before .before .before .args .materials .now) (c .before .before .before .before .before .before .before .args .groups .now))
+fault : (c : tie.After-first-unnamed) →
+    let x = c .before .before .before .before .before .before .before in
+    c .first-unnamed .result ≡ firstFault (oneOf (materialNames (x .args .names .now) (x .args .objects .now) (x .args .materials .now))) (groupNames (x .args .names .now) (x .args .objects .now) (x .args .materials .now) (x .args .groups .now))
 fault c =
     let a = c .before .before .before .before .before .before .before .args in
     c .first-unnamed .ensures ∙

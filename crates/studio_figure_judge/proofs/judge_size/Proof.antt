@@ -14,7 +14,9 @@ use Rattle.studio_figure_judge.proofs.judge_size.Statement.{statement}
 use Rattle.studio_figure_judge.proofs.judge_size.Tie as tie
 
 -- the size, as far as it matters
-size-is : (c : tie.After-objects-size) → Capped 0 (sizeIs (c .before .before .before .before .before .before .args .objects .now) (c .before .before .before .before .before .before .args .groups .now) (c .before .before .before .before .before .before .args .materials .now)) 1048576 (c .objects-size .result)
+size-is : (c : tie.After-objects-size) →
+    let x = c .before .before .before .before .before .before in
+    Capped 0 (sizeIs (x .args .objects .now) (x .args .groups .now) (x .args .materials .now)) 1048576 (c .objects-size .result)
 size-is c =
     let a = c .before .before .before .before .before .before .args in
     let k = capped-under _ _ _ _ (c .before .before .sum .ensures) (omega (arith, c .before .before .before .before .before .before .pre .1)) in

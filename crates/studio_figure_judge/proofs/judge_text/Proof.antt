@@ -39,15 +39,22 @@ judge-names-requires-2 c κs =
 
 returns : tie.Need-returns
 returns c =
-    let a = c .before .before .before .before .before .before .before .args in
-    front-refused (over (nameAsked (a .text)) (objectNames (a .names .now) (a .objects .now))) (over (nameAsked (a .text)) (materialNames (a .names .now) (a .objects .now) (a .materials .now))) _ (sym (c .before .r .given .1) ∙ c .before .before .before .judge-names .ensures ∙ text-answer (a .text) (objectNames (a .names .now) (a .objects .now)))
+    let c3 = c .before .before .before in
+    let x = c .before .before .before .before .before .before .before in
+    let a = x .args in
+    front-refused (over (nameAsked (a .text)) (objectNames (a .names .now) (a .objects .now))) (over (nameAsked (a .text)) (materialNames (a .names .now) (a .objects .now) (a .materials .now))) _
+    (sym (c .before .r .given .1) ∙ c3 .judge-names .ensures ∙ text-answer (a .text) (objectNames (a .names .now) (a .objects .now)))
 
 returns-2 : tie.Need-returns-2
 returns-2 c =
-    let a = c .before .before .before .before .before .before .before .before .args in
+    let c2 = c .before .before in
+    let c4 = c .before .before .before .before in
+    let x = c .before .before .before .before .before .before .before .before in
+    let a = x .args in
     let e = ap (λ (k : ℕ). answered (over (nameAsked (a .text)) (namesIn 1 (a .materials .now) (a .names .now) k (length (a .materials .now))))) (begins (c .before)) in
     c .judge-names2 .ensures ∙ text-answer (a .text) _ ∙ e ∙
-    front-passed (over (nameAsked (a .text)) (objectNames (a .names .now) (a .objects .now))) (over (nameAsked (a .text)) (materialNames (a .names .now) (a .objects .now) (a .materials .now))) _ (sym (c .before .before .enum-told .given .1) ∙ c .before .before .before .before .judge-names .ensures ∙ text-answer (a .text) (objectNames (a .names .now) (a .objects .now)))
+    front-passed (over (nameAsked (a .text)) (objectNames (a .names .now) (a .objects .now))) (over (nameAsked (a .text)) (materialNames (a .names .now) (a .objects .now) (a .materials .now))) _
+    (sym (c2 .enum-told .given .1) ∙ c4 .judge-names .ensures ∙ text-answer (a .text) (objectNames (a .names .now) (a .objects .now)))
 
 pub judge-text-spec : {M : Type 1} → statement M
 judge-text-spec =

@@ -70,16 +70,25 @@ judge-group-indices-requires c κs =
 
 returns : tie.Need-returns
 returns c =
-    let a = c .before .before .before .before .before .before .before .before .before .before .before .args in
+    let c3 = c .before .before .before in
+    let c5 = c .before .before .before .before .before in
+    let c6 = c .before .before .before .before .before .before in
+    let x = c .before .before .before .before .before .before .before .before .before .before .before in
+    let a = x .args in
     front-refused (first (a .objects .now) (a .corners .now) (a .groups .now) (a .faces .now) (a .i)) (second (a .objects .now) (a .corners .now) (a .groups .now) (a .faces .now) (a .i)) _
-    (sym (c .before .r .given .1) ∙ c .before .before .before .judge-below .ensures ∙ corners-are (a .objects .now) (a .corners .now) (a .i) (c .before .before .before .before .before .number2 .result) (a .at) (c .before .before .before .before .before .before .number .result) (c .before .before .before .before .before .number2 .ensures .0) (c .before .before .before .before .before .before .before .before .before .before .before .pre .0 .1) (c .before .before .before .before .before .before .number .ensures .0))
+    (sym (c .before .r .given .1) ∙ c3 .judge-below .ensures ∙ corners-are (a .objects .now) (a .corners .now) (a .i) (c5 .number2 .result) (a .at) (c6 .number .result) (c5 .number2 .ensures .0) (x .pre .0 .1) (c6 .number .ensures .0))
 
 returns-2 : tie.Need-returns-2
 returns-2 c =
-    let a = c .before .before .before .before .before .before .before .before .before .before .before .before .args in
-    c .judge-group-indices .ensures ∙ groups-are (a .objects .now) (a .groups .now) (a .faces .now) (a .i) (c .before .before .before .before .before .before .before .number .result) (a .group) (c .before .number3 .result) (c .before .before .before .before .before .before .before .number .ensures .0) (c .before .before .before .before .before .before .before .before .before .before .before .before .pre .1 .0 .0) (c .before .number3 .ensures .0) ∙
+    let c2 = c .before .before in
+    let c4 = c .before .before .before .before in
+    let c6 = c .before .before .before .before .before .before in
+    let c7 = c .before .before .before .before .before .before .before in
+    let x = c .before .before .before .before .before .before .before .before .before .before .before .before in
+    let a = x .args in
+    c .judge-group-indices .ensures ∙ groups-are (a .objects .now) (a .groups .now) (a .faces .now) (a .i) (c7 .number .result) (a .group) (c .before .number3 .result) (c7 .number .ensures .0) (x .pre .1 .0 .0) (c .before .number3 .ensures .0) ∙
     front-passed (first (a .objects .now) (a .corners .now) (a .groups .now) (a .faces .now) (a .i)) (second (a .objects .now) (a .corners .now) (a .groups .now) (a .faces .now) (a .i)) _
-    (sym (c .before .before .enum-told .given .1) ∙ c .before .before .before .before .judge-below .ensures ∙ corners-are (a .objects .now) (a .corners .now) (a .i) (c .before .before .before .before .before .before .number2 .result) (a .at) (c .before .before .before .before .before .before .before .number .result) (c .before .before .before .before .before .before .number2 .ensures .0) (c .before .before .before .before .before .before .before .before .before .before .before .before .pre .0 .1) (c .before .before .before .before .before .before .before .number .ensures .0))
+    (sym (c2 .enum-told .given .1) ∙ c4 .judge-below .ensures ∙ corners-are (a .objects .now) (a .corners .now) (a .i) (c6 .number2 .result) (a .at) (c7 .number .result) (c6 .number2 .ensures .0) (x .pre .0 .1) (c7 .number .ensures .0))
 
 pub judge-object-indices-spec : {M : Type 1} → statement M
 judge-object-indices-spec =

@@ -9,11 +9,28 @@ use Rattle.studio_figure_objects.proofs.object_size.Statement.{statemen
 use Rattle.studio_figure_objects.proofs.object_size.Tie as tie
 
 -- the size is what is written
-written : (c : tie.After-smoothing-size) → 29 + c .before .before .number4 .result + (12 * (c .before .before .before .before .number2 .result / 3) + 8 * (c .before .before .before .number3 .result / 3)) + 9 * c .before .before .before .before .before .before .before .before .before .number .result + c .before .before .before .before .before .before .before .before .sum .result + 2 * c .before .before .before .before .before .before .sum2 .result + c .smoothing-size .result ≡ objectBytes (c .before .before .before .before .before .before .before .before .before .before .before .before .args .objects .now) (c .before .before .before .before .before .before .before .before .before .before .before .before .args .groups .now) (c .before .before .before .before .before .before .before .before .before .before .before .before .args .i)
+written : (c : tie.After-smoothing-size) →
+    let c2 = c .before .before in
+    let c3 = c .before .before .before in
+    let c4 = c .before .before .before .before in
+    let c6 = c .before .before .before .before .before .before in
+    let c8 = c .before .before .before .before .before .before .before .before in
+    let c9 = c .before .before .before .before .before .before .before .before .before in
+    let x = c .before .before .before .before .before .before .before .before .before .before .before .before in
+    29 + c2 .number4 .result + (12 * (c4 .number2 .result / 3) + 8 * (c3 .number3 .result / 3)) + 9 * c9 .number .result + c8 .sum .result + 2 * c6 .sum2 .result + c .smoothing-size .result ≡ objectBytes (x .args .objects .now) (x .args .groups .now) (x .args .i)
 written c =
-    let a = c .before .before .before .before .before .before .before .before .before .before .before .before .args in
-    object-is (a .objects .now) (a .groups .now) (a .i) (a .group) (c .before .before .before .before .before .before .before .before .before .number .result) (c .before .before .before .before .before .before .before .before .before .before .before .before .pre .1) (c .before .before .before .before .before .before .before .before .before .number .ensures .0) _ _ _ _ _ _ (c .before .before .number4 .ensures .0) (c .before .before .before .before .number2 .ensures .0) (c .before .before .before .number3 .ensures .0)
-    (c .smoothing-size .ensures ∙ ap wordsSize (c .before .number5 .ensures .0)) (c .before .before .before .before .before .before .before .before .sum .ensures .exact (c .before .before .before .before .before .before .before .if1 .left)) (c .before .before .before .before .before .before .sum2 .ensures .exact (c .before .before .before .before .before .if2 .left))
+    let c2 = c .before .before in
+    let c3 = c .before .before .before in
+    let c4 = c .before .before .before .before in
+    let c5 = c .before .before .before .before .before in
+    let c6 = c .before .before .before .before .before .before in
+    let c7 = c .before .before .before .before .before .before .before in
+    let c8 = c .before .before .before .before .before .before .before .before in
+    let c9 = c .before .before .before .before .before .before .before .before .before in
+    let x = c .before .before .before .before .before .before .before .before .before .before .before .before in
+    let a = x .args in
+    object-is (a .objects .now) (a .groups .now) (a .i) (a .group) (c9 .number .result) (x .pre .1) (c9 .number .ensures .0) _ _ _ _ _ _ (c2 .number4 .ensures .0) (c4 .number2 .ensures .0) (c3 .number3 .ensures .0)
+    (c .smoothing-size .ensures ∙ ap wordsSize (c .before .number5 .ensures .0)) (c8 .sum .ensures .exact (c7 .if1 .left)) (c6 .sum2 .ensures .exact (c5 .if2 .left))
 
 number-requires : tie.Need-number-requires
 number-requires c κs = search needs
@@ -43,8 +60,10 @@ add-result-2 c = search needs
 
 returns-2 : tie.Need-returns-2
 returns-2 c =
-    let a = c .before .before .before .before .before .before .before .args in
-    (sized-over _ (faces-over (a .objects .now) (a .groups .now) (a .i) (a .group) (c .before .before .before .before .number .result) (c .before .before .before .before .before .before .before .pre .1) (c .before .before .before .before .number .ensures .0) (c .before .sum2 .ensures .past (c .if2 .taken))), omega arith)
+    let c4 = c .before .before .before .before in
+    let x = c .before .before .before .before .before .before .before in
+    let a = x .args in
+    (sized-over _ (faces-over (a .objects .now) (a .groups .now) (a .i) (a .group) (c4 .number .result) (x .pre .1) (c4 .number .ensures .0) (c .before .sum2 .ensures .past (c .if2 .taken))), omega arith)
 
 number-requires-2 : tie.Need-number-requires-2
 number-requires-2 c κs = search needs

@@ -37,7 +37,10 @@ held-6 : (c : tie.Else6) → Met (take 6 (asked (rows (c .before .before .before
 held-6 c = met-more 5 (asked (rows (c .before .before .before .before .before .before .before .before .before .before .before .before .before .before .before .before .before .before .before .before))) (held-5 (c .before .before)) refl (sym (c .before .adds-up3 .ensures) ∙ not-false _ (c .if6 .left))
 
 held-7 : (c : tie.Else7) → Met (take 7 (asked (rows (c .before .before .before .before .before .before .before .before .before .before .before .before .before .before .before .before .before .before .before .before .before .before))))
-held-7 c = met-more 6 (asked (rows (c .before .before .before .before .before .before .before .before .before .before .before .before .before .before .before .before .before .before .before .before .before .before))) (held-6 (c .before .before)) refl (sym (c .before .adds-up4 .ensures) ∙ not-false _ (c .if7 .left))
+held-7 c =
+    let c2 = c .before .before in
+    let c22 = c .before .before .before .before .before .before .before .before .before .before .before .before .before .before .before .before .before .before .before .before .before .before in
+    met-more 6 (asked (rows c22)) (held-6 c2) refl (sym (c .before .adds-up4 .ensures) ∙ not-false _ (c .if7 .left))
 
 returns : tie.Need-returns
 returns c = misfit (rows (c .before .before .before .before .before .before .before .before .before .before)) 0 tt refl (ne-eqb _ _ (c .if1 .taken))
@@ -76,16 +79,25 @@ adds-up-requires-4 : tie.Need-adds-up-requires-4
 adds-up-requires-4 c κs = (omega arith, omega arith, omega (arith, c .before .before .before .before .before .before .before .before .before .before .before .before .before .before .before .before .before .before .before .before .good .1 .1 .1 .1 .1 .1 .0 .1))
 
 returns-7 : tie.Need-returns-7
-returns-7 c = misfit (rows (c .before .before .before .before .before .before .before .before .before .before .before .before .before .before .before .before .before .before .before .before .before .before)) 6 (held-6 (c .before .before)) refl (sym (c .before .adds-up4 .ensures) ∙ not-true _ (c .if7 .taken))
+returns-7 c =
+    let c2 = c .before .before in
+    let c22 = c .before .before .before .before .before .before .before .before .before .before .before .before .before .before .before .before .before .before .before .before .before .before in
+    misfit (rows c22) 6 (held-6 c2) refl (sym (c .before .adds-up4 .ensures) ∙ not-true _ (c .if7 .taken))
 
 colours-add-up-requires : tie.Need-colours-add-up-requires
 colours-add-up-requires c κs = search needs
 
 returns-8 : tie.Need-returns-8
-returns-8 c = misfit (rows (c .before .before .before .before .before .before .before .before .before .before .before .before .before .before .before .before .before .before .before .before .before .before .before .before)) 7 (held-7 (c .before .before)) refl (sym (c .before .colours-add-up .ensures) ∙ not-true _ (c .if8 .taken))
+returns-8 c =
+    let c2 = c .before .before in
+    let c24 = c .before .before .before .before .before .before .before .before .before .before .before .before .before .before .before .before .before .before .before .before .before .before .before .before in
+    misfit (rows c24) 7 (held-7 c2) refl (sym (c .before .colours-add-up .ensures) ∙ not-true _ (c .if8 .taken))
 
 returns-9 : tie.Need-returns-9
-returns-9 c = fitting (rows (c .before .before .before .before .before .before .before .before .before .before .before .before .before .before .before .before .before .before .before .before .before .before .before .before)) (met-more 7 (asked (rows (c .before .before .before .before .before .before .before .before .before .before .before .before .before .before .before .before .before .before .before .before .before .before .before .before))) (held-7 (c .before .before)) refl (sym (c .before .colours-add-up .ensures) ∙ not-false _ (c .if8 .left)))
+returns-9 c =
+    let c2 = c .before .before in
+    let c24 = c .before .before .before .before .before .before .before .before .before .before .before .before .before .before .before .before .before .before .before .before .before .before .before .before in
+    fitting (rows c24) (met-more 7 (asked (rows c24)) (held-7 c2) refl (sym (c .before .colours-add-up .ensures) ∙ not-false _ (c .if8 .left)))
 
 pub fits-spec : {M : Type 1} → statement M
 fits-spec =

@@ -162,12 +162,14 @@ chunk-slice-aggregate-run t c = search needs
 
 chunk-run-requires : (t : ℕ) → chunk-lts.Need-run-requires (chunk-calls t) (chunk-at t) chunk.Post
 chunk-run-requires t c κs =
-    let x = c .before .before .before .before .before .before .before .before .before .before .before in
+    let c3 = c .before .before .before in
+    let c11 = c .before .before .before .before .before .before .before .before .before .before .before in
+    let x = c11 in
     let p = x .pre .1 .3 in
-    let e = opened t (c .before .before .before) (p .0) (p .1) (p .3) in
+    let e = opened t c3 (p .0) (p .1) (p .3) in
     let v = e .within in
-    let room : Room (c .before .before .before .id .given .0 .1 .1 .1 .1 .0) (c .before .before .before .id .given .0 .1 .1 .0) (x .args .file .now) noMarks = record { ends = omega (arith, x .pre .1 .2 .ends, v .2); short = x .pre .1 .2 .short; word = inner-context e .bound-is .small; six = refl } in
-    (omega (arith, v .0, v .1, v .2, x .pre), (v .1, omega (arith, v .0), room, (inside (p .0) (p .1) (c .before .before .before .id .given .0 .0) (ent e .own), [], p .2, inner-context e), x .pre .1 .4))
+    let room : Room (c3 .id .given .0 .1 .1 .1 .1 .0) (c3 .id .given .0 .1 .1 .0) (x .args .file .now) noMarks = record { ends = omega (arith, x .pre .1 .2 .ends, v .2); short = x .pre .1 .2 .short; word = inner-context e .bound-is .small; six = refl } in
+    (omega (arith, v .0, v .1, v .2, x .pre), (v .1, omega (arith, v .0), room, (inside (p .0) (p .1) (c3 .id .given .0 .0) (ent e .own), [], p .2, inner-context e), x .pre .1 .4))
 
 chunk-enum-known-r-2 : (t : ℕ) → chunk-lts.Need-enum-known-r-2 (chunk-calls t) (chunk-at t) chunk.Post
 chunk-enum-known-r-2 t c = search needs
