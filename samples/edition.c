@@ -88,12 +88,10 @@ void make_chisel(struct figure *figure) {
 void make_mallet(struct figure *figure) {
     static const int head[][2] = {{-70, 0}, {70, 0}, {85, 120}, {-85, 120}};
     static const int handle[][2] = {{-14, -260}, {14, -260}, {18, 124}, {-18, 124}};
-    struct extras none = {0};
-    open_chunk(figure, 0x4D4D);
-    open_chunk(figure, 0x3D3D);
-    put_plate(figure, "head", head, LENGTH(head), -35, 35, &none);
-    put_plate(figure, "handle", handle, LENGTH(handle), -12, 12, &none);
-    close_figure(figure);
+    struct piece mallet[] = {{.name = "head"}, {.name = "handle"}};
+    add_plate(&mallet[0].mesh, head, LENGTH(head), -35, 35);
+    add_plate(&mallet[1].mesh, handle, LENGTH(handle), -12, 12);
+    put_pieces(figure, mallet, LENGTH(mallet));
 }
 
 void make_plane(struct figure *figure) {
@@ -119,18 +117,14 @@ void make_plane(struct figure *figure) {
 void make_saw(struct figure *figure) {
     static const int sheet[][2] = {{0, 0}, {550, 0}, {550, 60}, {0, 110}};
     static const int grip[][2] = {{-10, -20}, {20, 20}, {20, 120}, {-60, 130}, {-90, 90}, {-90, 0}};
-    struct extras none = {0};
-    struct mesh blade = {0};
-    add_plate(&blade, sheet, LENGTH(sheet), 0, 1);
+    struct piece saw[] = {{.name = "blade"}, {.name = "handle"}};
+    add_plate(&saw[0].mesh, sheet, LENGTH(sheet), 0, 1);
     for (int x = 30; x < 550; x += 20) {
         const int tooth[3][2] = {{x, 0}, {x + 20, -8}, {x + 20, 0}};
-        add_plate(&blade, tooth, 3, 0, 1);
+        add_plate(&saw[0].mesh, tooth, 3, 0, 1);
     }
-    open_chunk(figure, 0x4D4D);
-    open_chunk(figure, 0x3D3D);
-    put_object(figure, "blade", &blade, &none);
-    put_plate(figure, "handle", grip, LENGTH(grip), -10, 11, &none);
-    close_figure(figure);
+    add_plate(&saw[1].mesh, grip, LENGTH(grip), -10, 11);
+    put_pieces(figure, saw, LENGTH(saw));
 }
 
 /* A material: its name, and one colour as three bytes. */

@@ -1,4 +1,5 @@
-/* Objects of a figure. Their lists come from our writer; the chunks around are the composer's. */
+/* Objects of a figure. They come from our writers; chunks that those do not write are the
+ * composer's. */
 #include "object.h"
 
 #include <string.h>
@@ -19,6 +20,35 @@ static size_t write_bare(uint8_t *out, size_t room, const char *name, const stru
 void put_bare_figure(struct figure *figure, const char *name, const struct mesh *mesh) {
     static uint8_t written[65536];
     put_bytes(figure, written, write_bare(written, sizeof written, name, mesh));
+}
+
+void put_pieces(struct figure *figure, const struct piece *pieces, size_t count) {
+    enum { MOST_PIECES = 2, NUMBERS = 5 };
+    static uint8_t names[64 * MOST_PIECES], written[65536];
+    static float vertices[3 * MOST_VERTICES * MOST_PIECES];
+    static uint16_t corners[3 * MOST_FACES * MOST_PIECES];
+    uint32_t objects[NUMBERS * MOST_PIECES] = {0};
+    size_t bytes = 0, floats = 0, words = 0;
+    for (size_t i = 0; i < count && i < MOST_PIECES; i++) {
+        const struct mesh *mesh = &pieces[i].mesh;
+        uint32_t *object = objects + NUMBERS * i;
+        object[0] = (uint32_t)strlen(pieces[i].name);
+        object[1] = (uint32_t)(3 * mesh->vertex_count);
+        object[2] = (uint32_t)(3 * mesh->face_count);
+        memcpy(names + bytes, pieces[i].name, object[0]);
+        memcpy(vertices + floats, mesh->vertices, object[1] * sizeof vertices[0]);
+        memcpy(corners + words, mesh->corners, object[2] * sizeof corners[0]);
+        bytes += object[0];
+        floats += object[1];
+        words += object[2];
+    }
+    uint64_t answer =
+        tds_write_figure(names, bytes, objects, NUMBERS * count, vertices, floats, corners, words,
+                         NULL, 0, NULL, 0, NULL, 0, NULL, 0, NULL, 0, written, sizeof written);
+    if (TDS_REFUSED(answer)) {
+        give_up("the writer refused a figure");
+    }
+    put_bytes(figure, written, (size_t)answer);
 }
 
 void put_private(struct figure *figure, int kind) {

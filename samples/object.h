@@ -19,6 +19,15 @@ struct extras {
 /* The whole figure of one object, as our writer makes it. */
 void put_bare_figure(struct figure *figure, const char *name, const struct mesh *mesh);
 
+/* A name and its mesh. */
+struct piece {
+    const char *name;
+    struct mesh mesh;
+};
+
+/* The whole figure of several objects, as our writer makes it. */
+void put_pieces(struct figure *figure, const struct piece *pieces, size_t count);
+
 /* One object inside an open 3D3D. */
 void put_object(struct figure *figure, const char *name, const struct mesh *mesh,
                 const struct extras *extras);
