@@ -34,6 +34,7 @@ use Rattle.studio_rescue_rules.specs.Call.{Lent, callOf, rescueCall}
 use Rattle.shared_words.specs.declared.Written.{Written}
 use Rattle.shared_words.specs.declared.Written.the-variants.{Size, Refused}
 use Rattle.studio_write_judge.specs.Judged.{judged}
+use Rattle.studio_figure_rules.specs.Described.{judgedFlat, writeFlat}
 use Rattle.studio_write.specs.Write.{writing, writeCall}
 use Rattle.shared_words.specs.Refusals.{codeOf}
 use Rattle.claim_demands.specs.Demand1.{RefusedWith, Answered, AnsweredOn, around, mended, Demand1}
@@ -138,7 +139,7 @@ written file out (Size size) = inl (size, refl)
 -- ---- the demand
 
 pub demand1 : Demand1
-unfolding checkCall listCall tablesCall nameCall boxCall meshesCall rescueCall writeCall
+unfolding checkCall listCall tablesCall nameCall boxCall meshesCall rescueCall writeCall writeFlat
 demand1 = record {
   check = λ s. checked (verdict s);
   list = λ e s row. listed e row (verdict s);
@@ -153,4 +154,5 @@ demand1 = record {
       by-mesh (Answered around Boxed.Refused) Boxed.Refused aroundOf (refuses around Boxed.Refused box-apart) boxed mesh (verdict s);
   rescue = λ e s rows. rescued e rows (rescue s);
   write = λ name vertices corners out. written _ out (judged name vertices corners (length out));
+  figure = λ rows out. written _ out (judgedFlat rows (length out));
 }

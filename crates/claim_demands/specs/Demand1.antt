@@ -27,6 +27,7 @@ use Rattle.studio_rescue_rules.specs.Rescue.{Cut}
 use Rattle.studio_rescue_rules.specs.Call.{Lent, rescueCall}
 use Rattle.shared_words.specs.declared.Written.{Written}
 use Rattle.studio_write.specs.Write.{writeCall}
+use Rattle.studio_figure_rules.specs.Described.{Flat, writeFlat}
 
 -- A REFUSAL WITH ONE NUMBER AND ONE PLACE: the answer is a refusal, c is its number and place, and the answer has no other;
 -- the number is of the table
@@ -69,3 +70,4 @@ pub record Demand1 : Type 1 where
   pub rescue : {A : Type 0} (e : Encoding Cut A) (s : List ℕ) (rows : Lent A) → AnsweredOn mended Mended.Refused rows (rescueCall e s rows)
   pub write : (name : List ℕ) (vertices : List Float) (corners out : List ℕ) →
       AnsweredOn Written.Size Written.Refused out (writeCall name vertices corners out)
+  pub figure : (rows : Flat) (out : List ℕ) → AnsweredOn Written.Size Written.Refused out (writeFlat rows out)
