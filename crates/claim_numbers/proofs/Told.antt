@@ -2,7 +2,7 @@
 use mathlib.Core.Path.{_≡_, refl, sym, subst, _∙_}
 use mathlib.Core.Logic.{inl, inr}
 use mathlib.Core.Bool.{Bool, true, false, cond}
-use mathlib.Core.List.{List, [], _∷_, map}
+use mathlib.Core.List.{List, [], _∷_, _++_, map}
 use mathlib.Core.Option.{Option, none, some}
 use Prim.Native.Nat.{ℕ, _+_, _-_, _*_, _/_, _%_, _≤_, _<_, _^_, min}
 use native.Mathlib.Omega.{arith}
@@ -38,6 +38,9 @@ use Rattle.studio_meshes_rules.proofs.Few.{standing-few}
 use Rattle.studio_rules.proofs.Verdict.{accepted-exactly}
 use Rattle.shared_words.specs.declared.Written.{Written}
 use Rattle.studio_write_judge.specs.Judged.{figureSize, writeConditions, answerOf, judged}
+use Rattle.studio_figure_rules.specs.Judged.{sizeOf, conditions}
+use Rattle.studio_figure_rules.specs.Described.{Flat, fitConditions, described, judgedFlat, writeFlat}
+use Rattle.studio_figure_rules.proofs.Ready.{met-append, each}
 use Rattle.studio_write.specs.Write.{writing, writeCall}
 use Rattle.c_codes.specs.Codes.{refusalCode, recordsOr, sizesOr, numbersOr, sizeOr}
 use Rattle.c_answers.specs.Given.{given, nine, countsGiven, nameGiven, boxGiven}
@@ -174,10 +177,21 @@ write-told name vertices corners out file = go (broken (writeConditions name ver
         let l : figureSize name vertices corners ≤ limit = leb-true _ _ (t .1 .1 .1 .1 .1 .1 .0) in
         omega arith
 
+-- what the writer of figures with materials writes is within the limit too
+figure-told : (r : Flat) (out file : List ℕ) → WriteTold (writing file out (judgedFlat r (length out)) .answer) (sizeOr (writing file out (judgedFlat r (length out)) .answer))
+unfolding judgedFlat
+figure-told r out file = go (broken (fitConditions r ++ conditions (described r) (length out))) refl
+  where
+    go : (x : Option Refusal) → broken (fitConditions r ++ conditions (described r) (length out)) ≡ x → WriteTold (writing file out (answerOf (sizeOf (described r)) x) .answer) (sizeOr (writing file out (answerOf (sizeOf (described r)) x) .answer))
+    go (some x) e = capped x
+    go none e =
+        let l = each (described r) (length out) (met-append (fitConditions r) (conditions (described r) (length out)) (met (fitConditions r ++ conditions (described r) (length out)) e) .1) .within-limit in
+        omega arith
+
 -- ---- THE THEOREM
 
 pub told : Told
-unfolding checkCall listCall tablesCall nameCall boxCall meshesCall rescueCall writeCall
+unfolding checkCall listCall tablesCall nameCall boxCall meshesCall rescueCall writeCall writeFlat
 told = record {
   check = λ s. records-told (verdict s) (verdict-within s);
   list = λ e s row. list-told e row (verdict s) (verdict-within s);
@@ -199,4 +213,5 @@ told = record {
   meshes = λ e s row. all-told standing e row (λ kids. standing-few 0 0 0 (figure kids)) (verdict s) (verdict-within s);
   rescue = λ e s b rows. rescue-told e rows (rescue s) (rescue-within s b);
   write = λ name vertices corners out. write-told name vertices corners out _;
+  figure = λ rows out. figure-told rows out _;
 }

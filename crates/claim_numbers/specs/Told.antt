@@ -22,6 +22,7 @@ use Rattle.studio_rules.specs.Calls.{checkCall, listCall, Rows, Tables, tablesC
 use Rattle.studio_meshes_rules.specs.Standing.{Standing}
 use Rattle.studio_meshes_rules.specs.Calls.{meshesCall}
 use Rattle.shared_words.specs.declared.Written.{Written}
+use Rattle.studio_figure_rules.specs.Described.{Flat, writeFlat}
 use Rattle.studio_write.specs.Write.{writeCall}
 use Rattle.c_codes.specs.Codes.{recordsOr, sizesOr, numbersOr, sizeOr}
 use Rattle.c_answers.specs.Given.{countsGiven, nameGiven, boxGiven}
@@ -100,3 +101,4 @@ pub record Told : Type 1 where
   pub rescue : {A : Type 0} (e : Encoding Cut A) (s : List ℕ) → Bytes s → (rows : Lent A) → RescueTold (rescueCall e s rows .answer) (cutsOr (rescueCall e s rows .answer))
   pub write : (name : List ℕ) (vertices : List Float) (corners out : List ℕ) →
       WriteTold (writeCall name vertices corners out .answer) (sizeOr (writeCall name vertices corners out .answer))
+  pub figure : (rows : Flat) (out : List ℕ) → WriteTold (writeFlat rows out .answer) (sizeOr (writeFlat rows out .answer))

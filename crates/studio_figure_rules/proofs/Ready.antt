@@ -16,7 +16,7 @@ use Rattle.shared_words.proofs.Bools.{and-parts}
 use Rattle.shared_words.proofs.Conditions.{Met}
 use Rattle.studio_write_judge.specs.Judged.{triples, notZero}
 use Rattle.studio_write_judge.proofs.Judged.{whole-row}
-use Rattle.studio_figure_rules.specs.Given.{Group, Object, Material, Figure, over, objectNames, materialNames, allNames, groupNames, Bits32}
+use Rattle.studio_figure_rules.specs.Given.{Group, Object, Material, Figure, over, objectNames, materialNames, allNames, groupNames, allGroupNames, Bits32}
 use Rattle.studio_figure_rules.specs.Judged.{sizeOf, noZero, isLabel, oneOf, differ, noneOrEach, groupCount, counts, floats, groupIndices, indices, conditions}
 use Rattle.studio_figure_rules.proofs.Lists.{every-parts}
 
@@ -140,20 +140,45 @@ materials-are : (ms : List Material) → Met (over noZero (map (λ (m : Material
 materials-are [] z t = tt
 materials-are (m ∷ ms) z t = (record { no-zero = z .0; text = t .0 }, materials-are ms (z .1) (t .1))
 
-pub ready : (f : Figure) (room : ℕ) → Bits32 f → Met (conditions f room) → Ready f room
-ready f room b m =
+-- the conditions of a figure that are met, each kind apart
+pub record Each (f : Figure) (room : ℕ) : Type 0 where
+  pub zeros : Met (over noZero (allNames f))
+  pub texts : Met (over isLabel (allNames f))
+  pub named : every (oneOf (materialNames f)) (allGroupNames f) ≡ true
+  pub counted : Met (over counts (f .objects))
+  pub numbered : Met (over floats (f .objects))
+  pub indexed : Met (over indices (f .objects))
+  pub within-limit : sizeOf f ≤ limit
+  pub within-room : sizeOf f ≤ room
+
+pub each : (f : Figure) (room : ℕ) → Met (conditions f room) → Each f room
+each f room m =
     let m₁ = met-append (over noZero (allNames f)) _ m in
-    let z = met-over noZero (objectNames f) (materialNames f) (m₁ .0) in
     let m₂ = met-append (over isLabel (allNames f)) _ (m₁ .1) in
-    let t = met-over isLabel (objectNames f) (materialNames f) (m₂ .0) in
     let m₃ = met-append (differ [] (objectNames f)) _ (m₂ .1) in
     let m₄ = met-append (differ [] (materialNames f)) _ (m₃ .1) in
     let m₅ = met-append (over counts (f .objects)) _ (m₄ .1 .1) in
     let m₆ = met-append (over floats (f .objects)) _ (m₅ .1) in
     let m₇ = met-append (over indices (f .objects)) _ (m₆ .1) in
     record {
-      objects-ready = objects-are (materialNames f) (z .1) (t .1) (f .objects) (z .0) (t .0) (m₄ .1 .0) (m₅ .0) (m₆ .0) (m₇ .0) b;
-      materials-ready = materials-are (f .materials) (z .1) (t .1);
+      zeros = m₁ .0;
+      texts = m₂ .0;
+      named = m₄ .1 .0;
+      counted = m₅ .0;
+      numbered = m₆ .0;
+      indexed = m₇ .0;
       within-limit = leb-true _ _ (m₇ .1 .0);
       within-room = leb-true _ _ (m₇ .1 .1 .0);
+    }
+
+pub ready : (f : Figure) (room : ℕ) → Bits32 f → Met (conditions f room) → Ready f room
+ready f room b m =
+    let e = each f room m in
+    let z = met-over noZero (objectNames f) (materialNames f) (e .zeros) in
+    let t = met-over isLabel (objectNames f) (materialNames f) (e .texts) in
+    record {
+      objects-ready = objects-are (materialNames f) (z .1) (t .1) (f .objects) (z .0) (t .0) (e .named) (e .counted) (e .numbered) (e .indexed) b;
+      materials-ready = materials-are (f .materials) (z .1) (t .1);
+      within-limit = e .within-limit;
+      within-room = e .within-room;
     }
