@@ -96,7 +96,7 @@ impl Draft for File {
             sub.body.truncate(if sub.identifier == 23 { 64 } else { 0 });
         }
         let more = [0, 0, 1][(index / 3 % 3) as usize];
-        let left = LIMIT + more - draft.bytes().len() - 8;
+        let left = (LIMIT + more).saturating_sub(draft.bytes().len() + 8);
         let mut last = chunk(*b"UMG4", vec![]);
         last.tail = random.bytes(left);
         draft.chunks.push(last);

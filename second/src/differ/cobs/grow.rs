@@ -108,7 +108,7 @@ impl Draft for File {
         draft.chunks.push(group(last + 1, last, random));
         let more = [0, 0, 1][(index / 3 % 3) as usize];
         let filled = draft.clone().finish(random).bytes().len() + 20;
-        let body = random.bytes(LIMIT + more - filled);
+        let body = random.bytes((LIMIT + more).saturating_sub(filled));
         draft.chunks.push(other(last + 2, 0, body, random));
         draft.finish(random)
     }
