@@ -188,7 +188,8 @@ fn filling(bytes: usize) -> Object {
     }
 }
 
-/// A name like no other, as its number is in it; any bytes but zero.
+/// A name like no other, as its number is in it, behind a `#` that the one
+/// without a number does not begin with; any bytes but zero.
 fn name(number: usize, random: &mut Random) -> Vec<u8> {
     let length = if random.chance(95) {
         random.below(5)
@@ -199,6 +200,8 @@ fn name(number: usize, random: &mut Random) -> Vec<u8> {
     if number > 0 {
         name.insert(0, b'0' + number as u8);
         name.insert(0, b'#');
+    } else if let Some(first @ b'#') = name.first_mut() {
+        *first = b'+';
     }
     name
 }
