@@ -34,7 +34,8 @@ held-5 : (c : tie.Else5) → Met (take 5 (asked (rows (c .before .before .before
 held-5 c = met-more 4 (asked (rows (c .before .before .before .before .before .before .before .before .before .before .before .before .before .before .before .before .before .before))) (held-4 (c .before .before)) refl (sym (c .before .adds-up2 .ensures) ∙ not-false _ (c .if5 .left))
 
 held-6 : (c : tie.Else6) → Met (take 6 (asked (rows (c .before .before .before .before .before .before .before .before .before .before .before .before .before .before .before .before .before .before .before .before))))
-held-6 c = met-more 5 (asked (rows (c .before .before .before .before .before .before .before .before .before .before .before .before .before .before .before .before .before .before .before .before))) (held-5 (c .before .before)) refl (sym (c .before .adds-up3 .ensures) ∙ not-false _ (c .if6 .left))
+held-6 c = met-more 5 (asked (rows (c .before .before .before .before .before .before .before .before .before .before .before .before .before .before .before .before .before .before .before .before)))
+    (held-5 (c .before .before)) refl (sym (c .before .adds-up3 .ensures) ∙ not-false _ (c .if6 .left))
 
 held-7 : (c : tie.Else7) → Met (take 7 (asked (rows (c .before .before .before .before .before .before .before .before .before .before .before .before .before .before .before .before .before .before .before .before .before .before))))
 held-7 c =
@@ -73,7 +74,8 @@ adds-up-requires-3 : tie.Need-adds-up-requires-3
 adds-up-requires-3 c κs = search needs
 
 returns-6 : tie.Need-returns-6
-returns-6 c = misfit (rows (c .before .before .before .before .before .before .before .before .before .before .before .before .before .before .before .before .before .before .before .before)) 5 (held-5 (c .before .before)) refl (sym (c .before .adds-up3 .ensures) ∙ not-true _ (c .if6 .taken))
+returns-6 c = misfit (rows (c .before .before .before .before .before .before .before .before .before .before .before .before .before .before .before .before .before .before .before .before)) 5
+    (held-5 (c .before .before)) refl (sym (c .before .adds-up3 .ensures) ∙ not-true _ (c .if6 .taken))
 
 adds-up-requires-4 : tie.Need-adds-up-requires-4
 adds-up-requires-4 c κs = (omega arith, omega arith, omega (arith, c .before .before .before .before .before .before .before .before .before .before .before .before .before .before .before .before .before .before .before .before .good .1 .1 .1 .1 .1 .1 .0 .1))
