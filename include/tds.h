@@ -1,7 +1,7 @@
 /*
- * tds.h - a strict reader of 3D Studio figures (.3ds), a writer of bare ones, a strict reader of
- * binary Caligari figures (.cob), and the slip of a stick, which tells whether the files on it are
- * still what they were.
+ * tds.h - a strict reader of 3D Studio figures (.3ds), a rescue of what is left of damaged ones,
+ * and two writers; strict readers of binary Caligari (.cob) and Cinema 4D figures (.c4d); and the
+ * slip of a stick, which tells whether the files on it are still what they were.
  *
  * A figure is read whole, from memory, by rules without exceptions: every length fills the chunk
  * around it exactly, every known chunk stands in its place, every corner of a face is a vertex that
@@ -41,14 +41,15 @@
  * anything but the slices it was given, writes anything but the slices it was lent, touches files,
  * prints, or ends the program. So all calls may be made from any number of threads at once.
  *
- * COST. Every call is linear in the lengths it is given, whatever is in the bytes; only the two
- * calls about a whole slip compare names two by two, which takes 0.1 s at worst. Each call that
- * reads a figure checks all of it first; the longest takes 0.02 to 3 milliseconds, by what is in
- * it, and up to 10 if it is a .cob file made for that (docs/BENCH.md). tds_list, tds_records,
- * tds_meshes, tds_parts and those about one mesh take up to twice that, tds_rescue up to 6. So a
- * call for each of many meshes costs the whole file each time, and one tds_meshes for all of them
- * once. tds_sum_join and tds_sum_matches read no bytes. Stack: at most 16 kilobytes; the four calls
- * on .cob files need 850.
+ * COST. Every call is linear in the lengths it is given, whatever is in the bytes, but where names
+ * are compared two by two: in the two calls about a whole slip, which take 0.1 s at worst, and in
+ * tds_write_figure, which takes up to 1 s for 10,000 objects. Each call that reads a figure checks
+ * all of it first; the longest takes 0.02 to 3 milliseconds, by what is in it, and up to 10 if it
+ * is a .cob file made for that (docs/BENCH.md). tds_list, tds_records, tds_meshes, tds_parts and
+ * those about one mesh take up to twice that, tds_rescue up to 6. So a call for each of many meshes
+ * costs the whole file each time, and one tds_meshes for all of them once. tds_sum_join and
+ * tds_sum_matches read no bytes. Stack: at most 16 kilobytes; the four calls on .cob files need
+ * 850.
  *
  * ORDER OF REFUSALS. First the faults of the file, which are 1 to 14, 23 and 24: the first that is
  * met, walking the file from its start, a chunk's own faults before those inside it, 24 right after
@@ -75,7 +76,7 @@ extern "C" {
  * lent may be filled in another way than it was built for. (Version 1 had six numbers a record, and
  * no tds_version.) CHANGELOG.md says what came with each.
  */
-#define TDS_VERSION (65536 * 2 + 256 * 5 + 0)
+#define TDS_VERSION (65536 * 2 + 256 * 6 + 0)
 uint64_t tds_version(void);
 
 /* No file longer than this is a figure. One byte more is enough to hand to tds_check to be told. */
@@ -83,7 +84,7 @@ uint64_t tds_version(void);
 
 /*
  * The refusals. "Place" is the offset in the file of the chunk at fault, unless it says otherwise.
- * In tds_write 9, 24, 13, 11, 12, 1 and 15 have other places: see there.
+ * In the two calls that write a figure those before 16, and 24, have other places: see there.
  */
 enum tds_refusal {
     TDS_ACCEPTED = 0,      /* no refusal */
@@ -229,8 +230,8 @@ uint64_t tds_tables(const uint8_t *file, size_t file_len, uint32_t mesh, uint8_t
  *
  * Fills two floats u, v for each vertex (8 bytes a vertex), in the order of the vertices; none
  * where the mesh has no mapping (no 4140). Answers how many numbers were filled, 2 * vertices or 0;
- * or refuses with 1 to 14; 16 with the count of meshes; or 15 with the numbers needed (place). Room
- * is mapping_len / 4 numbers.
+ * or refuses with a fault of the file; 16 with the count of meshes; or 15 with the numbers needed
+ * (place). Room is mapping_len / 4 numbers.
  *
  * Figures of versions below 3, and those that tell no version, may have fewer pairs than vertices:
  * the missing ones are filled with zeros. The version of a file is that of its first 0002 of 10
@@ -638,7 +639,10 @@ uint64_t tds_slip_write(const uint8_t *names, size_t names_len, const uint8_t *e
 /* Answers the count of objects, which may be 0, or refuses. */
 uint64_t tds_c4d_check(const uint8_t *file, size_t file_len);
 
-/* An OBJECT is three numbers, 12 bytes, in the order of enum tds_object. */
+/*
+ * An OBJECT is three numbers, 12 bytes, in the order of enum tds_object; tds_get_object reads one
+ * of them.
+ */
 #define TDS_OBJECT_NUMBERS 3
 #define TDS_OBJECT_BYTES (4 * TDS_OBJECT_NUMBERS)
 
@@ -705,6 +709,11 @@ TDS_INLINE uint32_t tds_get_part(const uint8_t *parts, size_t part, enum tds_par
 /* One number of one cut. */
 TDS_INLINE uint32_t tds_get_cut(const uint8_t *cuts, size_t cut, enum tds_cut number) {
     return tds_get4(cuts + cut * TDS_CUT_BYTES + 4 * (size_t)number);
+}
+
+/* One number of one object of a Cinema 4D figure. */
+TDS_INLINE uint32_t tds_get_object(const uint8_t *objects, size_t object, enum tds_object number) {
+    return tds_get4(objects + object * TDS_OBJECT_BYTES + 4 * (size_t)number);
 }
 
 /* One number of one record of a filled list of a Caligari figure. */

@@ -294,8 +294,10 @@ static void try_longest(void) {
     trying("the longest file");
     judge_answer(tds_c4d_check(file, longest), count);
     judge_answer(tds_c4d_list(file, longest, rows, TDS_OBJECT_BYTES * count, NULL, 0), count);
-    expect(tds_get4(rows + TDS_OBJECT_BYTES * (count - 1)) == 20 + 8 * (count - 1),
-           "the last object is elsewhere");
+    expect(tds_get_object(rows, count - 1, TDS_OBJECT_OFFSET) == 20 + 8 * (count - 1) &&
+               tds_get_object(rows, count - 1, TDS_OBJECT_COMBINATION) == 9 &&
+               tds_get_object(rows, count - 1, TDS_OBJECT_TEXTURES) == 0,
+           "the last object is another");
     judge_answer(tds_c4d_check(file, longest + 1), REFUSAL(1, 0));
     free(file);
     free(rows);

@@ -23,7 +23,8 @@ int main(void) {
     return number > 0 || TDS_VERTICES(answer) + TDS_FACES(answer) > 0 || tds_get2(slice) > 0 ||
            *tds_refusal_words(TDS_REFUSAL(answer)) > 0 || *tds_refusal_name(0) > 0 ||
            tds_get_record(slice, 0, TDS_RECORD_OWN) > 0 ||
-           tds_get_part(slice, 0, TDS_PART_DEPTH) == TDS_NO_FATHER;
+           tds_get_part(slice, 0, TDS_PART_DEPTH) == TDS_NO_FATHER ||
+           tds_get_object(slice, 0, TDS_OBJECT_TEXTURES) > 0;
 }
 END
 cp "$T/use.c" "$T/use.cpp"
