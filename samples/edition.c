@@ -91,7 +91,7 @@ void make_mallet(struct figure *figure) {
     struct piece mallet[] = {{.name = "head"}, {.name = "handle"}};
     add_plate(&mallet[0].mesh, head, LENGTH(head), -35, 35);
     add_plate(&mallet[1].mesh, handle, LENGTH(handle), -12, 12);
-    put_pieces(figure, mallet, LENGTH(mallet));
+    put_pieces(figure, mallet, LENGTH(mallet), NULL, 0);
 }
 
 void make_plane(struct figure *figure) {
@@ -117,14 +117,19 @@ void make_plane(struct figure *figure) {
 void make_saw(struct figure *figure) {
     static const int sheet[][2] = {{0, 0}, {550, 0}, {550, 60}, {0, 110}};
     static const int grip[][2] = {{-10, -20}, {20, 20}, {20, 120}, {-60, 130}, {-90, 90}, {-90, 0}};
-    struct piece saw[] = {{.name = "blade"}, {.name = "handle"}};
+    static const struct material materials[] = {
+        {"steel", {20, 20, 24, 160, 168, 176, 255, 255, 255}},
+        {"beech", {40, 28, 16, 200, 160, 110, 60, 60, 60}},
+    };
+    struct piece saw[] = {{.name = "blade", .material = "steel"},
+                          {.name = "handle", .material = "beech"}};
     add_plate(&saw[0].mesh, sheet, LENGTH(sheet), 0, 1);
     for (int x = 30; x < 550; x += 20) {
         const int tooth[3][2] = {{x, 0}, {x + 20, -8}, {x + 20, 0}};
         add_plate(&saw[0].mesh, tooth, 3, 0, 1);
     }
     add_plate(&saw[1].mesh, grip, LENGTH(grip), -10, 11);
-    put_pieces(figure, saw, LENGTH(saw));
+    put_pieces(figure, saw, LENGTH(saw), materials, LENGTH(materials));
 }
 
 /* A material: its name, and one colour as three bytes. */

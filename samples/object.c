@@ -22,29 +22,66 @@ void put_bare_figure(struct figure *figure, const char *name, const struct mesh 
     put_bytes(figure, written, write_bare(written, sizeof written, name, mesh));
 }
 
-void put_pieces(struct figure *figure, const struct piece *pieces, size_t count) {
-    enum { MOST_PIECES = 2, NUMBERS = 5 };
-    static uint8_t names[64 * MOST_PIECES], written[65536];
-    static float vertices[3 * MOST_VERTICES * MOST_PIECES];
-    static uint16_t corners[3 * MOST_FACES * MOST_PIECES];
-    uint32_t objects[NUMBERS * MOST_PIECES] = {0};
-    size_t bytes = 0, floats = 0, words = 0;
-    for (size_t i = 0; i < count && i < MOST_PIECES; i++) {
-        const struct mesh *mesh = &pieces[i].mesh;
-        uint32_t *object = objects + NUMBERS * i;
-        object[0] = (uint32_t)strlen(pieces[i].name);
-        object[1] = (uint32_t)(3 * mesh->vertex_count);
-        object[2] = (uint32_t)(3 * mesh->face_count);
-        memcpy(names + bytes, pieces[i].name, object[0]);
-        memcpy(vertices + floats, mesh->vertices, object[1] * sizeof vertices[0]);
-        memcpy(corners + words, mesh->corners, object[2] * sizeof corners[0]);
-        bytes += object[0];
-        floats += object[1];
-        words += object[2];
+/* What the writer is handed, as it grows. */
+struct rows {
+    uint8_t names[64 * (2 * MOST_PIECES + MOST_MATERIALS)], colours[9 * MOST_MATERIALS];
+    uint32_t objects[5 * MOST_PIECES], groups[2 * MOST_PIECES], materials[MOST_MATERIALS];
+    float vertices[3 * MOST_VERTICES * MOST_PIECES];
+    uint16_t corners[3 * MOST_FACES * MOST_PIECES], faces[MOST_FACES * MOST_PIECES];
+    size_t names_len, groups_len, vertices_len, corners_len, faces_len;
+};
+
+/* Answers its length. */
+static uint32_t add_name(struct rows *rows, const char *name) {
+    size_t length = strlen(name);
+    memcpy(rows->names + rows->names_len, name, length);
+    rows->names_len += length;
+    return (uint32_t)length;
+}
+
+static void add_piece(struct rows *rows, uint32_t *object, const struct piece *piece) {
+    size_t floats = 3 * piece->mesh.vertex_count, corners = 3 * piece->mesh.face_count;
+    memcpy(rows->vertices + rows->vertices_len, piece->mesh.vertices, floats * sizeof(float));
+    memcpy(rows->corners + rows->corners_len, piece->mesh.corners, corners * sizeof(uint16_t));
+    rows->vertices_len += floats;
+    rows->corners_len += corners;
+    object[0] = add_name(rows, piece->name);
+    object[1] = (uint32_t)floats;
+    object[2] = (uint32_t)corners;
+    object[4] = piece->material != NULL; /* one group, of all its faces */
+}
+
+static void add_group(struct rows *rows, const struct piece *piece) {
+    rows->groups[rows->groups_len++] = add_name(rows, piece->material);
+    rows->groups[rows->groups_len++] = (uint32_t)piece->mesh.face_count;
+    for (size_t i = 0; i < piece->mesh.face_count; i++) {
+        rows->faces[rows->faces_len++] = (uint16_t)i;
     }
-    uint64_t answer =
-        tds_write_figure(names, bytes, objects, NUMBERS * count, vertices, floats, corners, words,
-                         NULL, 0, NULL, 0, NULL, 0, NULL, 0, NULL, 0, written, sizeof written);
+}
+
+void put_pieces(struct figure *figure, const struct piece *pieces, size_t piece_count,
+                const struct material *materials, size_t material_count) {
+    static struct rows rows;
+    static uint8_t written[65536];
+    uint64_t answer;
+    memset(&rows, 0, sizeof rows);
+    for (size_t i = 0; i < piece_count && i < MOST_PIECES; i++) {
+        add_piece(&rows, rows.objects + 5 * i, &pieces[i]);
+    }
+    for (size_t i = 0; i < material_count && i < MOST_MATERIALS; i++) {
+        rows.materials[i] = add_name(&rows, materials[i].name);
+        memcpy(rows.colours + 9 * i, materials[i].colours, 9);
+    }
+    for (size_t i = 0; i < piece_count && i < MOST_PIECES; i++) {
+        if (pieces[i].material != NULL) {
+            add_group(&rows, &pieces[i]);
+        }
+    }
+    answer =
+        tds_write_figure(rows.names, rows.names_len, rows.objects, 5 * piece_count, rows.vertices,
+                         rows.vertices_len, rows.corners, rows.corners_len, NULL, 0, rows.groups,
+                         rows.groups_len, rows.faces, rows.faces_len, rows.materials,
+                         material_count, rows.colours, 9 * material_count, written, sizeof written);
     if (TDS_REFUSED(answer)) {
         give_up("the writer refused a figure");
     }

@@ -19,14 +19,23 @@ struct extras {
 /* The whole figure of one object, as our writer makes it. */
 void put_bare_figure(struct figure *figure, const char *name, const struct mesh *mesh);
 
-/* A name and its mesh. */
+/* An object that our writer knows all of: its material is that of all its faces, or NULL. */
 struct piece {
-    const char *name;
+    const char *name, *material;
     struct mesh mesh;
 };
 
-/* The whole figure of several objects, as our writer makes it. */
-void put_pieces(struct figure *figure, const struct piece *pieces, size_t count);
+/* A name, and the colours as red, green and blue: ambient, diffuse, specular. */
+struct material {
+    const char *name;
+    uint8_t colours[9];
+};
+
+enum { MOST_PIECES = 2, MOST_MATERIALS = 2 };
+
+/* The whole figure of several objects and materials, as our writer makes it. */
+void put_pieces(struct figure *figure, const struct piece *pieces, size_t piece_count,
+                const struct material *materials, size_t material_count);
 
 /* One object inside an open 3D3D. */
 void put_object(struct figure *figure, const char *name, const struct mesh *mesh,
