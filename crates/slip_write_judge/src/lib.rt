@@ -1,10 +1,10 @@
 // The judgement of the slip that is to be written: the first entry that is bad, or that there is too little room, or how
 // long the slip is. Nothing is written before all is judged.
 use shared_labels::fits_label;
+use shared_names::same_bytes;
 use shared_numbers::long_at;
 use shared_words::Refusal;
 use shared_words::Written;
-use slip_names::same_bytes;
 use slip_rules::Numbers;
 ghost use mathlib.Core.Path.{_≡_};
 ghost use mathlib.Core.Bool.{true};

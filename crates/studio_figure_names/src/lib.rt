@@ -1,9 +1,9 @@
 // The names of flat rows: zeros in them, whether they fit the label, whether they differ, and whether each group's is a
 // material's.
 use shared_labels::label_size;
+use shared_names::same_bytes;
 use shared_words::Refusal;
 use shared_words::Written;
-use slip_names::same_bytes;
 use studio_figure_rows::number;
 use studio_write_judge::first_zero;
 ghost use mathlib.Core.Path.{_≡_};

@@ -3,7 +3,7 @@ use mathlib.Core.Path.{sym}
 use native.Mathlib.Omega.{arith}
 use borrow.Author.Needs.{needs}
 use Rattle.slip_check.specs.Entries.{entryIn}
-use Rattle.slip_names.proofs.Same.{same-length}
+use Rattle.shared_names.proofs.Same.{same-length}
 use Rattle.slip_check.proofs.Names.{name-is, name-length}
 use Rattle.slip_check.proofs.same_name.Statement.{statement}
 use Rattle.slip_check.proofs.same_name.Tie as tie

@@ -4,7 +4,7 @@ use Prim.Native.Nat.{ℕ}
 use native.Mathlib.Omega.{arith}
 use lib.ListN.{take, drop}
 use Rattle.shared_words.specs.Lists.{same}
-use Rattle.slip_names.proofs.Same.{same-length}
+use Rattle.shared_names.proofs.Same.{same-length}
 use Rattle.slip_rules.specs.Calls.{entryFrom}
 use Rattle.slip_write_judge.proofs.Rows.{name-long}
 use borrow.Author.Needs.{needs}

@@ -5,7 +5,7 @@ use native.Mathlib.Omega.{arith}
 use lib.ListN.{length, drop, length-drop}
 use lib.Seq.{length-take-le}
 use Rattle.shared_words.specs.Lists.{same}
-use Rattle.slip_names.proofs.Same.{same-length}
+use Rattle.shared_names.proofs.Same.{same-length}
 use Rattle.studio_figure_rows.specs.Rows.{part}
 use borrow.Author.Needs.{needs}
 use Rattle.studio_figure_names.proofs.same_name.Statement.{statement}
