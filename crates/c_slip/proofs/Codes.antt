@@ -1,4 +1,4 @@
--- A slip has at most 1,000 entries and 262,007 bytes.
+-- A slip has at most 1,000 entries and 70,007 bytes.
 use native.Mathlib.Omega.{arith}
 use Rattle.slip_rules.specs.Calls.{byteRow}
 use Rattle.slip_rules.proofs.Small.{few-entries, small-size}

@@ -11,6 +11,7 @@ const MINOR: u64 = 6;
 // Grows where nothing changes that a program can ask for.
 const PATCH: u64 = 0;
 
+// The version.
 pub fn version() -> u64
     ensures { λ n. ⌜ n ≡ versionCode 2 6 0 ⌝ }
 {

@@ -1,7 +1,6 @@
 -- Demand 1, of the calls. A call is a fold of the walk's answer, and each line of each fold accepts, or refuses and gives
 -- back what was lent; every refusal has a number of the table, and an answer is no two refusals.
 use mathlib.Core.Path.{_≡_, refl, sym, ap, subst}
-use mathlib.Core.Bool.{Bool, true, false, cond}
 use mathlib.Core.List.{List}
 use mathlib.Core.Logic.{inl, inr}
 use mathlib.Core.Option.{Option, none, some}
@@ -22,8 +21,7 @@ use Rattle.studio_rules.specs.Walk.{verdict}
 use Rattle.studio_rules.specs.Gives.{recordCount, Mesh, meshes, parts}
 use Rattle.shared_words.specs.Encodings.{Encoding}
 use Rattle.shared_words.specs.Effects.{leaving}
-use Rattle.studio_rules.specs.Calls.{countsOf, checkOf, checkCall, listOf, listCall, pickMesh, ofMesh, Rows, Tables, fits, sizesOf, tablesOf, tablesCall, nameOf, nameCall, aroundOf, boxCall}
-use Rattle.studio_counted.specs.All.{allOf}
+use Rattle.studio_rules.specs.Calls.{countsOf, checkOf, checkCall, listOf, listCall, pickMesh, ofMesh, Rows, Tables, fits, sizesOf, tablesOf, tablesCall, nameOf, nameCall, aroundOf, boxCall, allOf}
 use Rattle.studio_counted.proofs.All.{all-parts}
 use Rattle.studio_meshes_rules.specs.Standing.{standing}
 use Rattle.studio_meshes_rules.specs.Calls.{meshesCall}
@@ -38,6 +36,7 @@ use Rattle.studio_figure_rules.specs.Described.{judgedFlat, writeFlat}
 use Rattle.studio_write.specs.Write.{writing, writeCall}
 use Rattle.shared_words.specs.Refusals.{codeOf}
 use Rattle.claim_demands.specs.Demand1.{RefusedWith, Answered, AnsweredOn, around, mended, Demand1}
+use Rattle.shared_words.proofs.Bools.{by-test}
 
 -- ---- a refusal
 
@@ -78,10 +77,6 @@ write-apart : Apart Written.Refused
 write-apart r q e = cc
 
 -- ---- what holds of each line of a fold holds of the fold
-
-by-test : {A : Type 0} (P : A → Type 0) (b : Bool) {x y : A} → P x → P y → P (cond b x y)
-by-test P true p q = p
-by-test P false p q = q
 
 by-mesh : {A : Type 0} (P : A → Type 0) (refuse : Refusal → A) (use-it : Mesh → A) →
     ((r : Refusal) → P (refuse r)) → ((m : Mesh) → P (use-it m)) → (mesh : ℕ) (a : Answer Run) → P (ofMesh refuse use-it mesh a)

@@ -24,15 +24,15 @@ use Rattle.studio_rules.specs.Walk.{verdict}
 use Rattle.studio_rules.specs.Gives.{recordCount, Mesh, meshes, parts}
 use Rattle.shared_words.specs.Encodings.{Encoding}
 use Rattle.shared_words.specs.Effects.{Effect, leaving}
-use Rattle.studio_rules.specs.Calls.{checkOf, checkCall, listOf, listCall, pickMesh, ofMesh, Rows, Tables, fits, sizesOf, tablesOf, tablesCall, nameCall, boxCall, partsCall}
+use Rattle.studio_rules.specs.Calls.{checkOf, checkCall, listOf, listCall, pickMesh, ofMesh, Rows, Tables, fits, sizesOf, tablesOf, tablesCall, nameCall, boxCall, partsCall, allOf}
 use Rattle.studio_rules.proofs.Verdict.{accepted-exactly, verdict-good}
 use Rattle.studio_rules.proofs.Theorems.{counts-add}
-use Rattle.studio_counted.specs.All.{allOf}
 use Rattle.studio_counted.proofs.All.{all-parts}
 use Rattle.studio_meshes_rules.specs.Standing.{standing}
 use Rattle.studio_meshes_rules.specs.Calls.{meshesCall}
 use Rattle.studio_write.proofs.ReadsBack.{written-reads-back}
 use Rattle.claim_demands.specs.Demand2.{RoomFor, RoomForTables, Given, Demand2}
+use Rattle.studio_figure_rules.proofs.Described.{flat-reads-back}
 
 -- ---- answers: no refusal is an acceptance, and an acceptance has one value
 
@@ -147,4 +147,5 @@ demand2 = record {
   );
   given = given;
   written-reads-back = written-reads-back;
+  figure-reads-back = flat-reads-back;
 }

@@ -19,7 +19,8 @@ use Rattle.studio_rules.specs.Gives.{list, Mesh, meshes}
 use Rattle.studio_rules.specs.Rules.{Parent, file, version, Obeys}
 use Rattle.studio_meshes_rules.specs.Standing.{standing}
 use Rattle.studio_meshes_rules.specs.Calls.{meshesCall}
-use Rattle.studio_rules.specs.Gaps.{Marked, figureOf, without, with, SameMesh, Pairwise}
+use Rattle.studio_rules.specs.Gaps.{Marked, figureOf, without, with, SameMesh}
+use Rattle.shared_words.specs.Lists.{Pairwise}
 use Rattle.studio_rules.specs.Theorems.{putIn, allPut}
 use Rattle.shared_words.specs.Effects.{leaving}
 use Rattle.studio_rules.specs.Calls.{countsOf, checkCall, listCall, pickMesh, ofMesh, tablesOf, tablesCall, nameOf, nameCall, aroundOf, boxCall, partsCall}

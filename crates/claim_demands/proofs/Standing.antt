@@ -1,22 +1,23 @@
 -- Demand 3 of all meshes in one call: by the layout, which both files share, as for the list.
 use mathlib.Core.Path.{_≡_, refl, sym, ap, _∙_, subst}
-use mathlib.Core.Bool.{Bool, true, false, _||_, cond, false≢true}
-use mathlib.Core.List.{List, [], _∷_, _++_}
+use mathlib.Core.Bool.{Bool, true, false, cond, false≢true}
+use mathlib.Core.List.{List, [], _∷_}
 use Prim.Native.Nat.{ℕ, _+_, _-_, _*_, _≤_}
 use native.Mathlib.Omega.{arith}
-use lib.Dec.{eqb, leb, ltb}
+use lib.Dec.{eqb}
 use lib.ListN.{length}
 use borrow.Author.Tests.{eqb-true, eqb-false, ne-eqb, le-leb, le-ltb}
-use Rattle.shared_words.specs.Lists.{among}
+use Rattle.shared_words.specs.Lists.{among, Pairwise}
 use Rattle.studio_rules.specs.Table.{Shape, counted, rows, shape}
 use Rattle.studio_rules.specs.OwnData.{count, ownSize}
 use Rattle.studio_rules.specs.Layout.{Run, size, identifiers, child, offsetOf}
 use Rattle.studio_rules.specs.Rules.{Parent, inside, Obeys}
-use Rattle.studio_rules.specs.Gaps.{Marked, end, put, skip, known, without, with, Piece, before, bytesPut, Pairwise}
+use Rattle.studio_rules.specs.Gaps.{Marked, end, put, skip, known, without, with, Piece, before}
 use Rattle.studio_rules.proofs.Gaps.{added, size-grows, identifiers-same, child-same}
 use Rattle.studio_rules.proofs.Pieces.{Holds, holds-put, holds-skip, holds-kids, holds-rest, before-here}
-use Rattle.studio_meshes_rules.specs.Standing.{Standing, oneStanding, standingOf, elementsAt}
+use Rattle.studio_meshes_rules.specs.Standing.{Standing, oneStanding, standingOf}
 use Rattle.claim_demands.specs.Demand3.{ElementsMoved, StandingMoved}
+use Rattle.shared_words.proofs.Lists.{pairwise-append}
 
 -- ---- own data that is a count word and elements has the word
 
@@ -94,12 +95,6 @@ module _ (ps : List Piece) (nameAt nameAt′ nameLength o o′ a : ℕ) (p : Par
   maybe-moved false n = tt
 
 -- ---- all of them
-
-pairwise-append : {A : Type 0} (R : A → A → Type 0) (xs ys us vs : List A) → Pairwise R xs us → Pairwise R ys vs → Pairwise R (xs ++ ys) (us ++ vs)
-pairwise-append R [] ys [] vs h k = k
-pairwise-append R [] ys (u ∷ us) vs h k = absurd h
-pairwise-append R (x ∷ xs) ys [] vs h k = absurd h
-pairwise-append R (x ∷ xs) ys (u ∷ us) vs h k = (h .0, pairwise-append R xs ys us vs (h .1) k)
 
 -- the run begins at o without the chunks, and at o′ with them; a bytes are put in before it; the name of the chunk around stands at `at`
 -- and at′

@@ -27,6 +27,7 @@ use Rattle.studio_rules.specs.Calls.{countsOf, checkCall, listCall, Rows, Table
 use Rattle.studio_meshes_rules.specs.Standing.{Standing, standing}
 use Rattle.studio_meshes_rules.specs.Calls.{meshesCall}
 use Rattle.studio_write.specs.ReadsBack.{WrittenReadsBack}
+use Rattle.studio_figure_rules.specs.ReadsBack.{FlatReadsBack}
 
 -- ---- room, in whole records or numbers
 
@@ -76,5 +77,6 @@ pub record Demand2 : Type 1 where
       (meshesCall e s row .answer ≡ Counted.Filled n) ↔ ((kids : Run) × Meets s kids × (n ≡ length (standing kids)) × RoomFor e (length (standing kids)) row)
   -- and what they give is that of the layout
   pub given : (s : List ℕ) (kids : Run) → Meets s kids → Given s kids
-  -- a figure we write is accepted and reads back
+  -- a figure we write is accepted and reads back, bare or with many objects and materials
   pub written-reads-back : WrittenReadsBack
+  pub figure-reads-back : FlatReadsBack

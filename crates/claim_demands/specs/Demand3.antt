@@ -1,7 +1,7 @@
 -- DEMAND 3, of the calls, in one piece: whole chunks of unlisted identifiers put into the gaps of an accepted file, or taken
 -- out of them, any number together. What the calls answered of the old file they answer of the new one, but for offsets
 -- and lengths, which have moved by the bytes put in.
--- One layout with marked chunks tells both files (rules/specs/Gaps): `without m` is that of the file that has them not,
+-- One layout with marked chunks tells both files (studio_rules/specs/Gaps): `without m` is that of the file that has them not,
 -- `with m` that of the file that has them; `putIn m` are the chunks as they stand in the file that has them.
 use mathlib.Core.Path.{_≡_}
 use mathlib.Core.List.{List}
@@ -17,7 +17,8 @@ use Rattle.shared_words.specs.Bytes.{Bytes}
 use Rattle.studio_rules.specs.OwnData.{count}
 use Rattle.studio_rules.specs.Layout.{figure, bytes, child}
 use Rattle.studio_rules.specs.Rules.{limit, Meets}
-use Rattle.studio_rules.specs.Gaps.{Marked, without, with, InGaps, Piece, before, Moved, Pairwise}
+use Rattle.studio_rules.specs.Gaps.{Marked, without, with, InGaps, Piece, before, Moved}
+use Rattle.shared_words.specs.Lists.{Pairwise}
 use Rattle.studio_rules.specs.Theorems.{putIn, allPut}
 use Rattle.shared_words.specs.Encodings.{Encoding}
 use Rattle.shared_words.specs.Effects.{leaving, filled}

@@ -9,23 +9,20 @@ use lib.Dec.{eqb}
 use mathlib.Core.Logic.{⊎-elim}
 use lib.ListN.{length, length-append, length-replicate, drop, replicate, getElem?}
 use Rattle.shared_words.specs.Bytes.{Bytes}
-use Rattle.shared_words.proofs.Bytes.{word-small}
+use Rattle.shared_words.proofs.Bytes.{word-small, bytes-parts}
 use Rattle.shared_words.proofs.Numbers.{length-numbers}
 use Rattle.studio_rules.specs.Layout.{Run, end, skip, known, figure, size, header, bytes, child}
 use Rattle.studio_rules.specs.OwnData.{count, mappingNumbers}
-use Rattle.studio_rules.specs.Gives.{recordCount, Mesh, pairsOf, mappingTable, meshOf, oneMesh, meshesOf, meshes}
+use Rattle.studio_rules.specs.Gives.{Mesh, pairsOf, mappingTable, meshOf, oneMesh, meshesOf, meshes}
 use Rattle.studio_meshes_rules.specs.Standing.{standing}
 use Rattle.studio_meshes_rules.proofs.Same.{same-meshes}
 use Rattle.studio_meshes_rules.proofs.Few.{standing-few, as-many}
 use Rattle.studio_rules.proofs.Corners.{length-corners}
 use Rattle.studio_rules.proofs.Mapping.{pairs-all-or-none}
+use Rattle.shared_words.specs.Lists.{All}
+use Rattle.shared_words.proofs.Lists.{all-append}
 
 -- ---- how many
-
-pub records-few : (t : Run) → 6 * recordCount t ≤ size t
-records-few end = omega arith
-records-few (skip id body rest) = omega (arith, records-few rest)
-records-few (known id own kids rest) = omega (arith, records-few kids, records-few rest)
 
 pub meshes-few : (kids : Run) → length (meshes kids) ≤ size (figure kids)
 meshes-few kids = omega (arith, ap length (same-meshes kids) ∙ as-many (standing kids), standing-few 0 0 0 (figure kids))
@@ -40,30 +37,14 @@ pub record Small (m : Mesh) : Type 0 where
   pub pairs : m .pairCount < 65_536
   pub mapping-numbers : length (m .mapping) < 131_072
 
-abbrev pub AllSmall : List Mesh → Type 0
-AllSmall [] = Unit
-AllSmall (m ∷ ms) = Small m × AllSmall ms
-
-small-append : (ms ns : List Mesh) → AllSmall ms → AllSmall ns → AllSmall (ms ++ ns)
-small-append [] ns h k = k
-small-append (m ∷ ms) ns h k = (h .0, small-append ms ns (h .1) k)
-
 abbrev pub SmallAt : Option Mesh → Type 0
 SmallAt none = Unit
 SmallAt (some m) = Small m
 
-pub small-at : (ms : List Mesh) (k : ℕ) → AllSmall ms → SmallAt (getElem? ms k)
+pub small-at : (ms : List Mesh) (k : ℕ) → All Small ms → SmallAt (getElem? ms k)
 small-at [] k h = tt
 small-at (m ∷ ms) zero h = h .0
 small-at (m ∷ ms) (suc k) h = small-at ms k (h .1)
-
-bytes-first : (xs ys : List ℕ) → Bytes (xs ++ ys) → Bytes xs
-bytes-first [] ys h = tt
-bytes-first (x ∷ xs) ys h = (h .0, bytes-first xs ys (h .1))
-
-bytes-behind : (xs ys : List ℕ) → Bytes (xs ++ ys) → Bytes ys
-bytes-behind [] ys h = h
-bytes-behind (x ∷ xs) ys h = bytes-behind xs ys (h .1)
 
 -- the three parts of a known chunk's bytes
 record Parts (own : List ℕ) (kids rest : Run) : Type 0 where
@@ -73,14 +54,14 @@ record Parts (own : List ℕ) (kids rest : Run) : Type 0 where
 
 parts : (id : ℕ) (own : List ℕ) (kids rest : Run) → Bytes (bytes (known id own kids rest)) → Parts own kids rest
 parts id own kids rest b =
-    let c = bytes-behind (header id (6 + length own + size kids)) (own ++ (bytes kids ++ bytes rest)) b in
-    let d = bytes-behind own (bytes kids ++ bytes rest) c in
-    record { own-bytes = bytes-first own (bytes kids ++ bytes rest) c; kids-bytes = bytes-first (bytes kids) (bytes rest) d; rest-bytes = bytes-behind (bytes kids) (bytes rest) d }
+    let c = bytes-parts own (bytes kids ++ bytes rest) (bytes-parts (header id (6 + length own + size kids)) (own ++ (bytes kids ++ bytes rest)) b .1) in
+    let d = bytes-parts (bytes kids) (bytes rest) (c .1) in
+    record { own-bytes = c .0; kids-bytes = d .0; rest-bytes = d .1 }
 
 child-bytes : (x : ℕ) (t : Run) → Bytes (bytes t) → Bytes (child x t)
 child-bytes x end b = tt
 child-bytes x (skip id body rest) b =
-    child-bytes x rest (bytes-behind body (bytes rest) (bytes-behind (header id (6 + length body)) (body ++ bytes rest) b))
+    child-bytes x rest (bytes-parts body (bytes rest) (bytes-parts (header id (6 + length body)) (body ++ bytes rest) b .1) .1)
 child-bytes x (known id own kids rest) b = go (eqb id x) own (child x rest) (parts id own kids rest b .own-bytes) (child-bytes x rest (parts id own kids rest b .rest-bytes))
   where
     go : (e : Bool) (xs ys : List ℕ) → Bytes xs → Bytes ys → Bytes (cond e xs ys)
@@ -111,17 +92,17 @@ mesh-small at l kids b =
       mapping-numbers = mapping-small kids b;
     }
 
-one-small : (b : Bool) (m : Mesh) → Small m → AllSmall (oneMesh b m)
+one-small : (b : Bool) (m : Mesh) → Small m → All Small (oneMesh b m)
 one-small true m h = (h, tt)
 one-small false m h = tt
 
-pub meshes-small : (o at l : ℕ) (t : Run) → Bytes (bytes t) → AllSmall (meshesOf o at l t)
+pub meshes-small : (o at l : ℕ) (t : Run) → Bytes (bytes t) → All Small (meshesOf o at l t)
 meshes-small o at l end b = tt
 meshes-small o at l (skip id body rest) b =
-    meshes-small (o + (6 + length body)) at l rest (bytes-behind body (bytes rest) (bytes-behind (header id (6 + length body)) (body ++ bytes rest) b))
+    meshes-small (o + (6 + length body)) at l rest (bytes-parts body (bytes rest) (bytes-parts (header id (6 + length body)) (body ++ bytes rest) b .1) .1)
 meshes-small o at l (known id own kids rest) b =
     let p = parts id own kids rest b in
-    small-append (oneMesh (eqb id 0x4100) (meshOf at l kids)) _ (one-small (eqb id 0x4100) _ (mesh-small at l kids (p .kids-bytes)))
-    (small-append (meshesOf (o + (6 + length own)) (o + 6) (length own - 1) kids) _
+    all-append Small (oneMesh (eqb id 0x4100) (meshOf at l kids)) _ (one-small (eqb id 0x4100) _ (mesh-small at l kids (p .kids-bytes)))
+    (all-append Small (meshesOf (o + (6 + length own)) (o + 6) (length own - 1) kids) _
     (meshes-small (o + (6 + length own)) (o + 6) (length own - 1) kids (p .kids-bytes))
     (meshes-small (o + (6 + length own + size kids)) at l rest (p .rest-bytes)))

@@ -1,7 +1,6 @@
 -- What C is told: the bounds on what is accepted make an answer proper, and those on places let a refusal be read off.
 use mathlib.Core.Path.{_≡_, refl, sym, subst, _∙_}
 use mathlib.Core.Logic.{inl, inr}
-use mathlib.Core.Bool.{Bool, true, false, cond}
 use mathlib.Core.List.{List, [], _∷_, _++_, map}
 use mathlib.Core.Option.{Option, none, some}
 use Prim.Native.Nat.{ℕ, _+_, _-_, _*_, _/_, _%_, _≤_, _<_, _^_, min}
@@ -27,16 +26,14 @@ use Rattle.studio_rules.specs.declared.Counted.{Counted}
 use Rattle.studio_rules.specs.Layout.{Run, figure, size}
 use Rattle.studio_rules.specs.Rules.{limit}
 use Rattle.studio_rules.specs.Walk.{verdict}
-use Rattle.studio_rules.specs.Gives.{recordCount, headers, owned, skipped, Mesh, meshes, Part, parts}
+use Rattle.studio_rules.specs.Gives.{recordCount, headers, owned, skipped, Mesh, meshes, parts}
 use Rattle.studio_rules.specs.Box.{boxOf, centreOf}
-use Rattle.studio_rules.specs.Calls.{checkOf, checkCall, listOf, listCall, pickMesh, ofMesh, Rows, Tables, fits, sizesOf, tablesOf, tablesCall, nameOf, nameCall, aroundOf, boxCall, partsCall}
-use Rattle.studio_counted.specs.All.{allOf}
+use Rattle.studio_rules.specs.Calls.{checkOf, checkCall, listOf, listCall, pickMesh, ofMesh, Rows, Tables, fits, sizesOf, tablesOf, tablesCall, nameOf, nameCall, aroundOf, boxCall, allOf}
 use Rattle.studio_counted.proofs.All.{all-parts}
 use Rattle.studio_meshes_rules.specs.Standing.{standing}
 use Rattle.studio_meshes_rules.specs.Calls.{meshesCall}
 use Rattle.studio_meshes_rules.proofs.Few.{standing-few}
 use Rattle.studio_rules.proofs.Verdict.{accepted-exactly}
-use Rattle.shared_words.specs.declared.Written.{Written}
 use Rattle.studio_write_judge.specs.Judged.{figureSize, writeConditions, answerOf, judged}
 use Rattle.studio_figure_rules.specs.Judged.{sizeOf, conditions}
 use Rattle.studio_figure_rules.specs.Described.{Flat, fitConditions, described, judgedFlat, writeFlat}
@@ -49,11 +46,13 @@ use Rattle.studio_rescue_rules.specs.declared.Mended.{Mended}
 use Rattle.studio_rescue_rules.specs.Rescue.{Cut, Rescued, beyond, saved, rescue}
 use Rattle.studio_rescue_rules.specs.Call.{Lent, callOf, rescueCall}
 use Rattle.c_rescue.specs.Codes.{cutsOr}
-use Rattle.claim_numbers.specs.Told.{Proper, Tells, TellsCapped, CheckTold, TablesTold, CountedTold, RescueTold, WriteTold, Gives, CountsTold, NameTold, BoxTold, Told}
+use Rattle.claim_numbers.specs.Told.{Tells, TellsCapped, CheckTold, TablesTold, CountedTold, RescueTold, WriteTold, Gives, CountsTold, NameTold, BoxTold, Told}
 use Rattle.claim_numbers.proofs.Places.{Within, verdict-within}
 use Rattle.claim_numbers.proofs.Parts.{parts-few}
 use Rattle.claim_numbers.proofs.Rescues.{RescueWithin, rescue-within}
-use Rattle.claim_numbers.proofs.Meshes.{records-few, meshes-few, Small, SmallAt, small-at, meshes-small}
+use Rattle.claim_numbers.proofs.Meshes.{meshes-few, Small, small-at, meshes-small}
+use Rattle.shared_words.proofs.Bools.{by-test}
+use Rattle.studio_rules.proofs.SixEach.{count-small}
 
 -- ---- a refusal
 
@@ -77,22 +76,18 @@ tells r h =
 
 -- ---- what holds of both branches of a test
 
-by-test : {A : Type 0} (P : A → Type 0) (b : Bool) {x y : A} → P x → P y → P (cond b x y)
-by-test P true p q = p
-by-test P false p q = q
-
 -- ---- the check and the list
 
 records-told : (a : Answer Run) → Within a → CheckTold (checkOf a) (recordsOr (checkOf a))
 records-told (refused r) h = tells r h
-records-told (accepted kids) h = omega (arith, records-few (figure kids))
+records-told (accepted kids) h = omega (arith, count-small (figure kids))
 
 list-told : {A : Type 0} (e : Encoding Record A) (row : List A) (a : Answer Run) → Within a →
     CheckTold (listOf e row a .answer) (recordsOr (listOf e row a .answer))
 list-told e row (refused r) h = tells r h
 list-told {A} e row (accepted kids) h =
     by-test (λ (x : Effect Checked (List A)). CheckTold (x .answer) (recordsOr (x .answer))) (leb (recordCount (figure kids)) (e .room (length row)))
-    (omega (arith, records-few (figure kids))) (tells (NoRoom (recordCount (figure kids))) (omega (arith, records-few (figure kids))))
+    (omega (arith, count-small (figure kids))) (tells (NoRoom (recordCount (figure kids))) (omega (arith, count-small (figure kids))))
 
 -- ---- all parts, and all meshes
 
@@ -209,7 +204,7 @@ told = record {
       mesh-told (λ (x : Boxed). BoxTold x (boxGiven out x .answer)) Boxed.Refused aroundOf tells mesh (verdict s) (verdict-within s)
       (λ kids v m g. box-told out m);
   parts = λ {A} e s row.
-      subst (λ (x : Effect Counted (List A)). CountedTold (x .answer) (countedOr (x .answer))) (sym (all-parts e s row)) (all-told parts e row (λ kids. omega (arith, parts-few kids, records-few (figure kids))) (verdict s) (verdict-within s));
+      subst (λ (x : Effect Counted (List A)). CountedTold (x .answer) (countedOr (x .answer))) (sym (all-parts e s row)) (all-told parts e row (λ kids. omega (arith, parts-few kids, count-small (figure kids))) (verdict s) (verdict-within s));
   meshes = λ e s row. all-told standing e row (λ kids. standing-few 0 0 0 (figure kids)) (verdict s) (verdict-within s);
   rescue = λ e s b rows. rescue-told e rows (rescue s) (rescue-within s b);
   write = λ name vertices corners out. write-told name vertices corners out _;

@@ -9,8 +9,7 @@ use lib.Dec.{eqb}
 use lib.ListN.{length, take, drop, length-append, getElem?}
 use lib.Seq.{drop-at, take-append-le}
 use Rattle.studio_rules.specs.declared.Named.{Named}
-use Rattle.studio_rules.specs.Layout.{Run, end, skip, known, figure, header, size, bytes}
-use Rattle.studio_rules.specs.Readings.{_then_}
+use Rattle.studio_rules.specs.Layout.{Run, end, skip, known, figure, header, size, bytes, _then_}
 use Rattle.shared_words.specs.Conditions.{Answer, refused, accepted}
 use Rattle.studio_rules.specs.Gives.{Mesh, meshOf, oneMesh, meshesOf, meshes}
 use Rattle.studio_rules.specs.Calls.{pickMesh, ofMesh, nameOf}

@@ -3,8 +3,7 @@ use mathlib.Core.Path.{_≡_, sym, ap, _∙_}
 use Prim.Native.Nat.{ℕ, _+_}
 use native.Mathlib.Omega.{arith}
 use mathlib.Core.List.{[]}
-use Rattle.studio_rules.specs.Layout.{Run}
-use Rattle.studio_rules.specs.Readings.{_then_}
+use Rattle.studio_rules.specs.Layout.{Run, _then_}
 use Rattle.studio_rules.specs.Rules.{Obeys}
 use Rattle.studio_scene.proofs.Children.{scene, scene-join, scene-parts}
 use Rattle.claim_swapped.specs.Swapped.{Swapped}

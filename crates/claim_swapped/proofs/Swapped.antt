@@ -7,9 +7,7 @@ use lib.ListN.{length, length-append, length-map}
 use Rattle.shared_words.specs.declared.Refusal.{Refusal}
 use Rattle.studio_rules.specs.declared.Tabled.{Tabled}
 use Rattle.studio_rules.specs.declared.Boxed.{Boxed}
-use Rattle.studio_rules.specs.declared.Counted.{Counted}
-use Rattle.studio_rules.specs.Layout.{Run, figure, header, size, bytes, known}
-use Rattle.studio_rules.specs.Readings.{_then_}
+use Rattle.studio_rules.specs.Layout.{Run, figure, header, size, bytes, known, _then_}
 use Rattle.studio_rules.specs.Rules.{version, Meets}
 use Rattle.studio_rules.specs.Walk.{verdict}
 use Rattle.shared_words.specs.Conditions.{accepted}
@@ -21,7 +19,8 @@ use Rattle.claim_swapped.specs.Swapped.{Swapped, Reordered, same, swap, 
 use Rattle.studio_scene.specs.Scene.{holding, fileOf}
 use Rattle.studio_scene.specs.Contents.{unplaced, contents}
 use Rattle.claim_swapped.specs.Names.{no, letters}
-use Rattle.studio_scene.proofs.Then.{size-then, bytes-then, records-then, headers-then, owned-then, skipped-then}
+use Rattle.studio_scene.proofs.Then.{records-then, headers-then, owned-then, skipped-then}
+use Rattle.studio_rules.proofs.Then.{size-then, bytes-then}
 use Rattle.studio_scene.proofs.Around.{obeys-holding, parts-same, version-same}
 use Rattle.claim_swapped.proofs.Rules.{obeys-swapped, sum-swapped}
 use Rattle.studio_scene.proofs.Contents.{contents-then, contents-holding}

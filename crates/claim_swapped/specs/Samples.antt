@@ -2,8 +2,8 @@
 use mathlib.Core.Path.{_≡_, refl}
 use Prim.Native.Nat.{ℕ}
 use mathlib.Core.List.{List, [], _∷_, map}
-use Rattle.studio_rules.specs.Layout.{Run, end, skip}
-use Rattle.studio_rules.specs.Readings.{_then_, mesh, vertex}
+use Rattle.studio_rules.specs.Layout.{Run, end, skip, _then_}
+use Rattle.studio_rules.specs.Readings.{mesh, vertex}
 use Rattle.shared_words.specs.Conditions.{Answer, refused, accepted}
 use Rattle.studio_rules.specs.Walk.{verdict}
 use Rattle.studio_rules.specs.Gives.{Mesh, meshes}

@@ -8,8 +8,7 @@ use mathlib.Core.List.{List, _++_}
 use lib.Dec.{ltb}
 use lib.ListN.{length}
 use Rattle.shared_words.specs.Bytes.{Bytes}
-use Rattle.studio_rules.specs.Layout.{Run, bytes}
-use Rattle.studio_rules.specs.Readings.{_then_}
+use Rattle.studio_rules.specs.Layout.{Run, bytes, _then_}
 use Rattle.studio_rules.specs.Walk.{verdict}
 use Rattle.shared_words.specs.Conditions.{accepted}
 use Rattle.studio_rules.specs.Gives.{meshesOf, Part}

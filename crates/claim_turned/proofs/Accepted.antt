@@ -6,13 +6,12 @@ use native.Mathlib.Omega.{arith}
 use mathlib.Core.List.{List, [], _++_, append-assoc}
 use lib.ListN.{length}
 use Rattle.shared_words.specs.Bytes.{value}
-use Rattle.studio_rules.specs.Layout.{Run, end, skip, known, figure, header, size, bytes, child}
+use Rattle.studio_rules.specs.Layout.{Run, end, skip, known, figure, header, size, bytes, child, _then_}
 use Rattle.studio_rules.specs.Rules.{Parent, file, Obeys, version}
-use Rattle.studio_rules.specs.Readings.{_then_}
 use Rattle.studio_rules.specs.Parses.{inFile}
 use Rattle.studio_rules.proofs.Gaps.{child-same}
 use Rattle.claim_turned.specs.Exact.{TakesIn, GivesUp}
-use Rattle.claim_turned.proofs.Then.{size-then, bytes-then}
+use Rattle.studio_rules.proofs.Then.{size-then, bytes-then}
 use Rattle.claim_turned.proofs.TwoWays.{Takes}
 use Rattle.claim_turned.proofs.Bare.{same-of-bare}
 use Rattle.claim_turned.proofs.Context.{plug, fill, bytes-plug}

@@ -6,10 +6,9 @@ use native.Mathlib.Omega.{arith}
 use mathlib.Core.Bool.{Bool, true, _||_}
 use mathlib.Core.List.{List, [], _∷_}
 use Rattle.studio_rules.specs.Table.{plus}
-use Rattle.studio_rules.specs.Layout.{Run, end, skip, known, identifiers, child}
+use Rattle.studio_rules.specs.Layout.{Run, end, skip, known, identifiers, child, _then_}
 use Rattle.studio_rules.specs.Rules.{Parent, inside, noChild, childrenInPlus, Children, Obeys}
 use Rattle.studio_rules.specs.Gives.{recordCount}
-use Rattle.studio_rules.specs.Readings.{_then_}
 use Rattle.shared_words.proofs.Bools.{or-else, or-second}
 use Rattle.studio_rules.proofs.Gaps.{identifiers-same, child-same, children-alike}
 use Rattle.claim_turned.proofs.Bare.{bare, same-of-bare, bare-then-none}

@@ -7,13 +7,13 @@ use mathlib.Core.List.{List, [], _∷_, _++_}
 use mathlib.Core.Option.{some, Option·some-ne-none}
 use lib.ListN.{length, getElem?, set}
 use Rattle.studio_rules.specs.declared.Record.{Record}
-use Rattle.studio_rules.specs.Layout.{Run, known, size}
+use Rattle.studio_rules.specs.Layout.{Run, known, size, _then_}
 use Rattle.studio_rules.specs.Gives.{recordCount, recordOf, recordsOf, meshesOf}
-use Rattle.studio_rules.specs.Readings.{_then_}
 use Rattle.studio_rules.proofs.Gaps.{record-count-same}
 use Rattle.studio_rules.proofs.Jumps.{length-records}
 use Rattle.claim_turned.specs.Turned.{resized}
-use Rattle.claim_turned.proofs.Then.{size-then, records-then, meshes-then}
+use Rattle.claim_turned.proofs.Then.{records-then}
+use Rattle.studio_rules.proofs.Then.{size-then, meshes-then}
 use Rattle.claim_turned.proofs.Bare.{bare, same-of-bare, bare-then}
 use Rattle.claim_turned.proofs.Context.{Context, behind, inner, plug}
 use Rattle.claim_turned.proofs.Field.{offsetIn}

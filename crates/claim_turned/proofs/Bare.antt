@@ -2,11 +2,10 @@
 -- says what those do not change: here every unlisted chunk counts as put in.
 use mathlib.Core.Path.{_≡_, refl, sym, ap, _∙_}
 use native.Mathlib.Omega.{arith}
-use Rattle.studio_rules.specs.Layout.{Run}
+use Rattle.studio_rules.specs.Layout.{Run, _then_}
 use Rattle.studio_rules.specs.Gives.{recordCount, skipped}
 use Rattle.studio_rules.specs.Gaps.{Marked, end, put, known, without, with}
-use Rattle.studio_rules.specs.Readings.{_then_}
-use Rattle.claim_turned.proofs.Then.{then-end}
+use Rattle.studio_rules.proofs.Then.{then-end}
 
 -- every skipped chunk marked
 abbrev pub marked : Run → Marked

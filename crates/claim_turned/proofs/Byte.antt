@@ -6,19 +6,15 @@ use mathlib.Core.List.{List, [], _∷_, _++_}
 use lib.ListN.{length, take, drop, take-append-drop, length-drop, getD, set, length-set}
 use lib.Seq.{length-take-le, drop-drop, take-set-le, drop-set-lt, getD-set-same}
 use Rattle.shared_words.specs.Bytes.{value, le, Bytes}
-use Rattle.shared_words.proofs.Bytes.{bytes-take, bytes-drop, le-value}
-use Rattle.claim_turned.specs.Turned.{withLength, ByteTurned}
+use Rattle.shared_words.proofs.Bytes.{bytes-take, bytes-drop, le-value, taken-small}
+use Rattle.claim_turned.specs.Turned.{ByteTurned}
+use Rattle.studio_rules.specs.Layout.{withLength}
 use Rattle.claim_turned.proofs.Chunk.{old-length, field-within}
 
 bytes-set : (s : List ℕ) (i b : ℕ) → Bytes s → b < 256 → Bytes (set s i b)
 bytes-set [] i b h l = h
 bytes-set (a ∷ s) zero b h l = (l, h .1)
 bytes-set (a ∷ s) (suc i) b h l = (h .0, bytes-set s i b (h .1) l)
-
-value-small : (w : ℕ) (s : List ℕ) → Bytes s → value (take w s) < 256 ^ w
-value-small zero s h = omega arith
-value-small (suc w) [] h = omega (arith, value-small w [] h)
-value-small (suc w) (b ∷ s) h = omega (arith, h .0, value-small w s (h .1))
 
 -- four bytes are those of their value
 four-bytes : (s : List ℕ) → Bytes s → 4 ≤ length s → le 4 (value (take 4 s)) ++ drop 4 s ≡ s
@@ -44,7 +40,7 @@ byte-turned s kids i r are-bytes reads in-list j b j-small b-small other =
     let l : o + 6 ≤ length s = field-within s kids i r are-bytes reads in-list in
     let bs = bytes-set s (o + 2 + j) b are-bytes b-small in
     let is : s′ ≡ withLength o n s = field-set o s s′ bs (omega (arith, length-set s (o + 2 + j) b)) (take-set-le (o + 2) s (o + 2 + j) b (omega arith)) (drop-set-lt (o + 6) s (o + 2 + j) b (omega arith)) in
-    let small : n < 2 ^ 32 = value-small 4 (drop (o + 2) s′) (bytes-drop (o + 2) s′ bs) in (
+    let small : n < 2 ^ 32 = taken-small 4 (drop (o + 2) s′) (bytes-drop (o + 2) s′ bs) in (
       n,
       record {
         are-bytes = are-bytes;

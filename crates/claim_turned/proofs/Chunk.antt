@@ -7,7 +7,7 @@ use mathlib.Core.Option.{some}
 use lib.ListN.{length, getElem?}
 use Rattle.studio_rules.specs.declared.Record.{Record}
 use Rattle.shared_words.specs.Bytes.{Bytes}
-use Rattle.studio_rules.specs.Layout.{Run, known, figure, header, size, bytes}
+use Rattle.studio_rules.specs.Layout.{Run, known, figure, header, size, bytes, withLength}
 use Rattle.studio_rules.specs.Rules.{Meets}
 use Rattle.shared_words.specs.Conditions.{accepted}
 use Rattle.studio_rules.specs.Walk.{verdict}
@@ -15,7 +15,6 @@ use Rattle.studio_rules.specs.Gives.{list}
 use Rattle.studio_rules.proofs.At.{in-range}
 use Rattle.studio_rules.proofs.Jumps.{length-records}
 use Rattle.studio_rules.proofs.Verdict.{accepted-exactly}
-use Rattle.claim_turned.specs.Turned.{withLength}
 use Rattle.claim_turned.proofs.Context.{fill, bytes-plug}
 use Rattle.claim_turned.proofs.Field.{offsetIn, offset-within, field-fill}
 use Rattle.claim_turned.proofs.Number.{Found, find}

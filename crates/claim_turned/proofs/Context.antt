@@ -5,12 +5,11 @@ use Prim.Native.Nat.{ℕ, _+_, _^_, _<_}
 use native.Mathlib.Omega.{arith}
 use mathlib.Core.List.{List, _++_}
 use lib.ListN.{length}
-use Rattle.studio_rules.specs.Layout.{Run, end, skip, known, header, size, bytes}
-use Rattle.studio_rules.specs.Readings.{_then_}
+use Rattle.studio_rules.specs.Layout.{Run, end, skip, known, header, size, bytes, _then_}
 use Rattle.studio_rules.specs.Parses.{Place, within, Parses}
 use Rattle.studio_rules.proofs.Sound.{length-bytes}
 use Rattle.claim_turned.proofs.First.{Parted, parted}
-use Rattle.claim_turned.proofs.Then.{size-then, bytes-then}
+use Rattle.studio_rules.proofs.Then.{size-then, bytes-then}
 use Rattle.claim_turned.proofs.Prefix.{Continues, continues, one-run}
 
 -- The place stands behind the chunks of a run; or behind them, in a chunk of this identifier and own data, which the

@@ -8,7 +8,7 @@ use mathlib.Core.List.{List, []}
 use lib.ListN.{length}
 use Rattle.studio_rules.specs.declared.Record.{Record}
 use Rattle.studio_rules.specs.Table.{plus}
-use Rattle.studio_rules.specs.Layout.{Run, known, figure, size, bytes}
+use Rattle.studio_rules.specs.Layout.{Run, known, figure, size, bytes, withLength}
 use Rattle.studio_rules.specs.Rules.{file, limit, noChild, version, Meets}
 use Rattle.shared_words.specs.Conditions.{accepted}
 use Rattle.studio_rules.specs.Walk.{verdict}
@@ -17,9 +17,9 @@ use Rattle.shared_words.proofs.Bools.{or-second}
 use Rattle.studio_rules.proofs.Complete.{no-bytes}
 use Rattle.studio_rules.proofs.Sound.{length-bytes}
 use Rattle.studio_rules.proofs.Verdict.{verdict-good}
-use Rattle.claim_turned.specs.Turned.{withLength, OtherLength}
+use Rattle.claim_turned.specs.Turned.{OtherLength}
 use Rattle.claim_turned.specs.Exact.{TakesIn, GivesUp, Exact}
-use Rattle.claim_turned.proofs.Then.{size-then}
+use Rattle.studio_rules.proofs.Then.{size-then}
 use Rattle.claim_turned.proofs.TwoWays.{Takes}
 use Rattle.claim_turned.proofs.Number.{Found}
 use Rattle.claim_turned.proofs.Chunk.{meets, len-is, with-length}

@@ -7,11 +7,11 @@ use native.Mathlib.Omega.{arith}
 use mathlib.Core.List.{List, _++_, append-nil}
 use lib.ListN.{length}
 use Rattle.studio_rules.specs.declared.Record.{Record}
-use Rattle.studio_rules.specs.Layout.{Run, known, size, child}
+use Rattle.studio_rules.specs.Layout.{Run, known, size, child, _then_}
 use Rattle.studio_rules.specs.Gives.{recordCount, recordsOf, pairsOf, mappingTable, meshOf, meshesOf}
-use Rattle.studio_rules.specs.Readings.{_then_}
 use Rattle.studio_rules.proofs.Gaps.{child-same, pairs-same, mapping-same, record-count-same}
-use Rattle.claim_turned.proofs.Then.{size-then, records-then, meshes-then, no-records, no-meshes}
+use Rattle.claim_turned.proofs.Then.{records-then, no-records, no-meshes}
+use Rattle.studio_rules.proofs.Then.{size-then, meshes-then}
 use Rattle.claim_turned.proofs.Bare.{bare, same-of-bare, bare-then-none, bare-none-then}
 use Rattle.claim_turned.proofs.TwoWays.{Takes}
 

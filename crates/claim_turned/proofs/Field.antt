@@ -5,9 +5,8 @@ use native.Mathlib.Omega.{arith}
 use mathlib.Core.List.{List, _++_, append-assoc}
 use lib.ListN.{length, take, length-append}
 use lib.Seq.{take-append-add, drop-append-add, take-append-le, drop-append-le}
-use Rattle.studio_rules.specs.Layout.{header, size, bytes}
+use Rattle.studio_rules.specs.Layout.{header, size, bytes, withLength}
 use Rattle.studio_rules.proofs.Sound.{length-bytes}
-use Rattle.claim_turned.specs.Turned.{withLength}
 use Rattle.claim_turned.proofs.Context.{Context, behind, inner, fill}
 
 field-behind : (x y : List ℕ) (o o′ n : ℕ) → o ≡ length x + o′ → withLength o n (x ++ y) ≡ x ++ withLength o′ n y

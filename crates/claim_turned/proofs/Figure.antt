@@ -3,9 +3,8 @@ use mathlib.Core.Path.{_≡_, refl, ap}
 use Prim.Native.Nat.{ℕ}
 use native.Mathlib.Omega.{arith}
 use mathlib.Core.List.{List}
-use Rattle.studio_rules.specs.Layout.{Run, end, skip, known, figure, size}
-use Rattle.studio_rules.specs.Readings.{_then_}
-use Rattle.claim_turned.proofs.Then.{size-then}
+use Rattle.studio_rules.specs.Layout.{Run, end, skip, known, figure, size, _then_}
+use Rattle.studio_rules.proofs.Then.{size-then}
 use Rattle.claim_turned.proofs.Context.{Context, behind, inner, plug}
 use Rattle.claim_turned.proofs.Number.{numberIn}
 

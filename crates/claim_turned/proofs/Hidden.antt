@@ -1,9 +1,9 @@
 -- The length field of an unlisted chunk: the worked cases by computation, and none smaller by the byte counts.
 use mathlib.Core.Path.{_≡_, refl}
 use mathlib.Core.Logic.{_⊎_, inl, inr}
-use Prim.Native.Nat.{ℕ, _+_, _*_, _≤_, _<_}
+use Prim.Native.Nat.{ℕ, _+_, _≤_, _<_}
 use native.Mathlib.Omega.{arith}
-use mathlib.Core.Bool.{true, false, false≢true}
+use mathlib.Core.Bool.{true, false≢true}
 use mathlib.Core.List.{[]}
 use Rattle.shared_words.specs.Lists.{every}
 use Rattle.studio_rules.specs.Table.{rows, atMostOne, atLeastOne, listed, under, shape, plus, limits, needs}
@@ -13,21 +13,17 @@ use Rattle.studio_rules.specs.Layout.{Run, end, skip, known, figure, identifier
 use Rattle.studio_rules.specs.Rules.{noneMissing, version}
 use Rattle.shared_words.specs.Conditions.{broken}
 use Rattle.studio_rules.specs.Walk.{step, walk, versionIn, top, verdict}
-use Rattle.studio_rules.specs.Gives.{recordCount, headers, skipped}
+use Rattle.studio_rules.specs.Gives.{recordCount, skipped}
 use Rattle.studio_rules.specs.Calls.{checkCall}
 use Rattle.studio_rules.proofs.Theorems.{counts-add}
 use Rattle.claim_turned.specs.Hidden.{Hidden, NoneSmaller}
+use Rattle.studio_rules.proofs.SixEach.{six-each}
 
 pub hidden : Hidden
 unfolding every rows atMostOne atLeastOne listed under shape plus limits needs finite fitsLabel broken step walk versionIn verdict checkCall
 hidden = record { there = refl; gone = refl; there-bit = refl; gone-bit = refl; known-refused = refl; apart = refl; taken-in = refl }
 
 -- ---- none smaller: 4D4D, 3D3D, one known chunk more and an unlisted one are four headers
-
-headers-six : (t : Run) → headers t ≡ 6 * recordCount t
-headers-six end = refl
-headers-six (skip id body t) = headers-six t
-headers-six (known id own kids t) = omega (arith, headers-six kids, headers-six t)
 
 skipped-six : (t : Run) → (skipped t ≡ 0) ⊎ (6 ≤ skipped t)
 skipped-six end = inl refl
@@ -51,7 +47,7 @@ has-scene v kids h n = false≢true (rw (no-identifiers kids n) at h)
 
 pub none-smaller : NoneSmaller
 none-smaller s s′ kids kids′ m m′ l k =
-    omega (arith, counts-add s kids m, headers-six (figure kids), has-scene (version kids′) kids′ (m′ .chunks .1 .none-missing), go (skipped-six (figure kids)) k)
+    omega (arith, counts-add s kids m, six-each (figure kids), has-scene (version kids′) kids′ (m′ .chunks .1 .none-missing), go (skipped-six (figure kids)) k)
   where
     go : (skipped (figure kids) ≡ 0) ⊎ (6 ≤ skipped (figure kids)) → 0 < skipped (figure kids) → 6 ≤ skipped (figure kids)
     go (inl z) k = absurd (omega arith)

@@ -6,12 +6,11 @@ use native.Mathlib.Omega.{arith}
 use mathlib.Core.Bool.{true}
 use mathlib.Core.List.{List, [], _++_, append-assoc, append-nil}
 use lib.ListN.{length, length-append}
-use Rattle.studio_rules.specs.Layout.{Run, end, skip, known, header, size, bytes}
+use Rattle.studio_rules.specs.Layout.{Run, end, skip, known, header, size, bytes, _then_}
 use Rattle.studio_rules.specs.Rules.{unlisted}
-use Rattle.studio_rules.specs.Readings.{_then_}
 use Rattle.studio_rules.specs.Parses.{Place, within, Fits, Parses}
 use Rattle.studio_rules.proofs.Sound.{length-bytes}
-use Rattle.claim_turned.proofs.Then.{then-end}
+use Rattle.studio_rules.proofs.Then.{then-end}
 use Rattle.claim_turned.proofs.First.{Skips, first-skip, Parted, parted}
 
 -- the run u of p is t, and then a run whose bytes are x

@@ -1,9 +1,8 @@
 -- Another value in one length field: the result is refused, or a reader gets the same but for that length; and where
 -- nothing is skipped it is refused.
 use mathlib.Core.Path.{_≡_, refl, sym, ap, _∙_}
-use Prim.Native.Nat.{ℕ, zero, suc, _+_, _/_, _^_, _<_}
+use Prim.Native.Nat.{ℕ, zero, suc, _+_, _^_, _<_}
 use native.Mathlib.Omega.{arith}
-use native.Mathlib.Nat.{mod-lt}
 use mathlib.Core.List.{List, [], _∷_, _++_}
 use mathlib.Core.Option.{some, Option·some-ne-none}
 use lib.ListN.{length, take, drop, getElem?, set}
@@ -11,29 +10,21 @@ use Rattle.studio_rules.specs.declared.Record.{Record}
 use Rattle.shared_words.specs.declared.Refusal.{Refusal}
 use Rattle.studio_rules.specs.declared.Counts.{Counts}
 use Rattle.shared_words.specs.Bytes.{le, Bytes}
-use Rattle.studio_rules.specs.Layout.{Run, figure, size}
+use Rattle.studio_rules.specs.Layout.{Run, figure, size, withLength}
 use Rattle.studio_rules.specs.Rules.{file, version, Meets}
 use Rattle.shared_words.specs.Conditions.{Answer, accepted, refused}
 use Rattle.studio_rules.specs.Walk.{verdict}
 use Rattle.studio_rules.specs.Gives.{recordsOf, list, skipped}
 use Rattle.studio_rules.specs.Parses.{inFile}
 use Rattle.studio_rules.proofs.Parses.{parses}
-use Rattle.shared_words.proofs.Bytes.{bytes-take, bytes-drop}
+use Rattle.shared_words.proofs.Bytes.{bytes-take, bytes-drop, bytes-append, bytes-le}
 use Rattle.studio_rules.proofs.Verdict.{accepted-exactly, length-figure}
-use Rattle.claim_turned.specs.Turned.{withLength, OtherLength, resized, SameOrRefused, RefusedWithoutUnlisted}
+use Rattle.claim_turned.specs.Turned.{OtherLength, resized, SameOrRefused, RefusedWithoutUnlisted}
 use Rattle.claim_turned.proofs.Bare.{bare-whole}
 use Rattle.claim_turned.proofs.Number.{Found}
 use Rattle.claim_turned.proofs.Chunk.{meets, found, with-length}
 use Rattle.claim_turned.proofs.Reread.{Reread, reread}
 use Rattle.claim_turned.proofs.Gets.{bare-same, gets-same}
-
-bytes-append : (x y : List ℕ) → Bytes x → Bytes y → Bytes (x ++ y)
-bytes-append [] y h k = k
-bytes-append (a ∷ x) y h k = (h .0, bytes-append x y (h .1) k)
-
-bytes-le : (w n : ℕ) → Bytes (le w n)
-bytes-le zero n = tt
-bytes-le (suc w) n = (mod-lt n (omega arith), bytes-le w (n / 256))
 
 bytes-field : (o n : ℕ) (s : List ℕ) → Bytes s → Bytes (withLength o n s)
 bytes-field o n s h = bytes-append (take (o + 2) s) (le 4 n ++ drop (o + 6) s) (bytes-take (o + 2) s h) (bytes-append (le 4 n) (drop (o + 6) s) (bytes-le 4 n) (bytes-drop (o + 6) s h))

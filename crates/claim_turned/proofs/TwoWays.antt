@@ -1,5 +1,5 @@
 -- The same bytes, parted twice into the children of a chunk and what follows the chunk: the two ways differ by whole
--- unlisted chunks only. Nothing else may stand both in the chunk and behind it (specs/Apart of the rules).
+-- unlisted chunks only. Nothing else may stand both in the chunk and behind it (studio_rules/specs/Apart).
 use mathlib.Core.Path.{_≡_, refl, sym, ap, _∙_}
 use mathlib.Core.Logic.{_⊎_, inl, inr}
 use Prim.Native.Nat.{ℕ, _+_, _^_, _<_, _≤_}
@@ -11,12 +11,11 @@ use lib.Seq.{take-append-le, drop-append-le, take-at, drop-at}
 use lib.Dec.{leb}
 use borrow.Author.Tests.{leb-true, leb-false}
 use Rattle.studio_rules.specs.Table.{under}
-use Rattle.studio_rules.specs.Layout.{Run, end, skip, known, size, bytes}
+use Rattle.studio_rules.specs.Layout.{Run, end, skip, known, size, bytes, _then_}
 use Rattle.studio_rules.specs.Gives.{recordCount}
-use Rattle.studio_rules.specs.Readings.{_then_}
 use Rattle.studio_rules.specs.Parses.{Place, Parses}
 use Rattle.studio_rules.proofs.Sound.{length-bytes}
-use Rattle.claim_turned.proofs.Then.{size-then}
+use Rattle.studio_rules.proofs.Then.{size-then}
 use Rattle.claim_turned.proofs.First.{first-under}
 use Rattle.claim_turned.proofs.Prefix.{skip-first, continues, one-run}
 

@@ -8,12 +8,11 @@ use mathlib.Core.List.{List}
 use lib.Dec.{ltb}
 use Rattle.studio_rules.specs.declared.Record.{Record}
 use Rattle.studio_rules.specs.Table.{plus}
-use Rattle.studio_rules.specs.Layout.{Run, end, skip, known, figure, size}
+use Rattle.studio_rules.specs.Layout.{Run, end, skip, known, figure, size, _then_, withLength}
 use Rattle.shared_words.specs.Conditions.{accepted}
 use Rattle.studio_rules.specs.Walk.{verdict}
 use Rattle.studio_rules.specs.Gives.{recordCount}
-use Rattle.studio_rules.specs.Readings.{_then_}
-use Rattle.claim_turned.specs.Turned.{withLength, OtherLength}
+use Rattle.claim_turned.specs.Turned.{OtherLength}
 
 -- a run from its known chunk number i on, as the list counts them: that chunk, and what follows it in the same parent
 abbrev pub from : ℕ → Run → Run

@@ -4,14 +4,13 @@ use mathlib.Core.Path.{_≡_}
 use Prim.Native.Nat.{ℕ, _≤_, _<_}
 use mathlib.Core.List.{List, [], _∷_}
 use lib.ListN.{length, set}
-use Rattle.studio_rules.specs.Layout.{Run, end, skip, figure, bytes}
+use Rattle.studio_rules.specs.Layout.{Run, end, skip, figure, bytes, _then_, withLength}
 use Rattle.studio_rules.specs.Rules.{Meets}
 use Rattle.studio_rules.specs.Walk.{verdict}
 use Rattle.studio_rules.specs.Gives.{recordCount, skipped}
 use Rattle.studio_rules.specs.Calls.{checkCall}
 use Rattle.studio_rules.specs.Samples.{no, showAll, listIn}
-use Rattle.studio_rules.specs.Readings.{_then_, plain, scene}
-use Rattle.claim_turned.specs.Turned.{withLength}
+use Rattle.studio_rules.specs.Readings.{plain, scene}
 
 -- 3D3D holds an unlisted 8123, at 12, and a 1470, at 18, both empty: 24 bytes
 abbrev pub with1470 : List ℕ

@@ -2,21 +2,17 @@
 -- reading answers.
 use mathlib.Core.Path.{_≡_}
 use Prim.Native.Nat.{ℕ, _+_, _^_, _<_}
-use mathlib.Core.List.{List, _++_}
+use mathlib.Core.List.{List}
 use mathlib.Core.Option.{some}
-use lib.ListN.{take, drop, getD, getElem?, set}
+use lib.ListN.{getD, getElem?, set}
 use Rattle.studio_rules.specs.declared.Record.{Record}
 use Rattle.shared_words.specs.declared.Refusal.{Refusal}
-use Rattle.shared_words.specs.Bytes.{le, Bytes}
-use Rattle.studio_rules.specs.Layout.{Run, figure}
+use Rattle.shared_words.specs.Bytes.{Bytes}
+use Rattle.studio_rules.specs.Layout.{Run, figure, withLength}
 use Rattle.shared_words.specs.Conditions.{accepted, refused}
 use Rattle.studio_rules.specs.Walk.{verdict}
 use Rattle.studio_rules.specs.Gives.{list, skipped, meshes, parts}
 use Rattle.studio_rules.specs.Calls.{countsOf}
-
--- the file s with n in the length field of the chunk at offset o: four bytes, behind the identifier's two
-abbrev pub withLength : ℕ → ℕ → List ℕ → List ℕ
-withLength o n s = take (o + 2) s ++ (le 4 n ++ drop (o + 6) s)
 
 -- The file s is accepted with the layout `kids`; r is record number i of its list, so it speaks of any one known chunk;
 -- n is another length than r's, which four bytes can hold.

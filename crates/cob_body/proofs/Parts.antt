@@ -4,7 +4,7 @@ use Prim.Native.Nat.{ℕ, zero, suc, _+_, _-_, _*_, _<_, _≤_}
 use native.Mathlib.Omega.{arith}
 use native.Mathlib.Nat.{one-mul}
 use native.Mathlib.Numerals.{add-one}
-use mathlib.Core.Bool.{Bool, true, false, _&&_, cond}
+use mathlib.Core.Bool.{Bool, true, false, cond, and-false}
 use mathlib.Core.List.{List, [], _∷_, _++_}
 use mathlib.Core.Option.{Option, none, some}
 use lib.Dec.{eqb}
@@ -48,7 +48,7 @@ pub record Passed (s : List ℕ) (i n o left : ℕ) : Type 0 where
   pub from : i ≤ o
   pub to : o ≤ length s
 
-run-more : (n : ℕ) (s : List ℕ) → 0 < n → faceRun n s ≡ andThen (face s) (faceRun (n - 1))
+pub run-more : (n : ℕ) (s : List ℕ) → 0 < n → faceRun n s ≡ andThen (face s) (faceRun (n - 1))
 run-more zero s l = absurd (omega arith)
 run-more (suc n) s l = let e : suc n - 1 ≡ n = omega arith in rw e
 
@@ -71,10 +71,6 @@ plain-string {s} {i} h = record { is = rw (one-mul (value (take 2 (drop i s)))) 
 
 two : (s : List ℕ) (i : ℕ) → i + 2 ≤ length s → take 2 (drop i s) ≡ getD s i 0 ∷ getD s (i + 1) 0 ∷ []
 two s i l = rw (drop-cons s i 0 (omega arith), drop-cons s (suc i) 0 (omega arith), add-one i)
-
-and-false : (b : Bool) → (b && false) ≡ false
-and-false true = refl
-and-false false = refl
 
 -- fewer than two bytes are not the two
 too-few : (s : List ℕ) (a b : ℕ) → length s < 2 → same (take 2 s) (a ∷ b ∷ []) ≡ false

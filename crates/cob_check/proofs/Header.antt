@@ -3,7 +3,7 @@ use mathlib.Core.Path.{_≡_, refl, _∙_}
 use Prim.Native.Nat.{ℕ, _+_, _<_, _≤_}
 use native.Mathlib.Omega.{arith}
 use native.Mathlib.Numerals.{add-one}
-use mathlib.Core.Bool.{Bool, true, false, _&&_}
+use mathlib.Core.Bool.{true, false, _&&_, and-false}
 use mathlib.Core.List.{List, [], _∷_}
 use lib.Dec.{eqb}
 use lib.ListN.{length, take, drop, getD, length-take, drop-of-length-le}
@@ -18,10 +18,6 @@ same-shorter [] [] l = absurd (omega arith)
 same-shorter [] (y ∷ ys) l = refl
 same-shorter (x ∷ xs) [] l = refl
 same-shorter (x ∷ xs) (y ∷ ys) l = rw (same-shorter xs ys (omega arith)) (and-false (eqb x y))
-  where
-    and-false : (b : Bool) → (b && false) ≡ false
-    and-false true = refl
-    and-false false = refl
 
 pub too-short : (s : List ℕ) → length s < 32 → same (take 32 s) fileHeader ≡ false
 too-short s l = same-shorter (take 32 s) fileHeader (omega (arith, length-take 32 s))

@@ -17,7 +17,7 @@ use Rattle.cob_rules.specs.Fields.{field}
 use Rattle.cob_rules.specs.Kinds.{endType, grouType, polhType, mat1Type}
 use Rattle.cob_rules.specs.Layout.{kind, letters, identifier, parent, sizeField}
 use Rattle.cob_rules.specs.Walk.{chunkAt}
-use Rattle.cob_rules.proofs.Same.{same-true, same-refl}
+use Rattle.shared_words.proofs.Lists.{same-true, same-refl}
 use Rattle.cob_chunk.specs.Chunks.{chunkIn, kindBy}
 
 -- ---- numbers

@@ -51,6 +51,7 @@ pub fn kind_at(file: &[u8], at: usize) -> Kind
     kind_of(long_at(file, at), long_at(file, at + 4))
 }
 
+// Whether it is END, after which the file ends.
 pub fn is_end(k: Kind) -> bool
     ensures { λ r. ⌜ r ≡ isEnd k ⌝ }
 {
@@ -63,6 +64,7 @@ pub fn is_end(k: Kind) -> bool
     }
 }
 
+// Whether it is a PolH.
 pub fn is_mesh(k: Kind) -> bool
     ensures { λ r. ⌜ r ≡ isMesh k ⌝ }
 {
@@ -75,6 +77,7 @@ pub fn is_mesh(k: Kind) -> bool
     }
 }
 
+// Whether it is one of the four types, and so in the list.
 pub fn is_listed(k: Kind) -> bool
     ensures { λ r. ⌜ r ≡ listed k ⌝ }
 {

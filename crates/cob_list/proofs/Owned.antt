@@ -2,7 +2,7 @@
 use mathlib.Core.Path.{_≡_, refl, sym, _∙_}
 use Prim.Native.Nat.{ℕ, suc, _<_, _≤_}
 use native.Mathlib.Omega.{arith}
-use mathlib.Core.Bool.{Bool, true, false, not, _&&_, cond, false≢true}
+use mathlib.Core.Bool.{Bool, true, false, not, _&&_, cond, false≢true, and-false}
 use mathlib.Core.List.{List, [], _∷_}
 use lib.Dec.{eqb}
 use lib.ListN.{length, getD, set}
@@ -54,10 +54,6 @@ owns-at ids up (c ∷ seen) x p h o n e = go (eqb (identifier c) x) refl (rw (h 
 found : (q : Place) → isAt q ≡ true → (p : ℕ) × (q ≡ Place.At p)
 found (Place.At p) h = (p, refl)
 found Place.Nowhere h = absurd (false≢true h)
-
-and-false : (b : Bool) → (b && false) ≡ false
-and-false true = refl
-and-false false = refl
 
 -- ---- one chunk more
 

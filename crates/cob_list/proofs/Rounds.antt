@@ -5,16 +5,14 @@ use mathlib.Core.Bool.{Bool, true, false}
 use native.Mathlib.Omega.{arith}
 use mathlib.Core.List.{List, [], _∷_}
 use lib.ListN.{length, getD, set, length-set}
-use Rattle.shared_words.specs.Conditions.{accepted}
 use Rattle.shared_words.specs.Effects.{filled}
 use Rattle.shared_flat.specs.Flat.{total}
 use Rattle.cob_rules.specs.Layout.{Chunk, kind, parent, size, Layout}
 use Rattle.cob_rules.specs.Kinds.{listed}
 use Rattle.cob_rules.specs.Rules.{AllPlaced, limit, Meets}
-use Rattle.cob_rules.specs.Walk.{verdict}
 use Rattle.cob_rules.specs.Gives.{list}
 use Rattle.cob_rules.specs.Calls.{recordBytes}
-use Rattle.cob_rules.proofs.Verdict.{accepted-exactly}
+use Rattle.cob_rules.proofs.Verdict.{accepted-exactly, one-accepted}
 use Rattle.cob_rules.proofs.PutIn.{length-bytes}
 use Rattle.cob_chunk.specs.Chunks.{chunkIn, Stated}
 use Rattle.cob_list.specs.Filling.{topFor, Fillable, Fills, EndPut, PutListed}
@@ -47,9 +45,6 @@ pub record Round (s : List ℕ) (count : ℕ) (ids links up₀ row₀ up row : L
 pub first : (s : List ℕ) (count : ℕ) (ids links up row : List ℕ) → Fillable s count ids links row → count ≤ length up → Round s count ids links up row up row 32 0 1
 first s count ids links up row f t =
     record { given = f; passing = starts up row (meets f) (f .nodes-are) (f .holds); row-long = refl; up-long = refl; tops = t }
-
-one-accepted : (s : List ℕ) {l l′ : Layout} → verdict s ≡ accepted l → verdict s ≡ accepted l′ → l ≡ l′
-one-accepted s a b = cc
 
 pub fills : {s : List ℕ} {count : ℕ} {ids links up₀ row₀ up row row′ : List ℕ} {at to k : ℕ} → Round s count ids links up₀ row₀ up row at to k → count ≤ k →
     EndPut s at row to row′ → Fills s row₀ row′

@@ -2,7 +2,7 @@
 use mathlib.Core.Path.{_≡_, refl, sym, ap, _∙_}
 use Prim.Native.Nat.{ℕ, zero, suc, _+_, _-_, _*_, _<_}
 use native.Mathlib.Omega.{arith}
-use mathlib.Core.Bool.{Bool, true, false, not, _&&_}
+use mathlib.Core.Bool.{Bool, true, false, not, _&&_, and-false}
 use mathlib.Core.List.{List, _∷_}
 use lib.Dec.{ltb}
 use lib.ListN.{drop}
@@ -16,10 +16,6 @@ use Rattle.cob_mesh.specs.declared.Lists.{Lists}
 use Rattle.cob_mesh.specs.declared.Corners.{Corners}
 use Rattle.cob_mesh.specs.Laid.{Whole, Laid, FaceAt, allCorners, facesBelow}
 use Rattle.cob_mesh.proofs.Faces.{rest-whole, faces-more}
-
-and-false : (b : Bool) → (b && false) ≡ false
-and-false true = refl
-and-false false = refl
 
 -- ---- corners
 

@@ -13,12 +13,12 @@ use borrow.Author.Tests.{leb-true, leb-false, ltb-true, ltb-false, not-true}
 use Rattle.shared_words.specs.Bytes.{value}
 use Rattle.shared_words.proofs.Bools.{and-parts}
 use Rattle.cob_rules.specs.Fields.{negative}
-use Rattle.cob_rules.specs.Body.{andThen, skip, counted, hole, face, faceRun, fits}
+use Rattle.cob_rules.specs.Body.{skip, counted, hole, face, faceRun, fits}
 use Rattle.cob_rules.specs.Mesh.{cornersAt, facesAt}
 use Rattle.cob_rules.proofs.Body.{skip-left, counted-left, then-left}
 use Rattle.cob_body.specs.Ends.{Of}
 use Rattle.cob_body.proofs.Ends.{skip-fits}
-use Rattle.cob_body.proofs.Parts.{face-ends}
+use Rattle.cob_body.proofs.Parts.{face-ends, run-more}
 use Rattle.cob_mesh.specs.declared.Corners.{Corners}
 use Rattle.cob_mesh.specs.Laid.{Whole, FaceAt}
 
@@ -83,10 +83,6 @@ module _ (s : List ℕ) (at : ℕ) where
       }
 
 -- ---- a run of faces
-
-run-more : (n : ℕ) (s : List ℕ) → 0 < n → faceRun n s ≡ andThen (face s) (faceRun (n - 1))
-run-more zero s l = absurd (omega arith)
-run-more (suc n) s l = let e : suc n - 1 ≡ n = omega arith in rw e
 
 module _ {s : List ℕ} {o left : ℕ} (w : Whole s o left) (l : 0 < left) where
   pub first-fits : fits (face (drop o s)) ≡ true

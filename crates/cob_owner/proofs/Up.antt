@@ -1,4 +1,4 @@
--- One step up, and enough steps. Assumes nothing.
+-- One step up, and enough steps.
 use mathlib.Core.Path.{_≡_, refl, _∙_}
 use mathlib.Core.Bool.{Bool, true, false, cond}
 use mathlib.Core.List.{List}

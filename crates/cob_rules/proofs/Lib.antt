@@ -1,4 +1,3 @@
-pub mod Same
 pub mod Body
 pub mod Sound
 pub mod Complete

@@ -1,4 +1,4 @@
--- Demand 3 for Caligari files: the format does what proofs/Put asks of one chunk. A chunk put in adds an identifier that nobody has or
+-- Demand 3 for Caligari files: the format does what crate shared_flat asks of one chunk. A chunk put in adds an identifier that nobody has or
 -- names, so that each chunk that stays finds the same identifiers used and the same owners.
 use mathlib.Core.Path.{_≡_, refl, sym, ap, _∙_}
 use Prim.Native.Nat.{ℕ, _+_, _*_, _^_, _≤_}

@@ -13,7 +13,7 @@ use Rattle.cob_rules.specs.Layout.{Layout, fileHeader, chunkBytes, allBy
 use Rattle.cob_rules.specs.Rules.{limit, Meets}
 use Rattle.cob_rules.specs.Walk.{Verdict, fileConditions, walk, verdict}
 use Rattle.cob_rules.specs.Theorems.{AcceptedExactly, OneLayout}
-use Rattle.cob_rules.proofs.Same.{same-true, same-refl}
+use Rattle.shared_words.proofs.Lists.{same-true, same-refl}
 use Rattle.cob_rules.proofs.Sound.{Tells, run-tells}
 use Rattle.cob_rules.proofs.Complete.{run-complete}
 
@@ -66,3 +66,7 @@ one-layout s l l′ m m′ =
     let a = verdict-good s l m in
     let b = verdict-good s l′ m′ in
     cc
+
+-- a file is accepted with one layout only
+pub one-accepted : (s : List ℕ) {l l′ : Layout} → verdict s ≡ accepted l → verdict s ≡ accepted l′ → l ≡ l′
+one-accepted s a b = cc

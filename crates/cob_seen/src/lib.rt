@@ -10,6 +10,7 @@ pub struct Spot {
     pub rest: u32,
 }
 
+// The number of an identifier, or that it is not there.
 pub enum Place {
     At(usize),
     Nowhere,

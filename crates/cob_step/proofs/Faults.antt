@@ -82,10 +82,6 @@ found-or : (b : Bool) (k : ℕ) (q : Place) → isAt (pick b (At k) q) ≡ (b ||
 found-or true k q = refl
 found-or false k q = refl
 
-or-nothing : (b : Bool) → (b || false) ≡ b
-or-nothing true = refl
-or-nothing false = refl
-
 or-swap : (a b c : Bool) → (a || (b || c)) ≡ (b || (a || c))
 or-swap true true c = refl
 or-swap true false c = refl

@@ -6,15 +6,13 @@ use mathlib.Core.Bool.{Bool, true, false, cond, true≢false}
 use mathlib.Core.List.{List, [], _∷_, _++_, append-assoc, append-nil}
 use mathlib.Core.Option.{none, some}
 use lib.ListN.{length, take, drop, getElem?, length-append}
-use Rattle.shared_words.specs.Conditions.{accepted}
 use Rattle.cob_rules.specs.declared.Kind.{Kind}
 use Rattle.cob_rules.specs.Kinds.{isEnd, isMesh}
 use Rattle.cob_rules.specs.Body.{exact}
 use Rattle.cob_rules.specs.Layout.{Chunk, kind, size, Layout, chunkBytes, allBytes}
 use Rattle.cob_rules.specs.Rules.{AllPlaced, Meets}
-use Rattle.cob_rules.specs.Walk.{verdict}
 use Rattle.cob_rules.specs.Gives.{oneIf, Mesh, meshIn, meshOf, meshesOf, meshes}
-use Rattle.cob_rules.proofs.Verdict.{accepted-exactly}
+use Rattle.cob_rules.proofs.Verdict.{accepted-exactly, one-accepted}
 use Rattle.cob_chunk.specs.Chunks.{chunkIn, Stated}
 use Rattle.cob_chunk.proofs.Stands.{chunk-is, whole, fits, behind, stated, body-is}
 use Rattle.cob_chunk.proofs.Judged.{mesh-kind}
@@ -68,9 +66,6 @@ data Standing (s : List ℕ) (l : Layout) (seen left : List Chunk) (at : ℕ) : 
   before : (c : Chunk) (rest : List Chunk) → left ≡ c ∷ rest → drop at s ≡ chunkBytes c ++ (allBytes rest ++ chunkBytes (l .last)) → AllPlaced seen (c ∷ rest) →
       Standing s l seen left at
   last : left ≡ [] → drop at s ≡ chunkBytes (l .last) ++ [] → Standing s l seen left at
-
-one-accepted : (s : List ℕ) {l l′ : Layout} → verdict s ≡ accepted l → verdict s ≡ accepted l′ → l ≡ l′
-one-accepted s a b = cc
 
 module _ {s : List ℕ} {mesh at n : ℕ} (r : Finding s mesh at n) where
   abbrev l : Layout

@@ -3,11 +3,13 @@ use mathlib.Core.Path.{_≡_, refl, _∙_}
 use Prim.Native.Nat.{ℕ, _+_, _≤_}
 use native.Mathlib.Omega.{arith}
 use mathlib.Core.Bool.{Bool, true, false, cond}
-use mathlib.Core.List.{List, [], _∷_, _++_}
+use mathlib.Core.List.{List, [], _∷_}
 use lib.Dec.{ltb}
 use borrow.Author.Tests.{ltb-false, le-ltb}
 use Rattle.shared_flat.specs.Flat.{Obeys, total, Format, records}
-use Rattle.shared_flat.specs.Put.{Mark, put, keep, without, with, puts, LawfulThere, Piece, pieces, before, Moved, Pairwise, Shifted, Harmless, HarmlessIsEnough}
+use Rattle.shared_words.specs.Lists.{Pairwise}
+pub use Rattle.shared_words.proofs.Lists.{pairwise-append}
+use Rattle.shared_flat.specs.Put.{Mark, put, keep, without, with, puts, LawfulThere, Piece, pieces, before, Moved, Shifted, Harmless, HarmlessIsEnough}
 
 -- ---- bytes put in
 
@@ -54,12 +56,6 @@ end-from size ps o a (keep c ∷ m) h =
     rw e (end-from size ps (o + size c) a m (holds-keep size ps o a c m h))
 
 -- ---- pairs
-
-pub pairwise-append : {A : Type 0} (R : A → A → Type 0) (xs ys us vs : List A) → Pairwise R xs us → Pairwise R ys vs → Pairwise R (xs ++ ys) (us ++ vs)
-pairwise-append R [] ys [] vs h k = k
-pairwise-append R [] ys (u ∷ us) vs h k = absurd h
-pairwise-append R (x ∷ xs) ys [] vs h k = absurd h
-pairwise-append R (x ∷ xs) ys (u ∷ us) vs h k = (h .0, pairwise-append R xs ys us vs (h .1) k)
 
 pairwise-weaker : {A : Type 0} (R Q : A → A → Type 0) → ((x y : A) → R x y → Q x y) → (xs us : List A) → Pairwise R xs us → Pairwise Q xs us
 pairwise-weaker R Q w [] [] h = tt

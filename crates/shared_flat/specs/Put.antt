@@ -7,6 +7,7 @@ use Prim.Native.Nat.{ℕ, _+_, _≤_}
 use mathlib.Core.Bool.{cond}
 use mathlib.Core.List.{List, [], _∷_}
 use lib.Dec.{ltb}
+pub use Rattle.shared_words.specs.Lists.{Pairwise}
 use Rattle.shared_flat.specs.Flat.{Obeys, total, Format, records}
 
 pub data Mark (A : Type 0) : Type 0 where
@@ -58,13 +59,6 @@ before y (p ∷ ps) = cond (ltb (p .at) y) (p .len) 0 + before y ps
 pub record Moved {R : Type 0} (at : R → ℕ) (Same : R → R → Type 0) (ps : List Piece) (old new : R) : Type 0 where
   pub offset-grows : at new ≡ at old + before (at new) ps
   pub else-same : Same old new
-
--- a relation of two lists, element by element: they are equally long
-abbrev pub Pairwise : {A : Type 0} → (A → A → Type 0) → List A → List A → Type 0
-Pairwise R [] [] = Unit
-Pairwise R [] (y ∷ ys) = ⊥
-Pairwise R (x ∷ xs) [] = ⊥
-Pairwise R (x ∷ xs) (y ∷ ys) = R x y × Pairwise R xs ys
 
 -- ---- what a format has to show, so that its files keep their records
 

@@ -1,7 +1,7 @@
 -- Bytes put one after another: what is put behind what was put makes one longer piece. One law for every function that
 -- writes.
 use mathlib.Core.Path.{_≡_, refl, sym, ap, _∙_}
-use Prim.Native.Nat.{ℕ, _+_, _<_, _≤_}
+use Prim.Native.Nat.{ℕ, _+_, _<_, _≤_, suc}
 use native.Mathlib.Nat.{zero-add}
 use native.Mathlib.Numerals.{add-one}
 use native.Mathlib.Omega.{arith}
@@ -38,3 +38,8 @@ put-front {o} {new} p = p .is ∙ ap (λ (k : ℕ). new ++ drop k o) (zero-add (
 -- a piece put is as many stores
 pub put-sets : {o new o₁ : List ℕ} {at n : ℕ} → at + length new ≤ length o → Put o at new o₁ n → o₁ ≡ sets o at new
 put-sets {o} {new} {at = at} h p = p .is ∙ sym (sets-eq new o at h ∙ append-assoc (take at o) new (drop (at + length new) o))
+
+-- stores one behind the other are the stores of both
+pub sets-append : (row : List ℕ) (i : ℕ) (a b : List ℕ) → sets row i (a ++ b) ≡ sets (sets row i a) (i + length a) b
+sets-append row i [] b = ap (λ (k : ℕ). sets row k b) (omega arith)
+sets-append row i (x ∷ a) b = sets-append (set row i x) (suc i) a b ∙ ap (λ (k : ℕ). sets (sets (set row i x) (suc i) a) k b) (omega arith)

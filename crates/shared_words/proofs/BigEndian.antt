@@ -1,23 +1,14 @@
 -- Big-endian numbers as bytes and back: the little-endian laws, of the bytes turned round.
-use mathlib.Core.Path.{_≡_, refl, sym, ap, subst, _∙_}
-use Prim.Native.Nat.{ℕ, zero, suc, _+_, _^_, _<_, _≤_}
-use native.Mathlib.Nat.{pow-succ'}
+use mathlib.Core.Path.{_≡_, sym, ap, subst, _∙_}
+use Prim.Native.Nat.{ℕ, _+_, _^_, _<_, _≤_}
 use native.Mathlib.Omega.{arith}
 use mathlib.Core.List.{List, [], _∷_, _++_, reverseAux, reverse, reverse-reverse}
 use lib.ListN.{length, take, drop, length-drop, length-reverse, take-append-drop}
 use lib.Seq.{length-take-le, drop-drop}
 use Rattle.shared_words.specs.Bytes.{value, le, valueBe, be, beAt, Bytes}
-use Rattle.shared_words.proofs.Bytes.{bytes-drop, bytes-take, length-le, value-le, le-value}
+use Rattle.shared_words.proofs.Bytes.{bytes-drop, bytes-take, value-le, le-value, value-small}
 
--- ---- bytes joined, and turned round
-
-pub bytes-append : (s t : List ℕ) → Bytes s → Bytes t → Bytes (s ++ t)
-bytes-append [] t h k = k
-bytes-append (b ∷ s) t h k = (h .0, bytes-append s t (h .1) k)
-
-pub bytes-back : (s t : List ℕ) → Bytes (s ++ t) → Bytes t
-bytes-back [] t h = h
-bytes-back (b ∷ s) t h = bytes-back s t (h .1)
+-- ---- bytes turned round
 
 turned-onto : (s t : List ℕ) → Bytes s → Bytes t → Bytes (reverseAux s t)
 turned-onto [] t h k = k
@@ -26,15 +17,7 @@ turned-onto (b ∷ s) t h k = turned-onto s (b ∷ t) (h .1) (h .0, k)
 bytes-reverse : (s : List ℕ) → Bytes s → Bytes (reverse s)
 bytes-reverse s h = turned-onto s [] h tt
 
--- a number of w bytes is below 256 to the w
-pub value-small : (s : List ℕ) → Bytes s → value s < 256 ^ length s
-value-small [] h = omega arith
-value-small (b ∷ s) h = rw (pow-succ' 256 (length s)) (omega (arith, h .0, value-small s (h .1)))
-
 -- ---- numbers
-
-pub length-be : (w n : ℕ) → length (be w n) ≡ w
-length-be w n = length-reverse (le w n) ∙ length-le w n
 
 pub value-be : (w n : ℕ) → n < 256 ^ w → valueBe (be w n) ≡ n
 value-be w n h = ap value (reverse-reverse (le w n)) ∙ value-le w n h

@@ -1,6 +1,6 @@
 -- Laws of tests: both of two, one of two, each of a list.
 use mathlib.Core.Path.{_≡_, refl}
-use mathlib.Core.Bool.{Bool, true, false, _&&_, _||_, true≢false, false≢true}
+use mathlib.Core.Bool.{Bool, true, false, _&&_, _||_, true≢false, false≢true, cond}
 use mathlib.Core.List.{List, [], _∷_}
 use Rattle.shared_words.specs.Lists.{every}
 
@@ -20,6 +20,11 @@ or-else false b h = h refl
 pub or-second : (a b : Bool) → (a || b) ≡ true → a ≡ false → b ≡ true
 or-second true b h k = absurd (true≢false k)
 or-second false b h k = h
+
+-- what holds of both branches of a test holds of it
+pub by-test : {A : Type 0} (P : A → Type 0) (b : Bool) {x y : A} → P x → P y → P (cond b x y)
+by-test P true p q = p
+by-test P false p q = q
 
 -- where each passes one test, each passes a weaker one
 pub every-weaker : {A : Type 0} (p q : A → Bool) (xs : List A) → ((x : A) → p x ≡ true → q x ≡ true) → every p xs ≡ true → every q xs ≡ true

@@ -1,9 +1,9 @@
 -- Numbers as bytes and back, and parts of lists of bytes.
 use mathlib.Core.Path.{_≡_, refl, ap, _∙_}
-use Prim.Native.Nat.{ℕ, zero, suc, _+_, _*_, _/_, _^_, _<_, _≤_}
+use Prim.Native.Nat.{ℕ, zero, suc, _+_, _*_, _/_, _^_, _<_}
 use native.Mathlib.Numerals.{add-one}
 use native.Mathlib.Omega.{arith}
-use native.Mathlib.Nat.{mul-zero, mul-suc, mod-add-div, div-lt-iff-lt-mul}
+use native.Mathlib.Nat.{mul-zero, mul-suc, mod-add-div, div-lt-iff-lt-mul, pow-succ'}
 use mathlib.Core.List.{List, [], _∷_, _++_, append-assoc, append-nil}
 use lib.ListN.{length, take, drop, getD, length-append}
 use lib.Seq.{take-suc}
@@ -24,6 +24,19 @@ pub bytes-take : (n : ℕ) (s : List ℕ) → Bytes s → Bytes (take n s)
 bytes-take zero s h = tt
 bytes-take (suc n) [] h = tt
 bytes-take (suc n) (b ∷ bs) h = (h .0, bytes-take n bs (h .1))
+
+-- bytes joined, and their parts
+pub bytes-append : (s t : List ℕ) → Bytes s → Bytes t → Bytes (s ++ t)
+bytes-append [] t h k = k
+bytes-append (b ∷ s) t h k = (h .0, bytes-append s t (h .1) k)
+
+pub bytes-parts : (s t : List ℕ) → Bytes (s ++ t) → Bytes s × Bytes t
+bytes-parts [] t h = (tt, h)
+bytes-parts (b ∷ s) t h = let k = bytes-parts s t (h .1) in ((h .0, k .0), k .1)
+
+pub bytes-le : (w n : ℕ) → Bytes (le w n)
+bytes-le zero n = tt
+bytes-le (suc w) n = (omega arith, bytes-le w (n / 256))
 
 pub length-le : (w n : ℕ) → length (le w n) ≡ w
 length-le zero n = refl
@@ -53,6 +66,16 @@ le-value [] h = refl
 le-value (b ∷ bs) h =
     let c : b + 256 * value bs ≡ value bs * 256 + b = omega arith in
     rw (c, digits-mod (value bs) (h .0), digits-div (value bs) (h .0), le-value bs (h .1))
+
+-- a number of w bytes is below 256 to the w
+pub value-small : (s : List ℕ) → Bytes s → value s < 256 ^ length s
+value-small [] h = omega arith
+value-small (b ∷ s) h = rw (pow-succ' 256 (length s)) (omega (arith, h .0, value-small s (h .1)))
+
+pub taken-small : (w : ℕ) (s : List ℕ) → Bytes s → value (take w s) < 256 ^ w
+taken-small zero s h = omega arith
+taken-small (suc w) [] h = omega (arith, taken-small w [] h)
+taken-small (suc w) (b ∷ s) h = omega (arith, h .0, taken-small w s (h .1))
 
 pub word-small : (s : List ℕ) → Bytes s → value (take 2 s) < 0x1_0000
 word-small [] h = omega arith

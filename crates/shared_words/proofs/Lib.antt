@@ -1,4 +1,5 @@
 pub mod Bools
+pub mod Lists
 pub mod FirstFault
 pub mod Labels
 pub mod Refusals

@@ -1,5 +1,5 @@
--- Tests of a list, and properties of each element of it.
-use Prim.Native.Nat.{ℕ, suc}
+-- Tests of a list, properties of each element of it, and relations of two lists.
+use Prim.Native.Nat.{ℕ, suc, _+_}
 use mathlib.Core.Bool.{Bool, true, false, _&&_, _||_, cond}
 use mathlib.Core.List.{List, [], _∷_}
 use lib.Dec.{eqb}
@@ -26,7 +26,19 @@ abbrev pub firstFault : {A : Type 0} → (A → Bool) → List A → ℕ
 firstFault good [] = 0
 firstFault good (x ∷ xs) = cond (good x) (suc (firstFault good xs)) 0
 
+-- the sizes of all elements, added up
+abbrev pub total : {A : Type 0} → (A → ℕ) → List A → ℕ
+total size [] = 0
+total size (x ∷ xs) = size x + total size xs
+
 -- each element has a property
 abbrev pub All : {A : Type 0} → (A → Type 0) → List A → Type 0
 All P [] = Unit
 All P (x ∷ xs) = P x × All P xs
+
+-- a relation of two lists, element by element: they are equally long
+abbrev pub Pairwise : {A : Type 0} → (A → A → Type 0) → List A → List A → Type 0
+Pairwise R [] [] = Unit
+Pairwise R [] (y ∷ ys) = ⊥
+Pairwise R (x ∷ xs) [] = ⊥
+Pairwise R (x ∷ xs) (y ∷ ys) = R x y × Pairwise R xs ys

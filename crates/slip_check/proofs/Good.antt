@@ -1,8 +1,8 @@
 -- The test of one entry, in the order in which the code comes to know it.
-use mathlib.Core.Path.{_≡_, refl, ap, _∙_}
+use mathlib.Core.Path.{_≡_, ap, _∙_}
 use Prim.Native.Nat.{ℕ, zero, suc, _+_, _<_, _≤_}
 use native.Mathlib.Omega.{arith}
-use mathlib.Core.Bool.{true, false, not}
+use mathlib.Core.Bool.{false, not, and-true, and-false}
 use mathlib.Core.List.{List}
 use lib.Dec.{leb}
 use lib.ListN.{length, drop, getD, length-drop}
@@ -10,7 +10,6 @@ use lib.Seq.{getD-drop}
 use borrow.Author.Tests.{le-leb, lt-leb}
 use Rattle.slip_rules.specs.Rules.{isNamed, sumsProper, namedBefore}
 use Rattle.slip_rules.specs.Walk.{entryAt}
-use Rattle.slip_rules.proofs.Tests.{and-true, and-false}
 use Rattle.slip_check.specs.Entries.{entryIn, nextAt, after, Whole, Reached, goodAt}
 use Rattle.slip_check.proofs.Names.{head-is, name-length}
 

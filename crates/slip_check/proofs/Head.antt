@@ -1,7 +1,7 @@
 -- The first seven bytes of a slip, and the verdict.
 use mathlib.Core.Path.{_≡_, _∙_}
 use Prim.Native.Nat.{ℕ, _+_, _<_, _≤_}
-use mathlib.Core.Bool.{true, false}
+use mathlib.Core.Bool.{true, false, and-true, and-false}
 use mathlib.Core.List.{List, [], _∷_}
 use lib.Dec.{eqb, leb}
 use lib.ListN.{length, drop, getD}
@@ -12,7 +12,7 @@ use Rattle.shared_words.specs.Conditions.{refused, accepted}
 use Rattle.shared_words.proofs.Bools.{and-parts}
 use Rattle.slip_rules.specs.Rules.{limit}
 use Rattle.slip_rules.specs.Walk.{walk, labelled, verdict}
-use Rattle.slip_rules.proofs.Tests.{one-fails, none-fails, and-true, and-false}
+use Rattle.slip_rules.proofs.Tests.{one-fails, none-fails}
 use Rattle.slip_check.specs.Entries.{entriesIn, headGood}
 
 -- ---- the verdict

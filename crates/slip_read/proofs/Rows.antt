@@ -3,13 +3,13 @@ use mathlib.Core.Path.{_≡_, refl, sym, ap, subst, _∙_}
 use Prim.Native.Nat.{ℕ, zero, suc, _+_, _-_, _*_, _/_, _<_, _≤_}
 use native.Mathlib.Omega.{arith}
 use mathlib.Core.List.{List, [], _∷_, _++_}
-use lib.ListN.{length, set, drop, take, getD}
+use lib.ListN.{length, drop, take, getD}
 use lib.Seq.{sets, sets-eq, length-sets, drop-drop}
 use borrow.Author.Tests.{le-leb, lt-leb}
 use Rattle.shared_words.specs.declared.Refusal.{Refusal}
 use Rattle.shared_words.specs.declared.Refusal.the-variants.{NoRoom}
 use Rattle.shared_numbers.specs.Put.{Put}
-use Rattle.shared_numbers.proofs.Put.{put-then, put-sets}
+use Rattle.shared_numbers.proofs.Put.{put-then, put-sets, sets-append}
 use Rattle.slip_rules.specs.declared.Numbers.{Numbers}
 use Rattle.slip_rules.specs.declared.Found.{Found}
 use Rattle.shared_words.specs.Bytes.{le, packed, valueBe, beAt}
@@ -24,10 +24,6 @@ use Rattle.slip_check.proofs.Names.{head-is, name-length, whole-first, whole-on
 use Rattle.slip_check.proofs.Good.{first-is, second-is}
 
 -- ---- one entry
-
-sets-append : (row : List ℕ) (i : ℕ) (a b : List ℕ) → sets row i (a ++ b) ≡ sets (sets row i a) (i + length a) b
-sets-append row i [] b = ap (λ (k : ℕ). sets row k b) (omega arith)
-sets-append row i (x ∷ a) b = sets-append (set row i x) (suc i) a b ∙ ap (λ (k : ℕ). sets (sets (set row i x) (suc i) a) k b) (omega arith)
 
 -- four numbers put one behind the other
 pub four-puts : {r r₁ r₂ r₃ r₄ : List ℕ} {i i₁ i₂ i₃ i₄ : ℕ} (a b c d : ℕ) → i ≤ length r → Put r i (le 4 a) r₁ i₁ → Put r₁ i₁ (le 4 b) r₂ i₂ →

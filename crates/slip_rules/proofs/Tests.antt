@@ -1,6 +1,6 @@
 -- Conditions with one refusal, one after another, are one test.
-use mathlib.Core.Path.{_≡_, refl, _∙_}
-use mathlib.Core.Bool.{Bool, true, false, _&&_, true≢false, false≢true}
+use mathlib.Core.Path.{_≡_, refl}
+use mathlib.Core.Bool.{Bool, true, false, true≢false, false≢true}
 use mathlib.Core.List.{List, [], _∷_}
 use mathlib.Core.Option.{none, some}
 use Rattle.shared_words.specs.declared.Refusal.{Refusal}
@@ -27,13 +27,3 @@ one-fails (false ∷ bs) r later h = refl
 pub none-fails : (bs : List Bool) (r : Refusal) → allOf bs ≡ true → broken (mustAll bs r []) ≡ none
 unfolding broken
 none-fails bs r h = all-hold bs r [] h
-
--- ---- the last of them, and one that fails
-
-pub and-true : (a : Bool) → (a && true) ≡ a
-and-true true = refl
-and-true false = refl
-
-pub and-false : (a : Bool) → (a && false) ≡ false
-and-false true = refl
-and-false false = refl

@@ -2,7 +2,7 @@
 use mathlib.Core.Path.{_≡_, sym, ap, _∙_}
 use Prim.Native.Nat.{ℕ, _+_, _/_, _%_, _<_, _≤_}
 use native.Mathlib.Omega.{arith}
-use mathlib.Core.Bool.{Bool, false, not, false≢true}
+use mathlib.Core.Bool.{Bool, false, not, false≢true, and-true, and-false}
 use mathlib.Core.List.{List}
 use lib.Dec.{leb, ltb}
 use lib.ListN.{length}
@@ -10,7 +10,6 @@ use borrow.Author.Tests.{lt-ltb, le-ltb, le-leb, lt-leb}
 use Rattle.slip_rules.specs.declared.Numbers.{Numbers}
 use Rattle.slip_rules.specs.Rules.{isNamed, sumsProper, namedBefore, limit}
 use Rattle.slip_rules.specs.Calls.{within}
-use Rattle.slip_rules.proofs.Tests.{and-true, and-false}
 use Rattle.slip_write_judge.specs.Rows.{rowNo, entryNo, namesFrom, Inside, goodRow, GoodRow}
 use Rattle.slip_write_judge.proofs.Rows.{name-long}
 

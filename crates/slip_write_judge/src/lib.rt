@@ -62,7 +62,7 @@ fn is_repeated(names: &[u8], entries: &[u8], n: usize, it: Numbers) -> bool
     false
 }
 
-// Whether the row of number i is one entry too many, or breaks a rule.
+// Whether the row of number i breaks no rule, and is not one entry too many.
 fn is_good(names: &[u8], entries: &[u8], i: usize) -> bool
     requires { ⌜ (16 * i + 16 ≤ length (now entries)) × AllInside (now names) (now entries) i ⌝ }
     ensures { λ r. ⌜ GoodRow (now (names .entry)) (now (entries .entry)) i r ⌝ }

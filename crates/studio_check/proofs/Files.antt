@@ -3,7 +3,7 @@ use mathlib.Core.Path.{_≡_, refl, sym, ap, _∙_, subst}
 use mathlib.Core.Bool.{Bool, true}
 use mathlib.Core.List.{List, []}
 use mathlib.Core.Option.{Option, none, some}
-use Prim.Native.Nat.{ℕ, _+_, _*_, _≤_, _<_}
+use Prim.Native.Nat.{ℕ, _+_, _≤_, _<_}
 use native.Mathlib.Omega.{arith}
 use lib.Dec.{eqb, leb}
 use lib.ListN.{length, take, drop, length-drop}
@@ -15,7 +15,7 @@ use Rattle.studio_rules.specs.declared.Counts.{Counts}
 use Rattle.studio_rules.specs.declared.Checked.{Checked}
 use Rattle.shared_words.specs.Bytes.{Bytes, value}
 use Rattle.studio_rules.specs.Table.{rows, listed, limits, atMostOne}
-use Rattle.studio_rules.specs.Layout.{Run, end, skip, known, figure}
+use Rattle.studio_rules.specs.Layout.{figure}
 use Rattle.studio_rules.specs.Rules.{Parent, file, limit}
 use Rattle.studio_rules.specs.Gives.{recordCount, headers, owned, skipped}
 use Rattle.shared_words.specs.Conditions.{broken, accepted, unless}
@@ -34,6 +34,7 @@ use Rattle.studio_walk.specs.Runs.{RunIs}
 use Rattle.studio_check.specs.Figure.{CountsAre, figureAnswer}
 use Rattle.studio_walk.proofs.Contexts.{context-inside}
 use Rattle.studio_walk.proofs.Chunks.{clash, Ran-well, run-refused, run-accepted}
+use Rattle.studio_rules.proofs.SixEach.{six-each}
 
 -- ---- the file's own conditions
 
@@ -154,12 +155,6 @@ same-counts : (r q : Counts) → r .records ≡ q .records → r .headers ≡ q 
 same-counts r q a b c d =
     ap (λ (x : ℕ). four x (r .headers) (r .own) (r .skipped)) a ∙ ap (λ (x : ℕ). four (q .records) x (r .own) (r .skipped)) b ∙
     ap (λ (x : ℕ). four (q .records) (q .headers) x (r .skipped)) c ∙ ap (four (q .records) (q .headers) (q .own)) d
-
--- six bytes for each record
-six-each : (t : Run) → headers t ≡ 6 * recordCount t
-six-each end = refl
-six-each (skip id body rest) = six-each rest
-six-each (known id own kids rest) = omega (arith, six-each kids, six-each rest)
 
 module _ (s : List ℕ) (b : Bytes s) (six : 6 ≤ length s) (short : length s ≤ limit) (inner : List ℕ) where
   whole : slice 6 (length s) s ≡ drop 6 s

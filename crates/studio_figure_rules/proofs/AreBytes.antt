@@ -1,6 +1,6 @@
 -- A figure that is ready is written in bytes: its names are text, its numbers are packed, and its colours are bytes.
 use mathlib.Core.Path.{_≡_}
-use Prim.Native.Nat.{ℕ, zero, suc, _+_, _/_}
+use Prim.Native.Nat.{ℕ, _+_}
 use native.Mathlib.Omega.{arith}
 use mathlib.Core.Bool.{true}
 use mathlib.Core.List.{List, [], _∷_, _++_}
@@ -20,24 +20,13 @@ use Rattle.studio_figure_rules.specs.Given.{Group, Object, Material, Fig
 use Rattle.studio_figure_rules.specs.Built.{each, groupChunk, smoothingChunk, objectChunk, materialChunk, layout}
 use Rattle.studio_figure_rules.proofs.Lists.{all-map}
 use Rattle.studio_figure_rules.proofs.Ready.{GroupReady, ObjectReady, MaterialReady}
+use Rattle.shared_words.proofs.Bytes.{bytes-append, bytes-parts, bytes-le}
 
 -- ---- lists of bytes
 
-both-bytes : (s t : List ℕ) → Bytes s → Bytes t → Bytes (s ++ t)
-both-bytes [] t a b = b
-both-bytes (x ∷ s) t a b = (a .0, both-bytes s t (a .1) b)
-
-split-bytes : (s t : List ℕ) → Bytes (s ++ t) → Bytes s × Bytes t
-split-bytes [] t h = (tt, h)
-split-bytes (x ∷ s) t h = let k = split-bytes s t (h .1) in ((h .0, k .0), k .1)
-
-le-bytes : (w n : ℕ) → Bytes (le w n)
-le-bytes zero n = tt
-le-bytes (suc w) n = (omega arith, le-bytes w (n / 256))
-
 packed-bytes : (w : ℕ) (ns : List ℕ) → Bytes (packed w ns)
 packed-bytes w [] = tt
-packed-bytes w (n ∷ ns) = both-bytes (le w n) (packed w ns) (le-bytes w n) (packed-bytes w ns)
+packed-bytes w (n ∷ ns) = bytes-append (le w n) (packed w ns) (bytes-le w n) (packed-bytes w ns)
 
 below-bytes : (s : List ℕ) → allBelow 256 s ≡ true → Bytes s
 unfolding every
@@ -54,10 +43,10 @@ text-bytes (x ∷ name) h =
 
 name-bytes : (name : List ℕ) → fitsLabel name ≡ true → Bytes (nameData name)
 unfolding fitsLabel
-name-bytes name h = both-bytes name (0 ∷ []) (text-bytes name (and-parts (leb (length name) 63) (every printable name) h .1)) (omega arith, tt)
+name-bytes name h = bytes-append name (0 ∷ []) (text-bytes name (and-parts (leb (length name) 63) (every printable name) h .1)) (omega arith, tt)
 
 counted-bytes : (n w : ℕ) (ns : List ℕ) → Bytes (le 2 n ++ packed w ns)
-counted-bytes n w ns = both-bytes (le 2 n) (packed w ns) (le-bytes 2 n) (packed-bytes w ns)
+counted-bytes n w ns = bytes-append (le 2 n) (packed w ns) (bytes-le 2 n) (packed-bytes w ns)
 
 -- ---- layouts
 
@@ -68,15 +57,15 @@ OwnBytes (skip id body rest) = Bytes body × OwnBytes rest
 OwnBytes (known id own kids rest) = Bytes own × OwnBytes kids × OwnBytes rest
 
 header-bytes : (id n : ℕ) → Bytes (header id n)
-header-bytes id n = both-bytes (le 2 id) (le 4 n) (le-bytes 2 id) (le-bytes 4 n)
+header-bytes id n = bytes-append (le 2 id) (le 4 n) (bytes-le 2 id) (bytes-le 4 n)
 
 run-bytes : (t : Run) → OwnBytes t → Bytes (bytes t)
 run-bytes end h = tt
 run-bytes (skip id body rest) h =
-    both-bytes (header id (6 + length body)) (body ++ bytes rest) (header-bytes id (6 + length body)) (both-bytes body (bytes rest) (h .0) (run-bytes rest (h .1)))
+    bytes-append (header id (6 + length body)) (body ++ bytes rest) (header-bytes id (6 + length body)) (bytes-append body (bytes rest) (h .0) (run-bytes rest (h .1)))
 run-bytes (known id own kids rest) h =
-    both-bytes (header id (6 + length own + size kids)) (own ++ (bytes kids ++ bytes rest)) (header-bytes id (6 + length own + size kids))
-    (both-bytes own (bytes kids ++ bytes rest) (h .0) (both-bytes (bytes kids) (bytes rest) (run-bytes kids (h .1)) (run-bytes rest (h .2))))
+    bytes-append (header id (6 + length own + size kids)) (own ++ (bytes kids ++ bytes rest)) (header-bytes id (6 + length own + size kids))
+    (bytes-append own (bytes kids ++ bytes rest) (h .0) (bytes-append (bytes kids) (bytes rest) (run-bytes kids (h .1)) (run-bytes rest (h .2))))
 
 each-bytes : {A : Type 0} (chunk : A → Run → Run) (xs : List A) (rest : Run) → All (λ x. (more : Run) → OwnBytes more → OwnBytes (chunk x more)) xs →
     OwnBytes rest → OwnBytes (each chunk xs rest)
@@ -90,7 +79,7 @@ smoothing-bytes [] = tt
 smoothing-bytes (w ∷ ws) = (packed-bytes 4 (w ∷ ws), tt, tt)
 
 group-bytes : (f : ℕ) (g : Group) → GroupReady f g → (rest : Run) → OwnBytes rest → OwnBytes (groupChunk g rest)
-group-bytes f g r rest h = (both-bytes (nameData (g .name)) _ (name-bytes (g .name) (r .text)) (counted-bytes (length (g .faces)) 2 (g .faces)), tt, h)
+group-bytes f g r rest h = (bytes-append (nameData (g .name)) _ (name-bytes (g .name) (r .text)) (counted-bytes (length (g .faces)) 2 (g .faces)), tt, h)
 
 object-bytes : (o : Object) → ObjectReady o → (rest : Run) → OwnBytes rest → OwnBytes (objectChunk o rest)
 object-bytes o r rest h =
@@ -105,8 +94,8 @@ unfolding every
 materials-bytes [] rest a c h = h
 materials-bytes (m ∷ ms) rest a c h =
     let k = and-parts (allBelow 256 (colours m)) _ c in
-    let b = split-bytes (rgb (m .ambient)) (rgb (m .diffuse) ++ rgb (m .specular)) (below-bytes (colours m) (k .0)) in
-    let d = split-bytes (rgb (m .diffuse)) (rgb (m .specular)) (b .1) in
+    let b = bytes-parts (rgb (m .ambient)) (rgb (m .diffuse) ++ rgb (m .specular)) (below-bytes (colours m) (k .0)) in
+    let d = bytes-parts (rgb (m .diffuse)) (rgb (m .specular)) (b .1) in
     (tt, (name-bytes (m .name) (a .0 .text), tt, (tt, (b .0, tt, tt), (tt, (d .0, tt, tt), (tt, (d .1, tt, tt), tt)))), materials-bytes ms rest (a .1) (k .1) h)
 
 pub figure-bytes : (f : Figure) → All ObjectReady (f .objects) → All MaterialReady (f .materials) → Colours8 f → Bytes (bytes (figure (layout f)))

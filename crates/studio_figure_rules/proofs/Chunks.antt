@@ -3,7 +3,7 @@
 use mathlib.Core.Path.{_≡_, refl, sym, ap, _∙_}
 use Prim.Native.Nat.{ℕ, suc, _+_}
 use native.Mathlib.Omega.{arith}
-use mathlib.Core.List.{List, [], _∷_, _++_, map, append-assoc, append-nil}
+use mathlib.Core.List.{List, [], _∷_, _++_, map, append-assoc, append-nil, map-append}
 use lib.ListN.{length, take, drop}
 use lib.Seq.{take-at}
 use Rattle.shared_words.specs.Lists.{All}
@@ -12,7 +12,7 @@ use Rattle.studio_rules.specs.Gives.{recordCount, recordsOf, list, skipped}
 use Rattle.studio_figure_rules.specs.Given.{Object, Material, Figure, over}
 use Rattle.studio_figure_rules.specs.Built.{each, groupChunk, smoothingChunk, faceChildren, objectChunk, materialChunk, scene, layout}
 use Rattle.studio_figure_rules.specs.ReadsBack.{Chunk, chunk, chunkIn, groupWritten, smoothingWritten, objectWritten, materialWritten, figureWritten}
-use Rattle.studio_figure_rules.proofs.Lists.{all-of, map-append}
+use Rattle.studio_figure_rules.proofs.Lists.{all-of}
 use Rattle.studio_figure_rules.proofs.Stands.{Stands, skip-stands, own-stands, kids-stand, rest-stands}
 
 -- ---- of any layout

@@ -4,19 +4,14 @@ use Prim.Native.Nat.{ℕ, zero, suc, _<_}
 use native.Mathlib.Omega.{arith}
 use mathlib.Core.Bool.{Bool, true, false, not, _||_, false≢true, true≢false}
 use mathlib.Core.List.{List, [], _∷_}
-use lib.Dec.{eqb}
 use lib.ListN.{length, getD}
-use borrow.Author.Tests.{eq-eqb, not-true}
-use Rattle.shared_words.proofs.Bools.{both, or-else}
+use borrow.Author.Tests.{not-true}
+use Rattle.shared_words.proofs.Bools.{or-else}
 use Rattle.shared_words.proofs.Conditions.{Met, met, unbroken}
 use Rattle.shared_words.specs.Lists.{same}
 use Rattle.studio_figure_rules.specs.Judged.{oneOf, differ}
 use Rattle.studio_figure_rules.specs.Names.{Differ, Among, NamesAsked}
-use Rattle.studio_figure_rules.proofs.Ready.{same-true}
-
-same-refl : (xs : List ℕ) → same xs xs ≡ true
-same-refl [] = refl
-same-refl (x ∷ xs) = both (eqb x x) (same xs xs) (eq-eqb x x refl) (same-refl xs)
+use Rattle.shared_words.proofs.Lists.{same-true, same-refl}
 
 -- ---- one of them
 

@@ -3,9 +3,8 @@ use mathlib.Core.Path.{_≡_, refl, subst}
 use Prim.Native.Nat.{ℕ, _%_, _^_, _≤_}
 use mathlib.Core.Bool.{Bool, true, false, _||_, false≢true}
 use mathlib.Core.List.{List, [], _∷_, _++_, map}
-use lib.Dec.{eqb}
 use lib.ListN.{length}
-use borrow.Author.Tests.{eqb-true, leb-true}
+use borrow.Author.Tests.{leb-true}
 use Rattle.shared_words.specs.declared.Refusal.{Refusal}
 use Rattle.shared_words.specs.Lists.{every, All, same}
 use Rattle.shared_words.specs.Labels.{fitsLabel}
@@ -19,6 +18,7 @@ use Rattle.studio_write_judge.proofs.Judged.{whole-row}
 use Rattle.studio_figure_rules.specs.Given.{Group, Object, Material, Figure, over, objectNames, materialNames, allNames, groupNames, allGroupNames, Bits32}
 use Rattle.studio_figure_rules.specs.Judged.{sizeOf, noZero, isLabel, oneOf, differ, noneOrEach, groupCount, counts, floats, groupIndices, indices, conditions}
 use Rattle.studio_figure_rules.proofs.Lists.{every-parts}
+use Rattle.shared_words.proofs.Lists.{same-true}
 
 -- ---- conditions one after another
 
@@ -38,16 +38,6 @@ met-over give (x ∷ xs) ys m =
     join (must b r ∷ cs) ds h k = (h .0, join cs ds (h .1) k)
 
 -- ---- names
-
-pub same-true : (xs ys : List ℕ) → same xs ys ≡ true → xs ≡ ys
-same-true [] [] h = refl
-same-true [] (y ∷ ys) h = absurd (false≢true h)
-same-true (x ∷ xs) [] h = absurd (false≢true h)
-same-true (x ∷ xs) (y ∷ ys) h =
-    let p = and-parts (eqb x y) (same xs ys) h in
-    let e = eqb-true x y (p .0) in
-    let t = same-true xs ys (p .1) in
-    cc
 
 -- a name that is one of some passes a test that they pass
 one-of-passes : (test : List ℕ → Bool) (refusal : List ℕ → Refusal) (names : List (List ℕ)) (n : List ℕ) →

@@ -1,12 +1,13 @@
 -- What the writer of figures judges before it writes: request Q-14's refusals, in order.
 use Prim.Native.Nat.{ℕ, _+_, _*_}
-use mathlib.Core.Bool.{Bool, true, false, not, _&&_, _||_}
+use mathlib.Core.Bool.{Bool, false, not, _||_}
 use mathlib.Core.List.{List, [], _∷_}
 use lib.Dec.{eqb, leb, ltb}
 use lib.ListN.{length}
 use Rattle.shared_words.specs.declared.Refusal.the-variants.{TooLong, Name, Number, Index, Count, NoRoom, SameName, NoMaterial, Text}
 use Rattle.shared_words.specs.Floats.{finite}
 use Rattle.shared_words.specs.Labels.{fitsLabel, labelFault}
+pub use Rattle.shared_words.specs.Lists.{total}
 use Rattle.shared_words.specs.Lists.{same}
 use Rattle.studio_rules.specs.Rules.{limit}
 use Rattle.shared_words.specs.Conditions.{Condition, must, broken}
@@ -15,10 +16,6 @@ use Rattle.studio_write_judge.specs.Judged.{triples, eachMust, notZero, wholeRo
 use Rattle.studio_figure_rules.specs.Given.{Group, Object, Material, Figure, over, objectNames, materialNames, allNames, allGroupNames}
 
 -- ---- the size, with 6 header bytes for each chunk
-
-abbrev pub total : {A : Type 0} → (A → ℕ) → List A → ℕ
-total size [] = 0
-total size (x ∷ xs) = size x + total size xs
 
 abbrev pub groupSize : Group → ℕ
 groupSize g = 9 + length (g .name) + 2 * length (g .faces)

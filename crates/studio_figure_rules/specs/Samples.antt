@@ -4,25 +4,15 @@ use mathlib.Core.Path.{_≡_}
 use Prim.Native.Nat.{ℕ}
 use mathlib.Core.List.{List, [], _∷_, _++_, map}
 use lib.ListN.{replicate}
-use Rattle.shared_words.specs.Refusals.{numberOf, placeOf}
 use Rattle.shared_words.specs.Floats.{float}
 use Rattle.shared_words.specs.Effects.{leaving}
-use Rattle.studio_rules.specs.Samples.{triangle, one}
-use Rattle.shared_words.specs.declared.Written.{Written}
-use Rattle.shared_words.specs.declared.Written.the-variants.{Size, Refused}
+use Rattle.studio_rules.specs.Samples.{triangle}
+use Rattle.shared_words.specs.declared.Written.the-variants.{Size}
 use Rattle.studio_figure_rules.specs.Given.{Group, Object, Colour, Material, Figure}
 use Rattle.studio_figure_rules.specs.Judged.{judgedFigure}
 use Rattle.studio_figure_rules.specs.Write.{writeFigure}
 use Rattle.studio_figure_rules.specs.Described.{Flat, judgedFlat, writeFlat}
-
--- an answer as the paper writes it: a refusal's number and place, or the size
-pub data Shown : Type 0 where
-  no : ℕ → ℕ → Shown
-  size : ℕ → Shown
-
-abbrev pub shown : Written → Shown
-shown (Refused r) = no (numberOf r) (placeOf r)
-shown (Size n) = size n
+use Rattle.studio_write.specs.Samples.{Shown, no, size, shown, infinite, points}
 
 -- ---- figures
 
@@ -42,18 +32,12 @@ material name = record { name = name; ambient = grey 1; diffuse = record { red =
 abbrev pub given : List Object → List Material → Figure
 given objects materials = record { objects = objects; materials = materials }
 
--- names, and the vertices of the triangle
+-- names
 abbrev pub a : List ℕ
 a = 0x41 ∷ []
 
 abbrev pub b : List ℕ
 b = 0x42 ∷ []
-
-abbrev pub points : List ℕ
-points = 0 ∷ 0 ∷ 0 ∷ one ∷ 0 ∷ 0 ∷ 0 ∷ one ∷ 0 ∷ []
-
-abbrev pub infinite : ℕ
-infinite = 0x7F80_0000
 
 -- an object without faces, and one with the triangle's
 abbrev pub bareObject : List ℕ → Object

@@ -31,6 +31,7 @@ use Rattle.studio_head.specs.declared.Header.{Header}
 use Rattle.studio_head.specs.declared.Head.{Head}
 use Rattle.studio_head.specs.Heads.{HeaderIs, HeadIs, MarksAre, HeadWithin, openedBy}
 use Rattle.studio_head.proofs.Orders.{somewhere}
+use Rattle.studio_rules.proofs.Steps.{step-stops}
 
 -- ---- the header
 
@@ -88,10 +89,6 @@ module _ (s : List ℕ) (at end : ℕ) (h : at < end) (l : end ≤ length s) whe
   header-read none id past i = record { fine = refl; id-is = cc; past-is = cc }
 
 -- ---- the step
-
-step-stops : (p : Parent) (seen : List ℕ) (o : ℕ) (s : List ℕ) (x : Refusal) → broken (headerConditions o s (lengthField s)) ≡ some x → step p seen o s ≡ stop x
-unfolding step
-step-stops p seen o s x e = rw e
 
 step-sorts : (p : Parent) (seen : List ℕ) (o : ℕ) (s : List ℕ) → broken (headerConditions o s (lengthField s)) ≡ none →
     step p seen o s ≡ sorted (listed (value (take 2 s))) p seen o (value (take 2 s)) (take (lengthField s - 6) (drop 6 s)) (drop (lengthField s) s)
@@ -197,9 +194,6 @@ module _ (p : Parent) (seen : List ℕ) (at id : ℕ) (body rest : List ℕ) whe
 
 -- own data of k bytes, in the body from at + 6 to past
 module _ (p : Parent) (seen s : List ℕ) (at past k id row : ℕ) (rest : List ℕ) (o : at + 6 ≤ past) (l : past ≤ length s) (f : at + 6 + k ≤ past) where
-  body-part : length (slice (at + 6) past s) ≡ past - (at + 6)
-  body-part = length-slice (at + 6) past s l
-
   own-part : take k (slice (at + 6) past s) ≡ slice (at + 6) (at + 6 + k) s
   own-part = take-slice k (at + 6) past s f
 

@@ -12,6 +12,7 @@ use Rattle.shared_words.specs.Bytes.{packed}
 use Rattle.studio_rules.specs.Gives.{recordNumbers, flat}
 use Rattle.shared_words.proofs.Bytes.{length-packed, packed-append}
 use Rattle.studio_list_rows.specs.Lent.{Lent, Room, written}
+use Rattle.shared_numbers.proofs.Put.{sets-append}
 
 -- seven stores, one after the other
 pub seven-stores : (row : List ℕ) (i id at len depth parent own next : ℕ) →
@@ -47,10 +48,6 @@ bytes-even = record {
   appends = λ a b. ap (packed 4) (flat-even .appends a b) ∙ packed-append 4 (flat a) (flat b);
   size = λ a. length-packed 4 (flat a) ∙ omega (arith, flat-even .size a);
 }
-
-sets-append : (row : List ℕ) (i : ℕ) (a b : List ℕ) → sets row i (a ++ b) ≡ sets (sets row i a) (i + length a) b
-sets-append row i [] b = ap (λ (k : ℕ). sets row k b) (omega arith)
-sets-append row i (x ∷ a) b = sets-append (set row i x) (suc i) a b ∙ ap (λ (k : ℕ). sets (sets (set row i x) (suc i) a) k b) (omega arith)
 
 -- records after n others, in a row
 sets-even : {k : ℕ} {f : List Record → List ℕ} → Even k f → (row : List ℕ) (next : ℕ) (a b : List Record) (n : ℕ) → length a ≡ n →

@@ -1,6 +1,6 @@
 -- The chunk at a place of the file: skipped where the table has no row for its identifier, else a record and its children.
 use mathlib.Core.Path.{_≡_, refl, sym, ap, _∙_}
-use mathlib.Core.Bool.{true, not, true≢false}
+use mathlib.Core.Bool.{not}
 use mathlib.Core.List.{List, [], _∷_, _++_, append-nil}
 use Prim.Native.Nat.{ℕ, suc, _+_, _-_, _≤_}
 use native.Mathlib.Omega.{arith}
@@ -25,11 +25,7 @@ use Rattle.studio_list_rows.specs.Lent.{Lent, written}
 use Rattle.studio_list_walk.specs.Laid.{first, Laid, Bounds, Listed, Begins}
 use Rattle.studio_list_rows.proofs.Rows.{written-before}
 use Rattle.studio_list_walk.proofs.Runs.{laid-size, listed-end}
-
-no-children : (t : Run) → noChild t ≡ true → bytes t ≡ []
-no-children end h = refl
-no-children (skip id body rest) h = absurd (true≢false (sym h))
-no-children (known id own kids rest) h = absurd (true≢false (sym h))
+use Rattle.studio_rules.proofs.Complete.{no-bytes}
 
 -- own data of a lawful chunk, before its children's bytes
 lawful-begins : (p : Place) (id : ℕ) (own : List ℕ) (kids : Run) → Fits p id own kids → Begins (rowOf id) (p .own) own (bytes kids ++ [])
@@ -37,7 +33,7 @@ lawful-begins p id own kids l =
     let i = fits-listed p id own kids l in
     record {
       exact = λ h. rw (shape-is id i) (eqb-true (ownSize (shape id) (p .own) own) (length own) (l .own-data-exact));
-      whole = λ e. append-nil (bytes kids) ∙ no-children kids (or-second (plus id) (noChild kids) (l .in-plus) (sym (plus-is id i) ∙ e));
+      whole = λ e. append-nil (bytes kids) ∙ no-bytes kids (or-second (plus id) (noChild kids) (l .in-plus) (sym (plus-is id i) ∙ e));
     }
 
 -- A chunk of this identifier from `at` to stop, with so many bytes of own data: what it is around its children, and its

@@ -20,11 +20,6 @@ under-of p end h = tt
 under-of p (skip id body rest) h = under-of p rest (h .1)
 under-of p (known id own kids rest) h = (h .0 .in-place, under-of p rest (h .2))
 
-pub marks-length : (o : ℕ) (t : Run) (ms : List ℕ) → length (marksAfter o t ms) ≡ length ms
-marks-length o end ms = refl
-marks-length o (skip id body rest) ms = marks-length (o + (6 + length body)) rest ms
-marks-length o (known id own kids rest) ms = marks-length (o + (6 + length own + size kids)) rest (noted (slotOf id) o ms) ∙ noted-length (slotOf id) o ms
-
 -- a slot is empty just where it was, and no chunk of it came
 pub marks-zero : (o : ℕ) (t : Run) (ms : List ℕ) (k : ℕ) → 1 ≤ o → SlotOf k ms →
     (getD (marksAfter o t ms) k 0 ≡ 0) ↔ ((getD ms k 0 ≡ 0) × (tallySlot k (identifiers t) ≡ 0))

@@ -1,7 +1,7 @@
 -- The conditions at a chunk's end, read off the marks that its children left.
 use mathlib.Core.Path.{_≡_, refl, sym, ap, _∙_, subst}
 use mathlib.Core.Logic.{inl, inr, _↔_}
-use mathlib.Core.Bool.{Bool, true, false, not, _&&_, _||_, cond, true≢false, false≢true}
+use mathlib.Core.Bool.{Bool, true, false, not, _||_, cond, true≢false, false≢true, and-true, or-false}
 use mathlib.Core.List.{List, [], _∷_}
 use mathlib.Core.Option.{Option, none, some}
 use Prim.Native.Nat.{ℕ, _+_, _*_, _≤_, _<_}
@@ -34,14 +34,7 @@ use Rattle.studio_marks.specs.Marks.{tallySlot, Under, noMarks, Kept, Sh
 use Rattle.studio_marks.proofs.Slots.{allSlot, tally-slot, groups-slotted}
 use Rattle.studio_marks.proofs.After.{under-of, marks-zero, Alone, marks-place}
 use Rattle.studio_marks.proofs.Children.{Found, child-found}
-
-or-false : (b : Bool) → (b || false) ≡ b
-or-false true = refl
-or-false false = refl
-
-and-true : (b : Bool) → (b && true) ≡ b
-and-true true = refl
-and-true false = refl
+use Rattle.studio_rules.proofs.Rows.{vertices-counted, faces-counted, pairs-counted}
 
 -- a group of one identifier: it alone has its slot
 alone : (x : ℕ) (ys : List ℕ) → allSlot ys (x ∷ []) ≡ true → Alone x (slotOf x) ys
@@ -184,18 +177,6 @@ module _ (q : Parent) (i : q .id ≡ 0x4100) (t : Run) (s : List ℕ) (from stop
 
   -- ---- the three marks
 
-  vertices-shape : shape 0x4110 ≡ counted 12
-  unfolding shape rows
-  vertices-shape = refl
-
-  faces-shape : shape 0x4120 ≡ counted 8
-  unfolding shape rows
-  faces-shape = refl
-
-  pairs-shape : shape 0x4140 ≡ counted 8
-  unfolding shape rows
-  pairs-shape = refl
-
   count-of : (x slot n : ℕ) → Group x slot (identifiers t) → slot < 5 → shape x ≡ counted n → countAt s (getD marks slot 0) ≡ count (child x t)
   unfolding countAt
   count-of x slot n g h sh = go (among x (identifiers t)) refl
@@ -218,13 +199,13 @@ module _ (q : Parent) (i : q .id ≡ 0x4100) (t : Run) (s : List ℕ) (from stop
 
   pub mesh-placed : MeshPlaced s marks
   mesh-placed = record {
-    vertices = less (getD marks 0 0) (12 * countAt s (getD marks 0 0)) (placed-of 0x4110 0 12 (groups .vertices) (omega arith) vertices-shape);
-    faces = placed-of 0x4120 1 8 (groups .faces) (omega arith) faces-shape;
-    pairs = less (getD marks 2 0) (8 * countAt s (getD marks 2 0)) (placed-of 0x4140 2 8 (groups .pairs) (omega arith) pairs-shape);
+    vertices = less (getD marks 0 0) (12 * countAt s (getD marks 0 0)) (placed-of 0x4110 0 12 (groups .vertices) (omega arith) vertices-counted);
+    faces = placed-of 0x4120 1 8 (groups .faces) (omega arith) faces-counted;
+    pairs = less (getD marks 2 0) (8 * countAt s (getD marks 2 0)) (placed-of 0x4140 2 8 (groups .pairs) (omega arith) pairs-counted);
   }
 
   vertex-count : countAt s (getD marks 0 0) ≡ count (child 0x4110 t)
-  vertex-count = count-of 0x4110 0 12 (groups .vertices) (omega arith) vertices-shape
+  vertex-count = count-of 0x4110 0 12 (groups .vertices) (omega arith) vertices-counted
 
   corners-are : (n : ℕ) → cornersAt s (getD marks 1 0) n ≡ allBelow n (faceCorners (child 0x4120 t))
   unfolding cornersAt every
@@ -233,7 +214,7 @@ module _ (q : Parent) (i : q .id ≡ 0x4100) (t : Run) (s : List ℕ) (from stop
       go : (b : Bool) → among 0x4120 (identifiers t) ≡ b → cornersAt s (getD marks 1 0) n ≡ allBelow n (faceCorners (child 0x4120 t))
       go false a = rw (absent 0x4120 1 (groups .faces) (omega arith) a, child-none 0x4120 t a)
       go true a =
-          let w = there 0x4120 1 8 (groups .faces) (omega arith) faces-shape a in
+          let w = there 0x4120 1 8 (groups .faces) (omega arith) faces-counted a in
           let m : ℕ = getD marks 1 0 in
           let q : getD marks 1 0 + 6 + 2 ≡ getD marks 1 0 + 8 = omega arith in
           let d : drop 2 (child 0x4120 t) ≡ slice (getD marks 1 0 + 8) (getD marks 1 0 + 6 + length (child 0x4120 t)) s =
@@ -248,7 +229,7 @@ module _ (q : Parent) (i : q .id ≡ 0x4100) (t : Run) (s : List ℕ) (from stop
     where
       go : (b : Bool) → among 0x4140 (identifiers t) ≡ b → pairsAt s (getD marks 2 0) (asManyPairs (q .version)) n ≡ (not b || pairsFit (q .version) (count (child 0x4140 t)) n)
       go false a = rw (absent 0x4140 2 (groups .pairs) (omega arith) a)
-      go true a = let w = there 0x4140 2 8 (groups .pairs) (omega arith) pairs-shape a in rw (w .nonzero, w .count-is)
+      go true a = let w = there 0x4140 2 8 (groups .pairs) (omega arith) pairs-counted a in rw (w .nonzero, w .count-is)
 
   -- a condition that fails has its chunk
   present : (x slot n : ℕ) → Group x slot (identifiers t) → slot < 5 → shape x ≡ counted n → (among x (identifiers t) ≡ false → ⊥) → getD marks slot 0 ≡ offsetOf x from t
@@ -267,9 +248,9 @@ module _ (q : Parent) (i : q .id ≡ 0x4100) (t : Run) (s : List ℕ) (from stop
       rw i
       (
       broken-same _ _ _ _ _ _ (rw vertex-count (corners-are (count (child 0x4110 t))))
-      (λ e. ap Refusal.Index (present 0x4120 1 8 (groups .faces) (omega arith) faces-shape (λ a. true≢false (sym (no-faces (count (child 0x4110 t)) a) ∙ e))))
+      (λ e. ap Refusal.Index (present 0x4120 1 8 (groups .faces) (omega arith) faces-counted (λ a. true≢false (sym (no-faces (count (child 0x4110 t)) a) ∙ e))))
       (broken-same _ _ _ _ _ _ (rw vertex-count (pairs-are asMany rule (count (child 0x4110 t))))
-      (λ e. ap Refusal.Count (present 0x4140 2 8 (groups .pairs) (omega arith) pairs-shape (λ a. true≢false (sym (rw a) ∙ e)))) refl))
+      (λ e. ap Refusal.Count (present 0x4140 2 8 (groups .pairs) (omega arith) pairs-counted (λ a. true≢false (sym (rw a) ∙ e)))) refl))
 
 -- ---- at least one: 3D3D in 4D4D, A000 in AFFF, B010 in B002
 

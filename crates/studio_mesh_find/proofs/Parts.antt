@@ -29,6 +29,7 @@ use Rattle.studio_mesh_find.specs.declared.Mapping.{Mapping}
 use Rattle.studio_child.specs.Runs.{Spans}
 use Rattle.studio_mesh_find.specs.Places.{ElementsAre, MappingIs, PlaceIs}
 use Rattle.studio_child.proofs.Runs.{First, own-here, header-here, child-onward, among-onward, first-there, first-nowhere}
+use Rattle.studio_rules.proofs.Rows.{pairs-counted}
 
 -- own data of a known chunk is as long as its shape says
 pub own-exact : (p : Parent) (x : ℕ) (own : List ℕ) (kids rest : Run) (s : List ℕ) (at stop : ℕ) → Spans p (known x own kids rest) s at stop →
@@ -158,10 +159,6 @@ place-there p seen kids s h v fitting na ns vs fs ps a b d =
 
 -- ---- a mapping, by its 4140 at o
 
-pub pairs-counted : shape 0x4140 ≡ counted 8
-unfolding shape rows
-pairs-counted = refl
-
 module _ (p : Parent) (t : Run) (s : List ℕ) (at stop : ℕ) (h : Spans p t s at stop) (o : ℕ) (is : o ≡ offsetOf 0x4140 at t) where
   pub mapping-first : o < stop → (m : ℕ) → m ≡ wordAt s (o + 6) → (n : ℕ) → n ≡ count (child 0x4110 t) → MappingIs t s record { at = o + 8; count = m; pairs = n }
   mapping-first l m f n e =
@@ -172,14 +169,6 @@ module _ (p : Parent) (t : Run) (s : List ℕ) (at stop : ℕ) (h : Spans p t s 
       record { given = counts-nowhere 0x4140 8 pairs-counted p t s at stop h o is l; pairs-are = rw (there-nowhere 0x4140 8 pairs-counted p t s at stop h o is l) }
 
 -- ---- own data by the table
-
-pub vertices-counted : shape 0x4110 ≡ counted 12
-unfolding shape rows
-vertices-counted = refl
-
-pub faces-counted : shape 0x4120 ≡ counted 8
-unfolding shape rows
-faces-counted = refl
 
 pub all-listed : (listed 0x3D3D ≡ true) × (listed 0x4000 ≡ true) × (listed 0x4100 ≡ true) × (listed 0x4110 ≡ true) × (listed 0x4120 ≡ true) × (listed 0x4140 ≡ true)
 unfolding listed rows

@@ -132,7 +132,7 @@ pub fn object_at(file: &[u8], at: usize) -> Object
     }
 }
 
-// The mesh of a number among the objects from at to stop, which are children of 3D3D.
+// The mesh of a number among the objects from `from` to `stop`, which are children of 3D3D.
 fn find_among(file: &[u8], from: usize, stop: usize, mesh: usize) -> Found
     requires { ⌜ SomeObjects (now file) from stop ⌝ }
     ensures { λ r. ⌜ ((p : Parent) (t : Run) (a n : ℕ) → p .id ≡ 0x3D3D → Spans p t (now (file .entry)) from stop → FoundIs (now (file .entry)) (map meshIn (standingOf from a n t)) mesh r) ⌝ }

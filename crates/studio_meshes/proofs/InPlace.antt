@@ -1,27 +1,27 @@
 -- Each mesh stands in the file with its children, and their elements where it is told.
-use mathlib.Core.Path.{_≡_, refl, sym, ap, _∙_}
+use mathlib.Core.Path.{_≡_, refl, ap}
 use mathlib.Core.Bool.{Bool, true, false}
-use mathlib.Core.List.{List, [], _∷_, _++_}
-use Prim.Native.Nat.{ℕ, _+_, _-_, _*_, _≤_, _<_}
-use native.Mathlib.Omega.{arith}
+use mathlib.Core.List.{List, [], _∷_}
+use Prim.Native.Nat.{ℕ, _+_, _-_, _*_}
 use lib.Dec.{eqb, ltb}
-use lib.ListN.{length, drop}
+use lib.ListN.{length}
 use borrow.Author.Tests.{ltb-true, ltb-false}
-use Rattle.shared_words.specs.Bytes.{numbers}
 use Rattle.shared_words.specs.Lists.{All}
 use Rattle.shared_numbers.specs.Numbers.{wordAt}
 use Rattle.studio_rules.specs.Table.{shape, counted}
-use Rattle.studio_rules.specs.OwnData.{count, mappingNumbers}
+use Rattle.studio_rules.specs.OwnData.{count}
 use Rattle.studio_rules.specs.Layout.{Run, end, skip, known, size, child, offsetOf}
-use Rattle.studio_rules.specs.Rules.{Parent, inside, Meets}
+use Rattle.studio_rules.specs.Rules.{Parent, inside}
 use Rattle.studio_rules.specs.Gives.{pairsOf, filledUp}
 use Rattle.studio_meshes_rules.specs.Standing.{Standing, oneStanding, standingOf, standing, elementsAt}
 use Rattle.studio_child.specs.Runs.{Spans}
 use Rattle.studio_child.proofs.Runs.{kids-here, after-skip, after-known}
 use Rattle.studio_child.proofs.Figure.{figureTop, figure-kids}
 use Rattle.studio_mesh_find.specs.Places.{ElementsAre}
-use Rattle.studio_mesh_find.proofs.Parts.{counts-first, counts-nowhere, begins-first, begins-nowhere, vertices-there, pairs-there, corners-there, vertices-counted, faces-counted, pairs-counted}
+use Rattle.studio_mesh_find.proofs.Parts.{counts-first, counts-nowhere, begins-first, begins-nowhere, vertices-there, pairs-there, corners-there}
+use Rattle.studio_rules.proofs.Rows.{vertices-counted, faces-counted, pairs-counted}
 use Rattle.studio_meshes.specs.InPlace.{ReadInPlace, InPlace}
+use Rattle.shared_words.proofs.Lists.{all-append}
 
 -- ---- the elements of a child
 
@@ -46,10 +46,6 @@ module _ (x k : ℕ) (e : shape x ≡ counted k) (p : Parent) (t : Run) (s : Lis
 -- its children stand in the file
 abbrev Stands : List ℕ → Standing → Type 0
 Stands s m = (q : Parent) × (stop : ℕ) × Spans q (m .kids) s (m .at) stop
-
-all-append : {A : Type 0} (P : A → Type 0) (xs ys : List A) → All P xs → All P ys → All P (xs ++ ys)
-all-append P [] ys h k = k
-all-append P (x ∷ xs) ys h k = (h .0, all-append P xs ys (h .1) k)
 
 all-stand : (p : Parent) (t : Run) (s : List ℕ) (at stop a n : ℕ) → Spans p t s at stop → All (Stands s) (standingOf at a n t)
 all-stand p end s at stop a n h = tt

@@ -1,18 +1,14 @@
 -- The meshes where they stand are the meshes.
-use mathlib.Core.Path.{_≡_, refl, sym, ap, _∙_}
+use mathlib.Core.Path.{_≡_, refl}
 use mathlib.Core.Bool.{Bool, true, false}
-use mathlib.Core.List.{List, [], _∷_, _++_, map}
+use mathlib.Core.List.{List, _++_, map, map-append}
 use Prim.Native.Nat.{ℕ, _+_, _-_}
 use lib.Dec.{eqb}
 use lib.ListN.{length}
 use Rattle.studio_rules.specs.Layout.{Run, end, skip, known, figure, size}
-use Rattle.studio_rules.specs.Gives.{Mesh, oneMesh, meshesOf}
+use Rattle.studio_rules.specs.Gives.{oneMesh, meshesOf}
 use Rattle.studio_meshes_rules.specs.Standing.{Standing, meshIn, oneStanding, standingOf}
 use Rattle.studio_meshes_rules.specs.Theorems.{SameMeshes}
-
-map-append : (xs ys : List Standing) → map meshIn (xs ++ ys) ≡ map meshIn xs ++ map meshIn ys
-map-append [] ys = refl
-map-append (x ∷ xs) ys = ap (λ (l : List Mesh). meshIn x ∷ l) (map-append xs ys)
 
 one-same : (b : Bool) (m : Standing) → oneMesh b (meshIn m) ≡ map meshIn (oneStanding b m)
 one-same true m = refl
@@ -29,8 +25,8 @@ run-same o a n (known id own kids rest) =
       one-same (eqb id 0x4100) one,
       run-same (o + (6 + length own)) (o + 6) (length own - 1) kids,
       run-same (o + (6 + length own + size kids)) a n rest,
-      map-append (oneStanding (eqb id 0x4100) one) (below ++ behind),
-      map-append below behind,
+      map-append meshIn (oneStanding (eqb id 0x4100) one) (below ++ behind),
+      map-append meshIn below behind,
     )
 
 pub same-meshes : SameMeshes

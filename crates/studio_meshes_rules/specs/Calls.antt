@@ -6,7 +6,7 @@ use Rattle.shared_words.specs.Effects.{Effect}
 use Rattle.shared_words.specs.Encodings.{Encoding}
 use Rattle.studio_rules.specs.declared.Counted.{Counted}
 use Rattle.studio_rules.specs.Walk.{verdict}
-use Rattle.studio_counted.specs.All.{allOf}
+use Rattle.studio_rules.specs.Calls.{allOf}
 use Rattle.studio_meshes_rules.specs.Standing.{Standing, standing, flatMeshes}
 
 -- eight numbers each, four bytes a number

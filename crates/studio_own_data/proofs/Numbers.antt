@@ -1,6 +1,6 @@
 -- The lists of numbers in own data, and where they stand in the file.
-use mathlib.Core.Path.{_≡_, refl, sym, ap, _∙_}
-use mathlib.Core.Bool.{Bool, true, false, _&&_, _||_}
+use mathlib.Core.Path.{_≡_, sym, ap, _∙_}
+use mathlib.Core.Bool.{true, _||_, and-true}
 use mathlib.Core.List.{List}
 use Prim.Native.Nat.{ℕ, _+_, _-_, _*_, _≤_, _<_}
 use native.Mathlib.Omega.{arith}
@@ -20,10 +20,6 @@ use Rattle.studio_scan.proofs.Parts.{numbers-slice}
 use Rattle.studio_own_data.specs.Bounds.{BoundIs}
 use Rattle.studio_own_data.specs.Judges.{Exact}
 use Rattle.studio_own_data.proofs.Bounds.{count-around, below-order}
-
-and-true : (b : Bool) → (b && true) ≡ b
-and-true true = refl
-and-true false = refl
 
 different : _≡_ {A = ℕ} 0x4130 0xB010 → ⊥
 different e = omega arith

@@ -16,6 +16,7 @@ pub enum Own {
     Size(usize),
 }
 
+// So many bytes, where there is room for them.
 pub fn fitting(size: usize, room: usize) -> Own
     ensures { λ r. ⌜ Fitted size room r ⌝ }
 {

@@ -28,7 +28,7 @@ use Rattle.studio_rescue_rules.proofs.File.{MendedFile, file-mended}
 use Rattle.studio_rescue_rules.proofs.Back.{damaged, result, old-length, len-lowered, sizes, body-is, sifted-is}
 use Rattle.studio_rescue_around.specs.declared.Outside.{Outside}
 use Rattle.studio_rescue_around.specs.Around.{outsideOf}
-use Rattle.studio_rescue.specs.Parts.{twoRows, frontOf, PutIs}
+use Rattle.studio_rescue.specs.Parts.{rescueRows, frontOf, PutIs}
 
 pub front-length : (s : List ℕ) (at n m : ℕ) → 6 ≤ at → at + 6 ≤ length s → length (frontOf s at n m) ≡ at + 6
 front-length s at n m h l =
@@ -166,28 +166,28 @@ module _ (s : List ℕ) (b : Bytes s) (at stop : ℕ) (g : Found s at stop) wher
 
     -- what the code put is that
     pub rows-are : (cuts cuts′ out out′ : List ℕ) → PutIs s at stop lost (sift (versionOf s) (at + 6) (slice (at + 6) stop s)) cuts cuts′ out out′ →
-        twoRows cuts′ out′ ≡ twoRows (filled (packed 4 (flat (after .cuts))) cuts) (filled (bytes (figure (g .kids))) out)
+        rescueRows cuts′ out′ ≡ rescueRows (filled (packed 4 (flat (after .cuts))) cuts) (filled (bytes (figure (g .kids))) out)
     rows-are cuts cuts′ out out′ p =
-        ap (λ (y : List ℕ). twoRows y out′) (p .cuts-are) ∙
-        ap (twoRows (filled (packed 4 (flat (after .cuts))) cuts)) (p .out-is ∙ ap (λ (y : List ℕ). filled y out) (sym by-parts))
+        ap (λ (y : List ℕ). rescueRows y out′) (p .cuts-are) ∙
+        ap (rescueRows (filled (packed 4 (flat (after .cuts))) cuts)) (p .out-is ∙ ap (λ (y : List ℕ). filled y out) (sym by-parts))
 
 -- ---- the call
 
 module _ (s cuts out : List ℕ) where
-  pub call-beyond : (r : Refusal) → mended s ≡ refused r → rescueCall cutBytes s (twoRows cuts out) ≡ leaving (Mended.Refused r) (twoRows cuts out)
+  pub call-beyond : (r : Refusal) → mended s ≡ refused r → rescueCall cutBytes s (rescueRows cuts out) ≡ leaving (Mended.Refused r) (rescueRows cuts out)
   unfolding rescueCall rescue
   call-beyond r e = rw e
 
   module _ (s′ : List ℕ) (cs : List Cut) (e : rescue s ≡ saved s′ cs) (n k : ℕ) (n-is : n ≡ length cs) (k-is : length s′ ≡ k) where
-    pub few-cuts : length cuts / 12 < n → rescueCall cutBytes s (twoRows cuts out) ≡ leaving (Mended.Refused (NoRoom n)) (twoRows cuts out)
+    pub few-cuts : length cuts / 12 < n → rescueCall cutBytes s (rescueRows cuts out) ≡ leaving (Mended.Refused (NoRoom n)) (rescueRows cuts out)
     unfolding rescueCall
     few-cuts h = rw (e, n-is, lt-leb (length cs) (length cuts / 12) (omega arith))
 
     module _ (room : n ≤ length cuts / 12) where
-      pub few-bytes : length out < k → rescueCall cutBytes s (twoRows cuts out) ≡ leaving (Mended.Refused (NoRoom k)) (twoRows cuts out)
+      pub few-bytes : length out < k → rescueCall cutBytes s (rescueRows cuts out) ≡ leaving (Mended.Refused (NoRoom k)) (rescueRows cuts out)
       unfolding rescueCall
       few-bytes h = rw (e, ← k-is, le-leb (length cs) (length cuts / 12) (omega arith), lt-leb (length s′) (length out) (omega arith))
 
-      pub both-filled : k ≤ length out → rescueCall cutBytes s (twoRows cuts out) ≡ leaving (Mended.Written n k) (twoRows (filled (packed 4 (flat cs)) cuts) (filled s′ out))
+      pub both-filled : k ≤ length out → rescueCall cutBytes s (rescueRows cuts out) ≡ leaving (Mended.Written n k) (rescueRows (filled (packed 4 (flat cs)) cuts) (filled s′ out))
       unfolding rescueCall
       both-filled h = rw (e, n-is, ← k-is, le-leb (length cs) (length cuts / 12) (omega arith), le-leb (length s′) (length out) (omega arith))

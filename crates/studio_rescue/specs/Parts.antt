@@ -12,8 +12,9 @@ use Rattle.studio_lookup.specs.Slots.{slots}
 use Rattle.studio_rescue_rules.specs.Rescue.{Sifted, sift, gone}
 use Rattle.studio_rescue_rules.specs.Call.{Lent, flat}
 
-abbrev pub twoRows : {A : Type 0} → List A → List ℕ → Lent A
-twoRows cuts out = record { cuts = cuts; out = out }
+-- the two lent rows, for the cuts and for the mended file
+abbrev pub rescueRows : {A : Type 0} → List A → List ℕ → Lent A
+rescueRows cuts out = record { cuts = cuts; out = out }
 
 -- what stands before the children of 3D3D, at `at` in the file s, with other lengths
 abbrev pub frontOf : List ℕ → ℕ → ℕ → ℕ → List ℕ

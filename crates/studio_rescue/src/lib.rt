@@ -12,7 +12,7 @@ ghost use lib.Seq.{slice};
 ghost use Rattle.shared_numbers.specs.Put.{Put};
 ghost use Rattle.studio_rescue_rules.specs.Rescue.{sift};
 ghost use Rattle.studio_rescue_rules.specs.Call.{cutBytes, rescueCall};
-ghost use Rattle.studio_rescue.specs.Parts.{frontOf, Ready, PutIs, twoRows};
+ghost use Rattle.studio_rescue.specs.Parts.{frontOf, Ready, PutIs, rescueRows};
 
 // What stands before the children of 3D3D, which stands at at: all as it was but the two lengths. Answers the position behind it.
 fn put_front(file: &[u8], at: usize, size: usize, len: usize, out: &mut [u8]) -> usize
@@ -49,8 +49,8 @@ fn put_file(
 // The rescue of a file: each child of 3D3D that fails is cut, and the rest written. Answers how many cuts there are and how many
 // bytes the mended file has, or the refusal; a refusal leaves both rows as they were.
 pub fn rescue(file: &[u8], cuts: &mut [u8], out: &mut [u8]) -> Mended
-    ensures answer { λ r. ⌜ r ≡ rescueCall cutBytes (now (file .entry)) (twoRows (now (cuts .entry)) (now (out .entry))) .answer ⌝ }
-    ensures rows { λ _. ⌜ twoRows (now (cuts .exit)) (now (out .exit)) ≡ rescueCall cutBytes (now (file .entry)) (twoRows (now (cuts .entry)) (now (out .entry))) .rows ⌝ }
+    ensures answer { λ r. ⌜ r ≡ rescueCall cutBytes (now (file .entry)) (rescueRows (now (cuts .entry)) (now (out .entry))) .answer ⌝ }
+    ensures rows { λ _. ⌜ rescueRows (now (cuts .exit)) (now (out .exit)) ≡ rescueCall cutBytes (now (file .entry)) (rescueRows (now (cuts .entry)) (now (out .entry))) .rows ⌝ }
 {
     match studio_rescue_around::around(file) {
         Outside::Beyond(r) => Mended::Refused(r),

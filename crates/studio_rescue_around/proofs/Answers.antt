@@ -18,8 +18,7 @@ use Rattle.shared_words.proofs.Bools.{both, and-parts}
 use Rattle.shared_words.proofs.Conditions.{unbroken, broken-here}
 use Rattle.shared_numbers.proofs.Slices.{drop-take}
 use Rattle.studio_rules.specs.Table.{rows, listed, shape, plus, under, limits, atMostOne, needs, atLeastOne}
-use Rattle.studio_rules.specs.Layout.{Run, end, skip, known, size, identifiers, offsetOf}
-use Rattle.studio_rules.specs.Readings.{_then_}
+use Rattle.studio_rules.specs.Layout.{Run, end, skip, known, size, identifiers, offsetOf, _then_}
 use Rattle.studio_rules.specs.Rules.{tally, few, noneMissing}
 use Rattle.studio_rules.specs.Walk.{headerConditions, childConditions, lengthField, enter, sorted, step, ended, withKnown, walk, top}
 use Rattle.studio_scene.specs.Passed.{passed}

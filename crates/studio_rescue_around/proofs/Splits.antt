@@ -16,8 +16,7 @@ use Rattle.shared_words.proofs.Conditions.{met, unbroken}
 use Rattle.shared_numbers.proofs.Slices.{drop-take, front-slice}
 use Rattle.studio_rules.specs.Table.{listed, shape}
 use Rattle.studio_rules.specs.OwnData.{ownSize}
-use Rattle.studio_rules.specs.Layout.{Run, end, skip, known, identifiers}
-use Rattle.studio_rules.specs.Readings.{_then_}
+use Rattle.studio_rules.specs.Layout.{Run, end, skip, known, identifiers, _then_}
 use Rattle.studio_rules.specs.Rules.{Parent, inside, tally}
 use Rattle.studio_rules.specs.Walk.{headerConditions, childConditions, lengthField, Step, stop, pass, enter, opened, sorted, step, ended, withSkip, withKnown, taken, walk, top}
 use Rattle.studio_rules.proofs.Fuel.{walk-nil, walk-cons}
@@ -26,6 +25,7 @@ use Rattle.studio_rescue_rules.specs.Rescue.{mendStep, mend}
 use Rattle.studio_rescue_rules.proofs.Fuel.{mend-cons}
 use Rattle.studio_rescue_around.specs.Around.{aheadBy, ahead}
 use Rattle.studio_rescue_around.proofs.Ahead.{ahead-next}
+use Rattle.studio_rules.proofs.Steps.{step-stops}
 
 -- ---- an answer behind what was read
 
@@ -175,10 +175,6 @@ pub record Reached (v : ℕ) (seen : List ℕ) (o : ℕ) (s : List ℕ) (m : ℕ
   pub within : m ≤ length s
   pub there : Stands3D3D o s m
 
-stops : (p : Parent) (seen : List ℕ) (o : ℕ) (s : List ℕ) (r : Refusal) → broken (headerConditions o s (lengthField s)) ≡ some r → step p seen o s ≡ stop r
-unfolding step
-stops p seen o s r e = rw e
-
 ahead-nil : (o : ℕ) → ahead o [] ≡ 0
 unfolding broken
 ahead-nil o = ahead-next o []
@@ -191,7 +187,7 @@ module _ (v : ℕ) where
 
   all-ahead : (seen : List ℕ) (o : ℕ) (s : List ℕ) → 0 < length s → (r : Refusal) → broken (headerConditions o s (lengthField s)) ≡ some r → Split v seen o s (length s)
   all-ahead seen o s h r e =
-      let x : step (top v) seen o s ≡ stop r = stops (top v) seen o s r e in
+      let x : step (top v) seen o s ≡ stop r = step-stops (top v) seen o s r e in
       let w : walk (top v) seen o (take (length s) s) ≡ refused r = ap (walk (top v) seen o) (take-length s) ∙ walk-step (top v) seen o s h ∙ ap (taken walk (top v) seen o) x in
       record { splits = rw w (mend-step v seen o s h ∙ ap (mendStep v (mend v) seen o) x); lacks = rw w tt }
 

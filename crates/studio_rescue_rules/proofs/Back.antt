@@ -7,13 +7,13 @@ use lib.ListN.{length, take, drop, length-append, length-drop}
 use lib.Seq.{take-at, drop-at, take-append-add, drop-append-add}
 use Rattle.shared_words.specs.Bytes.{le}
 use Rattle.shared_words.specs.Lists.{All}
-use Rattle.studio_rules.specs.Layout.{Run, known, figure, header, size, bytes, offsetOf}
+use Rattle.studio_rules.specs.Layout.{Run, known, figure, header, size, bytes, offsetOf, withLength}
 use Rattle.studio_rules.specs.Walk.{lengthField}
 use Rattle.shared_words.proofs.Bytes.{value-le}
 use Rattle.studio_rules.proofs.Sound.{length-bytes}
 use Rattle.studio_rules.proofs.Verdict.{length-figure}
-use Rattle.studio_scene.proofs.Then.{bytes-then}
-use Rattle.studio_rescue_rules.specs.Rescue.{versionOf, Cut, sift, siftedAt, gone, putIn, withLength, putBack}
+use Rattle.studio_rules.proofs.Then.{bytes-then}
+use Rattle.studio_rescue_rules.specs.Rescue.{versionOf, Cut, sift, siftedAt, gone, putIn, putBack}
 use Rattle.studio_rescue_rules.specs.Theorems.{Restored, Failed}
 use Rattle.studio_rescue_rules.proofs.Sift.{sift-says}
 use Rattle.studio_rescue_rules.proofs.Mend.{Torn}

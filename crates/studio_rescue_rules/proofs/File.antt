@@ -18,7 +18,8 @@ use Rattle.shared_words.proofs.Conditions.{met}
 use Rattle.studio_rules.proofs.Sound.{length-bytes, Closed, Closes, ended-closes}
 use Rattle.studio_rules.proofs.Verdict.{top-own, top-plus, length-figure}
 use Rattle.studio_rules.proofs.Version.{version-of-bytes}
-use Rattle.studio_scene.proofs.Then.{size-then, bytes-then, obeys-parts}
+use Rattle.studio_scene.proofs.Then.{obeys-parts}
+use Rattle.studio_rules.proofs.Then.{size-then, bytes-then}
 use Rattle.studio_scene.proofs.Holds.{one-there}
 use Rattle.studio_rescue_rules.specs.Rescue.{versionOf, Cut, sift, mend, mended, gone}
 use Rattle.studio_rescue_rules.proofs.Version.{scene-same}

@@ -12,25 +12,25 @@ use lib.ListN.{length, drop, length-drop}
 use borrow.Author.Tests.{eqb-true, leb-true}
 use Rattle.shared_words.specs.declared.Refusal.{Refusal}
 use Rattle.shared_words.specs.Bytes.{Bytes}
-use Rattle.studio_rules.specs.Layout.{Run, end, skip, known, header, size, bytes, offsetOf}
-use Rattle.studio_rules.specs.Readings.{_then_}
+use Rattle.studio_rules.specs.Layout.{Run, end, skip, known, header, size, bytes, offsetOf, _then_}
 use Rattle.studio_rules.specs.Rules.{Parent, inside, tally, limit, Obeys}
 use Rattle.shared_words.specs.Conditions.{broken, Answer, refused, accepted}
 use Rattle.studio_rules.specs.Walk.{fileConditions, lengthField, Step, stop, pass, enter, step, ended, withSkip, withKnown, taken, walk, top, verdict}
 use Rattle.shared_words.proofs.Bytes.{bytes-drop}
 use Rattle.shared_words.proofs.Conditions.{met}
 use Rattle.studio_rules.proofs.Steps.{Says, Passed, Entered, step-says}
-use Rattle.studio_rules.proofs.Sound.{length-bytes, Tells, Closes, ended-closes}
+use Rattle.studio_rules.proofs.Sound.{length-bytes, Tells, Closes, ended-closes, walk-tells}
 use Rattle.studio_rules.proofs.Verdict.{top-plus}
 use Rattle.studio_rules.proofs.Complete.{ended-good}
 use Rattle.studio_rules.proofs.Fuel.{walk-nil, walk-cons, Shorter, step-short}
 use Rattle.studio_scene.specs.Passed.{passed}
 use Rattle.studio_scene.specs.Scene.{holding, fileOf}
-use Rattle.studio_scene.proofs.Then.{then-assoc, size-then, bytes-then, obeys-join}
+use Rattle.studio_scene.proofs.Then.{obeys-join}
+use Rattle.studio_rules.proofs.Then.{then-assoc, size-then, bytes-then}
 use Rattle.studio_scene.proofs.Holds.{own-none, none-missing}
 use Rattle.studio_rescue_rules.specs.Rescue.{versionOf, scene, Sifted, sift, around, mendStep, mend, mended, Cut, siftedAt, beyond, saved, rescue}
 use Rattle.studio_rescue_rules.specs.Theorems.{FaultInScene, FirstFault}
-use Rattle.studio_rescue_rules.proofs.Mend.{walks, lawful, ends-well}
+use Rattle.studio_rescue_rules.proofs.Mend.{lawful, ends-well}
 use Rattle.studio_rescue_rules.proofs.Outside.{first-scene}
 use Rattle.studio_rescue_rules.proofs.Kept.{sift-good}
 use Rattle.studio_rescue_rules.proofs.Fuel.{mend-nil, mend-cons}
@@ -129,14 +129,14 @@ enter-agrees v seen o s id own kids rest g l ih true e =
     let z : own ≡ [] = own-none v own (g₁ .lawful .own-data-exact) in
     let g₂ : Entered (top v) seen s 0x3D3D [] kids rest = rw z at g₁ in
     let n : tally (0x3D3D ∷ []) seen ≡ 0 = first-scene v seen [] (g₂ .lawful) in
-    rw (i, z, n) (scene-agrees v seen o s kids rest g₂ l (walk (scene v) [] (o + 6) kids) (walks (scene v) [] (o + 6) kids (g .kids-bytes)) refl
+    rw (i, z, n) (scene-agrees v seen o s kids rest g₂ l (walk (scene v) [] (o + 6) kids) (walk-tells (scene v) [] (o + 6) kids (g .kids-bytes)) refl
     (walk (top v) (0x3D3D ∷ seen) (o + (6 + length kids)) rest) refl)
 enter-agrees v seen o s id own kids rest g l ih false e =
     let q : Parent = inside (top v) seen id own in
     let o₁ : ℕ = o + (6 + length own) in
     let o₂ : ℕ = o + (6 + length own + length kids) in
     known-agrees v seen o s id own kids rest g
-    (ended q o (walk q [] o₁ kids)) (ended-closes q o kids (walk q [] o₁ kids) (walks q [] o₁ kids (g .kids-bytes)))
+    (ended q o (walk q [] o₁ kids)) (ended-closes q o kids (walk q [] o₁ kids) (walk-tells q [] o₁ kids (g .kids-bytes)))
     (walk (top v) (id ∷ seen) o₂ rest) (mend v (id ∷ seen) o₂ rest) ih
 
 step-agrees : (v : ℕ) (seen : List ℕ) (o : ℕ) (s : List ℕ) → length s < 2 ^ 32 → Agrees v (length s) → (x : Step) → Says (top v) seen s x → Shorter (length s) x →

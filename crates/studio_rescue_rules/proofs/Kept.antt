@@ -15,7 +15,7 @@ use Rattle.shared_words.proofs.Bytes.{value-le}
 use Rattle.shared_words.proofs.Conditions.{unbroken}
 use Rattle.studio_rules.proofs.Sound.{length-bytes}
 use Rattle.studio_rules.proofs.Complete.{run-complete}
-use Rattle.studio_scene.proofs.Then.{bytes-then}
+use Rattle.studio_rules.proofs.Then.{bytes-then}
 use Rattle.studio_scene.proofs.Children.{obeys-anywhere}
 use Rattle.studio_rescue_rules.specs.Rescue.{scene, Sifted, judged, sifted, siftRun, sift}
 

@@ -9,17 +9,16 @@ use lib.ListN.{length}
 use borrow.Author.Tests.{eqb-true}
 use Rattle.shared_words.specs.Bytes.{Bytes}
 use Rattle.studio_rules.specs.Table.{plus}
-use Rattle.studio_rules.specs.Layout.{Run, end, skip, known, header, size, bytes, identifiers, offsetOf}
-use Rattle.studio_rules.specs.Readings.{_then_}
+use Rattle.studio_rules.specs.Layout.{Run, end, skip, known, header, size, bytes, identifiers, offsetOf, _then_}
 use Rattle.studio_rules.specs.Rules.{Parent, inside, tally, noChild, Children, Obeys}
 use Rattle.studio_rules.specs.Walk.{Step, stop, pass, enter, step, ended, withSkip, withKnown, walk, top}
 use Rattle.shared_words.specs.Conditions.{Answer, refused, accepted}
 use Rattle.shared_words.proofs.Bools.{or-else}
 use Rattle.studio_rules.proofs.Steps.{Says, Passed, Entered, step-says}
-use Rattle.studio_rules.proofs.Sound.{length-bytes, Tells, Closed, Closes, ended-closes, no-child, run-tells}
+use Rattle.studio_rules.proofs.Sound.{length-bytes, Tells, Closed, Closes, ended-closes, no-child, walk-tells}
 use Rattle.studio_rules.proofs.Complete.{ended-good}
 use Rattle.studio_scene.specs.Scene.{holding}
-use Rattle.studio_scene.proofs.Then.{then-assoc, size-then, bytes-then}
+use Rattle.studio_rules.proofs.Then.{then-assoc, size-then, bytes-then}
 use Rattle.studio_scene.proofs.Children.{scene-children}
 use Rattle.studio_scene.proofs.Holds.{own-none}
 use Rattle.studio_rescue_rules.specs.Rescue.{scene, sift, around, mendStep, mendRun}
@@ -130,10 +129,6 @@ module _ (v : ℕ) where
 
 -- ---- the run
 
-pub walks : (p : Parent) (seen : List ℕ) (o : ℕ) (s : List ℕ) → Bytes s → Tells p seen s (walk p seen o s)
-unfolding walk
-walks p seen o s = run-tells (suc (length s)) p seen o s
-
 module _ (v : ℕ) where
   abbrev Mending : (List ℕ → ℕ → List ℕ → Answer Run) → Type 0
   Mending go = (seen : List ℕ) (o : ℕ) (s : List ℕ) → Bytes s → Mends v seen o s (go seen o s)
@@ -146,13 +141,13 @@ module _ (v : ℕ) where
       let z : own ≡ [] = own-none v own (g₁ .lawful .own-data-exact) in
       let g₂ : Entered (top v) seen s 0x3D3D [] kids rest = rw z at g₁ in
       let o₂ : ℕ = o + (6 + length kids) in
-      rw (i, z) (scene-mends v seen o s kids rest g₂ (walk (top v) (0x3D3D ∷ seen) o₂ rest) (walks (top v) (0x3D3D ∷ seen) o₂ rest (g₂ .rest-bytes)))
+      rw (i, z) (scene-mends v seen o s kids rest g₂ (walk (top v) (0x3D3D ∷ seen) o₂ rest) (walk-tells (top v) (0x3D3D ∷ seen) o₂ rest (g₂ .rest-bytes)))
   around-mends go w seen o s id own kids rest g false e =
       let q : Parent = inside (top v) seen id own in
       let o₁ : ℕ = o + (6 + length own) in
       let o₂ : ℕ = o + (6 + length own + length kids) in
       known-mends v seen o s id own kids rest g e
-      (ended q o (walk q [] o₁ kids)) (ended-closes q o kids (walk q [] o₁ kids) (walks q [] o₁ kids (g .kids-bytes)))
+      (ended q o (walk q [] o₁ kids)) (ended-closes q o kids (walk q [] o₁ kids) (walk-tells q [] o₁ kids (g .kids-bytes)))
       (go (id ∷ seen) o₂ rest) (w (id ∷ seen) o₂ rest (g .rest-bytes))
 
   step-mends : (go : List ℕ → ℕ → List ℕ → Answer Run) → Mending go → (seen : List ℕ) (o : ℕ) (s : List ℕ) →

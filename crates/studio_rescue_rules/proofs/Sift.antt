@@ -10,8 +10,7 @@ use borrow.Author.Tests.{leb-true}
 use Rattle.shared_words.specs.declared.Refusal.{Refusal}
 use Rattle.shared_words.specs.Lists.{All}
 use Rattle.shared_words.specs.Bytes.{Bytes}
-use Rattle.studio_rules.specs.Layout.{Run, size, bytes}
-use Rattle.studio_rules.specs.Readings.{_then_}
+use Rattle.studio_rules.specs.Layout.{Run, size, bytes, _then_}
 use Rattle.studio_rules.specs.Rules.{Obeys}
 use Rattle.shared_words.specs.Conditions.{broken, Answer, refused, accepted}
 use Rattle.studio_rules.specs.Walk.{headerConditions, lengthField, step, walk}
@@ -19,7 +18,7 @@ use Rattle.shared_words.proofs.Bytes.{bytes-take, bytes-drop}
 use Rattle.shared_words.proofs.Conditions.{met}
 use Rattle.studio_rules.proofs.Sound.{length-bytes, Tells, run-tells}
 use Rattle.studio_rules.proofs.Fuel.{walk-cons}
-use Rattle.studio_scene.proofs.Then.{size-then, bytes-then}
+use Rattle.studio_rules.proofs.Then.{size-then, bytes-then}
 use Rattle.studio_scene.proofs.Children.{scene-join}
 use Rattle.studio_rescue_rules.specs.Theorems.{Failed}
 use Rattle.studio_rescue_rules.specs.Rescue.{scene, cut, Sifted, nothing, cutting, judged, sifted, siftRun, sift, gone, putIn}

@@ -9,9 +9,7 @@ use lib.ListN.{length, take, drop}
 use Rattle.shared_words.specs.declared.Refusal.{Refusal}
 use Rattle.shared_words.specs.declared.Refusal.the-variants.{TooLong}
 use Rattle.shared_words.specs.Refusals.{numberOf}
-use Rattle.shared_words.specs.Bytes.{le}
-use Rattle.studio_rules.specs.Layout.{Run, end, figure, bytes, offsetOf}
-use Rattle.studio_rules.specs.Readings.{_then_}
+use Rattle.studio_rules.specs.Layout.{Run, end, _then_, figure, bytes, withLength, offsetOf}
 use Rattle.studio_rules.specs.Rules.{Parent, inside}
 use Rattle.shared_words.specs.Conditions.{broken, Answer, refused, accepted, unless}
 use Rattle.studio_rules.specs.Walk.{fileConditions, headerConditions, lengthField, Step, stop, pass, enter, step, ended, withSkip, withKnown, walk, versionIn, top}
@@ -127,10 +125,6 @@ gone (c ∷ cs) = length (c .piece) + gone cs
 abbrev pub putIn : List Cut → List ℕ → List ℕ
 putIn [] s = s
 putIn (c ∷ cs) s = putIn cs (take (c .at) s ++ (c .piece ++ drop (c .at) s))
-
--- n in the length field of the chunk at o
-abbrev pub withLength : ℕ → ℕ → List ℕ → List ℕ
-withLength o n s = take (o + 2) s ++ (le 4 n ++ drop (o + 6) s)
 
 -- the cuts put back, and the lengths n of 4D4D and m of 3D3D, which stands at e
 abbrev pub putBack : ℕ → ℕ → ℕ → List Cut → List ℕ → List ℕ

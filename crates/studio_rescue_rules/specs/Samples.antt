@@ -3,8 +3,8 @@ use mathlib.Core.Path.{_≡_}
 use Prim.Native.Nat.{ℕ}
 use mathlib.Core.List.{List, [], _∷_, _++_, map}
 use Rattle.shared_words.specs.Refusals.{codeOf}
-use Rattle.studio_rules.specs.Layout.{Run, end, skip, figure, bytes}
-use Rattle.studio_rules.specs.Readings.{_then_, plain, scene, mesh, vertex, face, pairs, told}
+use Rattle.studio_rules.specs.Layout.{Run, end, skip, figure, bytes, _then_}
+use Rattle.studio_rules.specs.Readings.{plain, scene, mesh, vertex, face, pairs, told}
 use Rattle.studio_rescue_rules.specs.Rescue.{Rescued, beyond, saved, rescue}
 use Rattle.studio_rescue_rules.specs.Call.{flat}
 

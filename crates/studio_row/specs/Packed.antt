@@ -1,11 +1,11 @@
 -- The table as numbers: how a row of crate studio_rules is packed into one, and the fields that code reads from it. (That these
 -- say what the row says is proved in proofs/Facts.)
 use mathlib.Core.Path.{_≡_}
-use mathlib.Core.Bool.{Bool, true, false, not, _&&_, cond}
+use mathlib.Core.Bool.{Bool, cond}
 use mathlib.Core.List.{List, [], _∷_}
 use Prim.Native.Nat.{ℕ, zero, suc, _+_, _*_, _/_, _%_, _^_, _<_}
 use lib.Dec.{eqb}
-use Rattle.shared_words.specs.Lists.{among}
+use Rattle.shared_words.specs.Lists.{among, same}
 use Rattle.studio_rules.specs.Table.{Row, Shape, fixed, name, counted, each, named-words, named, theFile, rows, rowOf as tableRow, limits}
 
 -- ---- place and holds
@@ -27,16 +27,10 @@ places =
     (0xB000 ∷ []) ∷
     (0xB002 ∷ []) ∷ []
 
-abbrev sameSet : List ℕ → List ℕ → Bool
-sameSet [] [] = true
-sameSet [] (y ∷ ys) = false
-sameSet (x ∷ xs) [] = false
-sameSet (x ∷ xs) (y ∷ ys) = eqb x y && sameSet xs ys
-
 -- the number of a set among some, of which the first is place k
 abbrev placeFrom : ℕ → List ℕ → List (List ℕ) → ℕ
 placeFrom k parents [] = 0
-placeFrom k parents (s ∷ ss) = cond (sameSet parents s) k (placeFrom (k + 1) parents ss)
+placeFrom k parents (s ∷ ss) = cond (same parents s) k (placeFrom (k + 1) parents ss)
 
 -- bit k is set where x is in place k
 abbrev holdsFrom : ℕ → ℕ → List (List ℕ) → ℕ

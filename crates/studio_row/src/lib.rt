@@ -10,18 +10,21 @@ pub fn may_hold(parent: u64, row: u64) -> bool
     (parent / 16 >> row % 16) % 2 == 1
 }
 
+// The slot of "at most one" in which a chunk of this row is noted: 0 to 4, or 5 for one of no group.
 pub fn slot(row: u64) -> usize
     ensures { λ r. ⌜ Slot row r ⌝ }
 {
     (row / 1048576 % 16) as usize
 }
 
+// The shape of own data, as a number (`kindOf` in specs/Packed).
 pub fn kind(row: u64) -> u64
     ensures { λ r. ⌜ r ≡ kindIn row ⌝ }
 {
     row / 16777216 % 16
 }
 
+// Whether the row ends in "+".
 pub fn may_have_children(row: u64) -> bool
     ensures { λ r. ⌜ r ≡ plusIn row ⌝ }
 {
@@ -35,6 +38,7 @@ pub fn is_plain(row: u64) -> bool
     row / 16777216 % 256 == 0
 }
 
+// The bytes of own data: all of it, or those of one element.
 pub fn size(row: u64) -> usize
     ensures { λ r. ⌜ Size row r ⌝ }
 {

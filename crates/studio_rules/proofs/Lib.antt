@@ -1,3 +1,5 @@
+pub mod Then
+pub mod SixEach
 pub mod Headers
 pub mod Corners
 pub mod Children

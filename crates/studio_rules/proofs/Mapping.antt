@@ -4,7 +4,7 @@ use mathlib.Core.Logic.{_⊎_, inl, inr}
 use Prim.Native.Nat.{ℕ, _+_, _-_, _*_, _≤_}
 use native.Mathlib.Omega.{arith}
 use mathlib.Core.Bool.{Bool, true, false, not, _||_, cond}
-use mathlib.Core.List.{List, [], _∷_, _++_}
+use mathlib.Core.List.{List, [], _∷_}
 use lib.ListN.{length, drop, replicate, length-append, length-replicate}
 use lib.Dec.{eqb, leb}
 use borrow.Author.Tests.{eqb-true, leb-true}
@@ -16,6 +16,7 @@ use Rattle.studio_rules.specs.Gives.{Mesh, pairsOf, filledUp, meshOf, on
 use Rattle.studio_rules.specs.Theorems.{Whole, MappingWhole}
 use Rattle.shared_words.proofs.Numbers.{length-numbers}
 use Rattle.studio_rules.proofs.Children.{child-none}
+use Rattle.shared_words.proofs.Lists.{all-append}
 
 -- in a file of any version there are at most n pairs
 pub pairs-at-most : (v m n : ℕ) → pairsFit v m n ≡ true → m ≤ n
@@ -52,10 +53,6 @@ mesh-whole : (v at l : ℕ) (kids : Run) → Fitting v kids → Whole (meshOf at
 mesh-whole v at l kids h =
     let given : length (mappingNumbers (child 0x4140 kids)) ≡ 2 * count (child 0x4140 kids) = length-numbers 4 (2 * count (child 0x4140 kids)) (drop 2 (child 0x4140 kids)) in
     record { all-or-none = pairs-all-or-none kids; two-each = length-filled-up (2 * pairsOf kids) (mappingNumbers (child 0x4140 kids)) (omega (arith, given-at-most v kids h)) }
-
-all-append : {A : Type 0} (P : A → Type 0) (xs ys : List A) → All P xs → All P ys → All P (xs ++ ys)
-all-append P [] ys h k = k
-all-append P (x ∷ xs) ys h k = (h .0, all-append P xs ys (h .1) k)
 
 one-whole : (b : Bool) (m : Mesh) → (b ≡ true → Whole m) → All Whole (oneMesh b m)
 one-whole true m h = (h refl, tt)

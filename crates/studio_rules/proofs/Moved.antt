@@ -4,20 +4,16 @@ use mathlib.Core.Path.{_≡_, refl}
 use Prim.Native.Nat.{ℕ, suc, _+_, _-_}
 use native.Mathlib.Omega.{arith}
 use mathlib.Core.Bool.{Bool, true, false}
-use mathlib.Core.List.{List, [], _∷_, _++_}
+use mathlib.Core.List.{List}
 use lib.ListN.{length}
 use lib.Dec.{eqb}
 use Rattle.studio_rules.specs.Layout.{size}
 use Rattle.studio_rules.specs.Gives.{recordCount, recordsOf, meshOf, oneMesh, meshesOf}
-use Rattle.studio_rules.specs.Gaps.{Marked, end, put, skip, known, without, with, Piece, before, Moved, SameMesh, Pairwise}
+use Rattle.studio_rules.specs.Gaps.{Marked, end, put, skip, known, without, with, Piece, before, Moved, SameMesh}
+use Rattle.shared_words.specs.Lists.{Pairwise}
 use Rattle.studio_rules.proofs.Gaps.{added, size-grows, record-count-same, child-same, pairs-same, mapping-same}
 use Rattle.studio_rules.proofs.Pieces.{Holds, holds-put, holds-skip, holds-kids, holds-rest, before-here, inside-here}
-
-pairwise-append : {A : Type 0} (R : A → A → Type 0) (xs ys us vs : List A) → Pairwise R xs us → Pairwise R ys vs → Pairwise R (xs ++ ys) (us ++ vs)
-pairwise-append R [] ys [] vs h k = k
-pairwise-append R [] ys (u ∷ us) vs h k = absurd h
-pairwise-append R (x ∷ xs) ys [] vs h k = absurd h
-pairwise-append R (x ∷ xs) ys (u ∷ us) vs h k = (h .0, pairwise-append R xs ys us vs (h .1) k)
+use Rattle.shared_words.proofs.Lists.{pairwise-append}
 
 -- the run begins at o without the chunks, and at o′ with them; a bytes are put in before it
 pub records-moved : (ps : List Piece) (o o′ depth parent next a : ℕ) (m : Marked) → o′ ≡ o + a → Holds ps o′ a m →

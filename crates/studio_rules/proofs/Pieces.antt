@@ -3,7 +3,7 @@
 use mathlib.Core.Path.{_≡_, refl, _∙_}
 use Prim.Native.Nat.{ℕ, _+_, _<_, _≤_}
 use native.Mathlib.Omega.{arith}
-use mathlib.Core.Bool.{Bool, true, false, _&&_, cond}
+use mathlib.Core.Bool.{_&&_, cond, and-false}
 use mathlib.Core.List.{List, [], _∷_, _++_}
 use lib.ListN.{length}
 use lib.Dec.{ltb, leb}
@@ -21,10 +21,6 @@ put-append x y (p ∷ ps) qs = omega (arith, put-append x y ps qs)
 
 hit : (x y o n : ℕ) → x ≤ o → o < y → cond (leb x o && ltb o y) n 0 ≡ n
 hit x y o n h l = rw (both (leb x o) (ltb o y) (le-leb x o h) (lt-ltb o y l))
-
-and-false : (b : Bool) → (b && false) ≡ false
-and-false true = refl
-and-false false = refl
 
 miss-after : (x y o n : ℕ) → y ≤ o → cond (leb x o && ltb o y) n 0 ≡ 0
 miss-after x y o n h = rw (le-ltb o y h, and-false (leb x o))

@@ -7,7 +7,7 @@ use lib.Dec.{eqb, ltb}
 use borrow.Author.Tests.{eqb-true}
 use Rattle.shared_words.specs.Lists.{every}
 use Rattle.shared_words.specs.Lists.{among}
-use Rattle.studio_rules.specs.Table.{Row, rows, rowOf, listed, under}
+use Rattle.studio_rules.specs.Table.{Row, rows, rowOf, listed, under, shape, counted}
 use Rattle.shared_words.proofs.Bools.{and-parts}
 
 -- a test passes at each identifier of some rows
@@ -54,3 +54,17 @@ row-listed p x (r ∷ rs) a = go (among x (r .ids)) refl (row-listed p x rs) a
 pub under-listed : (p x : ℕ) → under p x ≡ true → listed x ≡ true
 unfolding under listed
 under-listed p x = row-listed p x rows
+
+-- ---- the lists of a mesh are counted
+
+pub vertices-counted : shape 0x4110 ≡ counted 12
+unfolding shape rows
+vertices-counted = refl
+
+pub faces-counted : shape 0x4120 ≡ counted 8
+unfolding shape rows
+faces-counted = refl
+
+pub pairs-counted : shape 0x4140 ≡ counted 8
+unfolding shape rows
+pairs-counted = refl

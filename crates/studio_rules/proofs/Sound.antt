@@ -13,7 +13,7 @@ use Rattle.studio_rules.specs.Table.{plus}
 use Rattle.studio_rules.specs.Layout.{Run, end, skip, known, size, bytes}
 use Rattle.studio_rules.specs.Rules.{Parent, inside, noChild, childrenInPlus, Children, Obeys}
 use Rattle.shared_words.specs.Conditions.{broken, Answer, refused, accepted, unless}
-use Rattle.studio_rules.specs.Walk.{Step, stop, pass, enter, endConditions, ended, withSkip, withKnown, taken, run, step}
+use Rattle.studio_rules.specs.Walk.{Step, stop, pass, enter, endConditions, ended, withSkip, withKnown, taken, run, step, walk}
 use Rattle.shared_words.proofs.Bools.{or-else}
 use Rattle.shared_words.proofs.Conditions.{met}
 use Rattle.studio_rules.proofs.Steps.{Says, Passed, Entered, step-says}
@@ -99,3 +99,8 @@ pub run-tells : (n : ℕ) → Walks (run n)
 run-tells zero p seen o s b = tt
 run-tells (suc n) p seen o [] b = record { is = refl; obeys = tt }
 run-tells (suc n) p seen o (x ∷ s) b = taken-tells (run n) (run-tells n) p seen o (x ∷ s) (step p seen o (x ∷ s)) (step-says p seen o (x ∷ s) b)
+
+-- the walk, whose bound is always enough
+pub walk-tells : (p : Parent) (seen : List ℕ) (o : ℕ) (s : List ℕ) → Bytes s → Tells p seen s (walk p seen o s)
+unfolding walk
+walk-tells p seen o s b = run-tells (suc (length s)) p seen o s b

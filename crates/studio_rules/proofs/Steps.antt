@@ -103,3 +103,8 @@ parted-says p seen o s b n v none e =
 pub step-says : (p : Parent) (seen : List ℕ) (o : ℕ) (s : List ℕ) → Bytes s → Says p seen s (step p seen o s)
 unfolding step
 step-says p seen o s b = parted-says p seen o s b _ refl _ refl
+
+-- a bad header stops the walk
+pub step-stops : (p : Parent) (seen : List ℕ) (o : ℕ) (s : List ℕ) (r : Refusal) → broken (headerConditions o s (lengthField s)) ≡ some r → step p seen o s ≡ stop r
+unfolding step
+step-stops p seen o s r e = rw e

@@ -4,8 +4,7 @@ use mathlib.Core.Path.{_≡_}
 use Prim.Native.Nat.{ℕ}
 use mathlib.Core.Bool.{Bool, true, false, not, _&&_, _||_}
 use mathlib.Core.List.{List, [], _∷_}
-use Rattle.shared_words.specs.Lists.{every}
-use Rattle.shared_words.specs.Lists.{among}
+use Rattle.shared_words.specs.Lists.{every, among}
 use Rattle.studio_rules.specs.Table.{Row, rows, under}
 
 -- two lists have an identifier in common

@@ -138,14 +138,15 @@ aroundOf m =
 unfoldable pub boxCall : List ℕ → ℕ → Boxed
 boxCall s mesh = ofMesh Boxed.Refused aroundOf mesh (verdict s)
 
--- ---- the parts, into a row whose room is counted in whole parts
+-- ---- all things of one kind that a figure has, into a row whose room is counted in whole things
 
-abbrev pub partsOf : {A : Type 0} → Encoding Part A → List A → Answer Run → Effect Counted (List A)
-partsOf e row (refused r) = leaving (Counted.Refused r) row
-partsOf e row (accepted kids) =
-    cond (leb (length (parts kids)) (e .room (length row)))
-    (leaving (Counted.Filled (length (parts kids))) (filled (e .encode (parts kids)) row))
-    (leaving (Counted.Refused (NoRoom (length (parts kids)))) row)
+abbrev pub allOf : {X A : Type 0} → (Run → List X) → Encoding X A → List A → Answer Run → Effect Counted (List A)
+allOf things e row (refused r) = leaving (Counted.Refused r) row
+allOf things e row (accepted kids) =
+    cond (leb (length (things kids)) (e .room (length row)))
+    (leaving (Counted.Filled (length (things kids))) (filled (e .encode (things kids)) row))
+    (leaving (Counted.Refused (NoRoom (length (things kids)))) row)
 
+-- the parts
 unfoldable pub partsCall : {A : Type 0} → Encoding Part A → List ℕ → List A → Effect Counted (List A)
-partsCall e s row = partsOf e row (verdict s)
+partsCall e s row = allOf parts e row (verdict s)

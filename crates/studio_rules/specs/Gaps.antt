@@ -90,10 +90,3 @@ pub record SameMesh (ps : List Piece) (old new : Mesh) : Type 0 where
   pub corners-same : new .corners ≡ old .corners
   pub pair-count-same : new .pairCount ≡ old .pairCount
   pub mapping-same : new .mapping ≡ old .mapping
-
--- a relation of two lists, element by element: they are equally long
-abbrev pub Pairwise : {A : Type 0} → (A → A → Type 0) → List A → List A → Type 0
-Pairwise R [] [] = Unit
-Pairwise R [] (y ∷ ys) = ⊥
-Pairwise R (x ∷ xs) [] = ⊥
-Pairwise R (x ∷ xs) (y ∷ ys) = R x y × Pairwise R xs ys

@@ -3,7 +3,7 @@ use Prim.Native.Nat.{ℕ, _+_}
 use mathlib.Core.Bool.{cond}
 use mathlib.Core.List.{List, [], _∷_, _++_}
 use lib.Dec.{eqb}
-use lib.ListN.{length}
+use lib.ListN.{length, take, drop}
 use Rattle.shared_words.specs.Bytes.{le}
 
 -- A run of chunks ends, or begins with a chunk and goes on with the rest of the run. The chunk is skipped, with its
@@ -13,6 +13,13 @@ pub data Run : Type 0 where
   end : Run
   skip : ℕ → List ℕ → Run → Run
   known : ℕ → List ℕ → Run → Run → Run
+
+-- one run behind another
+infixr 5 _then_
+abbrev pub _then_ : Run → Run → Run
+end then t = t
+(skip id body rest) then t = skip id body (rest then t)
+(known id own kids rest) then t = known id own kids (rest then t)
 
 -- the whole file, by the children of its one chunk 4D4D
 abbrev pub figure : Run → Run
@@ -34,6 +41,10 @@ abbrev pub bytes : Run → List ℕ
 bytes end = []
 bytes (skip id body rest) = header id (6 + length body) ++ (body ++ bytes rest)
 bytes (known id own kids rest) = header id (6 + length own + size kids) ++ (own ++ (bytes kids ++ bytes rest))
+
+-- bytes with n in the length field of the chunk at o: four bytes, behind the identifier's two
+abbrev pub withLength : ℕ → ℕ → List ℕ → List ℕ
+withLength o n s = take (o + 2) s ++ (le 4 n ++ drop (o + 6) s)
 
 -- ---- the children of one chunk
 

@@ -7,6 +7,7 @@ use mathlib.Core.List.{List, [], _∷_, _++_, map}
 use lib.ListN.{replicate}
 use Rattle.studio_rules.specs.OwnData.{root}
 use Rattle.shared_words.specs.Bytes.{le}
+pub use Rattle.studio_rules.specs.Layout.{_then_}
 use Rattle.studio_rules.specs.Layout.{Run, end, skip, known, figure, bytes}
 use Rattle.shared_words.specs.Conditions.{Answer, refused, accepted}
 use Rattle.studio_rules.specs.Walk.{verdict}
@@ -16,15 +17,9 @@ use Rattle.studio_rules.specs.Samples.{Shown, no, yes, shown}
 
 -- ---- figures, as layouts that need not obey the rules
 
--- a chunk without children, and one after another
+-- a chunk without children
 abbrev pub plain : ℕ → List ℕ → Run
 plain id own = known id own end end
-
-infixr 5 _then_
-abbrev pub _then_ : Run → Run → Run
-end then t = t
-(skip id body rest) then t = skip id body (rest then t)
-(known id own kids rest) then t = known id own kids (rest then t)
 
 -- 3D3D stands at 6, its children begin at 12
 abbrev pub scene : Run → Run

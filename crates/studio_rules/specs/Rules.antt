@@ -6,8 +6,7 @@ use mathlib.Core.List.{List, [], _∷_}
 use lib.Dec.{eqb, ltb, leb}
 use lib.ListN.{length}
 use Rattle.shared_words.specs.Bytes.{value}
-use Rattle.shared_words.specs.Lists.{every}
-use Rattle.shared_words.specs.Lists.{among}
+use Rattle.shared_words.specs.Lists.{every, among}
 use Rattle.studio_rules.specs.Table.{theFile, listed, under, shape, plus, limits, needs}
 use Rattle.shared_words.specs.Floats.{finite}
 use Rattle.studio_rules.specs.OwnData.{count, ownSize, nameFits, vertexNumbers, mappingNumbers, faceCorners, faceNumbers, father, root}
@@ -69,10 +68,11 @@ ownDataExact p id own = eqb (ownSize (shape id) (p .own) own) (length own)
 abbrev pub numbersFinite : OwnRule
 numbersFinite p id own = only 0x4110 id (every finite (vertexNumbers own)) && only 0x4140 id (every finite (mappingNumbers own))
 
--- the entries of a 4130 are below f, the count word of its 4120
+-- each number is below n
 abbrev pub allBelow : ℕ → List ℕ → Bool
 allBelow n = every (λ x. ltb x n)
 
+-- the entries of a 4130 are below f, the count word of its 4120
 abbrev pub faceNumbersBelow : OwnRule
 faceNumbersBelow p id own = only 0x4130 id (allBelow (count (p .own)) (faceNumbers own))
 

@@ -9,14 +9,14 @@ use mathlib.Core.Option.{some}
 use lib.ListN.{length, drop, getElem?}
 use Rattle.shared_words.specs.Bytes.{Bytes}
 use Rattle.studio_rules.specs.declared.Record.{Record}
-use Rattle.shared_words.specs.Lists.{All}
+use Rattle.shared_words.specs.Lists.{All, Pairwise}
 use Rattle.studio_rules.specs.Layout.{Run, figure, bytes, identifiers}
 use Rattle.studio_rules.specs.OwnData.{root}
 use Rattle.studio_rules.specs.Rules.{Parent, few, Obeys, limit, version, Meets}
 use Rattle.shared_words.specs.Conditions.{accepted}
 use Rattle.studio_rules.specs.Walk.{versionIn, verdict}
 use Rattle.studio_rules.specs.Gives.{list, headers, owned, skipped, Mesh, meshes, Part, parts}
-use Rattle.studio_rules.specs.Gaps.{Marked, figureOf, without, with, InGaps, Piece, pieces, bytesPut, Moved, SameMesh, Pairwise}
+use Rattle.studio_rules.specs.Gaps.{Marked, figureOf, without, with, InGaps, Piece, pieces, bytesPut, Moved, SameMesh}
 
 -- A file is accepted, with a layout, exactly when it meets the rules with that layout.
 abbrev pub AcceptedExactly : Type 0

@@ -41,7 +41,7 @@ pub enum Tabled {
     Refused(Refusal),
 }
 
-// The answer of the parts: how many the row holds.
+// The answer of a call that gives out all parts, or all meshes: how many the row holds.
 pub enum Counted {
     Filled(usize),
     Refused(Refusal),

@@ -1,6 +1,6 @@
 -- A test of a whole list, one piece more at the end: the one law of every loop here; and the pieces of each list.
 use mathlib.Core.Path.{_≡_, refl, sym, ap, _∙_}
-use mathlib.Core.Bool.{Bool, true, false, _&&_}
+use mathlib.Core.Bool.{Bool, true, false, _&&_, and-false, and-true}
 use mathlib.Core.List.{List, [], _∷_, _++_}
 use mathlib.Core.Logic.{_⊎_, inl, inr}
 use Prim.Native.Nat.{ℕ, zero, suc, _+_, _*_, max}
@@ -27,14 +27,6 @@ every-append p (x ∷ xs) ys = go (p x) (every-append p xs ys)
     go : (b : Bool) → every p (xs ++ ys) ≡ (every p xs && every p ys) → (b && every p (xs ++ ys)) ≡ ((b && every p xs) && every p ys)
     go true e = e
     go false e = refl
-
-and-false : (b : Bool) → (b && false) ≡ false
-and-false true = refl
-and-false false = refl
-
-and-true : (b : Bool) → (b && true) ≡ b
-and-true true = refl
-and-true false = refl
 
 -- `good` says whether the list so far passes: with a piece that fails it becomes false, with one that passes it stays
 pub one-more : (p : ℕ → Bool) (whole sofar piece : List ℕ) → whole ≡ sofar ++ piece → (good good′ : Bool) → good ≡ every p sofar →

@@ -1,5 +1,5 @@
 -- Each child of 3D3D is judged by itself: no rule looks at those before it, nor at how many there are.
-use mathlib.Core.Path.{_≡_, refl, ap}
+use mathlib.Core.Path.{_≡_, refl}
 use Prim.Native.Nat.{ℕ}
 use native.Mathlib.Omega.{arith}
 use mathlib.Core.Bool.{Bool, true, false, _||_}
@@ -7,9 +7,8 @@ use mathlib.Core.List.{List, [], _∷_}
 use lib.Dec.{eqb}
 use borrow.Author.Tests.{eqb-true, ne-eqb}
 use Rattle.studio_rules.specs.Table.{rows, plus, under}
-use Rattle.studio_rules.specs.Layout.{Run, end, skip, known, child}
-use Rattle.studio_rules.specs.Readings.{_then_}
-use Rattle.studio_rules.specs.Rules.{Parent, file, inside, tally, few, noneMissing, Own, Children, Obeys, version}
+use Rattle.studio_rules.specs.Layout.{Run, end, skip, known, _then_}
+use Rattle.studio_rules.specs.Rules.{Parent, inside, tally, few, noneMissing, Own, Children, Obeys, version}
 use Rattle.shared_words.proofs.Bools.{every-nil}
 use Rattle.studio_scene.specs.Passed.{passed}
 use Rattle.studio_scene.proofs.Ungrouped.{ungrouped}

@@ -3,24 +3,17 @@ use mathlib.Core.Path.{_≡_, refl, ap, _∙_}
 use Prim.Native.Nat.{ℕ, _+_, _-_}
 use native.Mathlib.Omega.{arith}
 use mathlib.Core.Bool.{Bool, true, false}
-use mathlib.Core.List.{List, [], _∷_, _++_, map, append-nil}
+use mathlib.Core.List.{List, [], _++_, map, append-nil, map-append}
 use lib.Dec.{eqb}
 use lib.ListN.{length}
-use Rattle.shared_words.specs.declared.Refusal.{Refusal}
-use Rattle.shared_words.specs.declared.Refusal.the-variants.{NoSuchMesh}
-use Rattle.studio_rules.specs.Layout.{Run, end, skip, known, size}
-use Rattle.studio_rules.specs.Readings.{_then_}
+use Rattle.studio_rules.specs.Layout.{Run, end, skip, known, size, _then_}
 use Rattle.studio_rules.specs.Gives.{Mesh, meshOf, oneMesh, meshesOf, meshes}
 use Rattle.studio_scene.specs.Scene.{holding}
 use Rattle.studio_scene.specs.Contents.{unplaced, contents}
-use Rattle.studio_scene.proofs.Then.{meshes-then}
-
-map-append : (xs ys : List Mesh) → map unplaced (xs ++ ys) ≡ map unplaced xs ++ map unplaced ys
-map-append [] ys = refl
-map-append (x ∷ xs) ys = rw (map-append xs ys)
+use Rattle.studio_rules.proofs.Then.{meshes-then}
 
 map-three : (xs ys zs : List Mesh) → map unplaced (xs ++ (ys ++ zs)) ≡ map unplaced xs ++ (map unplaced ys ++ map unplaced zs)
-map-three xs ys zs = map-append xs (ys ++ zs) ∙ rw (map-append ys zs)
+map-three xs ys zs = map-append unplaced xs (ys ++ zs) ∙ rw (map-append unplaced ys zs)
 
 one-same : (e : Bool) (at at′ l : ℕ) (kids : Run) → map unplaced (oneMesh e (meshOf at l kids)) ≡ map unplaced (oneMesh e (meshOf at′ l kids))
 one-same true at at′ l kids = refl
@@ -36,7 +29,7 @@ contents-same o o′ at at′ l (known id own kids rest) =
 
 pub contents-then : (a t : Run) → contents (a then t) ≡ contents a ++ contents t
 contents-then a t =
-    ap (map unplaced) (meshes-then 0 (size a) 0 0 a t (omega arith)) ∙ map-append (meshesOf 0 0 0 a) (meshesOf (size a) 0 0 t) ∙
+    ap (map unplaced) (meshes-then 0 (size a) 0 0 a t (omega arith)) ∙ map-append unplaced (meshesOf 0 0 0 a) (meshesOf (size a) 0 0 t) ∙
     ap (λ (x : List Mesh). contents a ++ x) (contents-same (size a) 0 0 0 0 t)
 
 pub contents-holding : (before t after : Run) → map unplaced (meshes (holding before t after)) ≡ contents before ++ (contents t ++ contents after)
@@ -45,4 +38,4 @@ contents-holding before t after =
     let o : ℕ = 0 + (6 + 0 + size t) in
     ap (map unplaced) (append-nil (meshesOf 6 6 0 (before then k))) ∙ contents-same 6 0 6 0 0 (before then k) ∙ contents-then before k ∙
     ap (λ (x : List Mesh). contents before ++ x)
-    (map-append (meshesOf 6 6 0 t) (meshesOf o 0 0 after) ∙ rw (contents-same 6 0 6 0 0 t, contents-same o 0 0 0 0 after))
+    (map-append unplaced (meshesOf 6 6 0 t) (meshesOf o 0 0 after) ∙ rw (contents-same 6 0 6 0 0 t, contents-same o 0 0 0 0 after))

@@ -1,30 +1,13 @@
--- One run after another: what a fold of it is.
+-- One run behind another: its identifiers, its counts, and whether it obeys the rules. (Its bytes and meshes: studio_rules/proofs/Then.)
 use mathlib.Core.Path.{_≡_, refl}
 use Prim.Native.Nat.{ℕ, _+_, _-_}
 use native.Mathlib.Omega.{arith}
-use mathlib.Core.List.{List, _∷_, _++_, append-assoc}
-use lib.Dec.{eqb}
-use lib.ListN.{length}
-use Rattle.studio_rules.specs.Layout.{Run, end, skip, known, size, bytes, identifiers}
-use Rattle.studio_rules.specs.Readings.{_then_}
+use mathlib.Core.List.{List, _∷_, _++_}
+use Rattle.studio_rules.specs.Layout.{Run, end, skip, known, identifiers, _then_}
 use Rattle.studio_rules.specs.Rules.{Parent, Obeys}
-use Rattle.studio_rules.specs.Gives.{recordCount, headers, owned, skipped, meshesOf, oneMesh, meshOf}
+use Rattle.studio_rules.specs.Gives.{recordCount, headers, owned, skipped}
+pub use Rattle.studio_rules.proofs.Then.{bytes-then}
 use Rattle.studio_scene.specs.Passed.{passed}
-
-pub then-assoc : (a b c : Run) → (a then b) then c ≡ a then (b then c)
-then-assoc end b c = refl
-then-assoc (skip id body a) b c = rw (then-assoc a b c)
-then-assoc (known id own kids a) b c = rw (then-assoc a b c)
-
-pub size-then : (a t : Run) → size (a then t) ≡ size a + size t
-size-then end t = omega arith
-size-then (skip id body a) t = omega (arith, size-then a t)
-size-then (known id own kids a) t = omega (arith, size-then a t)
-
-pub bytes-then : (a t : Run) → bytes (a then t) ≡ bytes a ++ bytes t
-bytes-then end t = refl
-bytes-then (skip id body a) t = rw (bytes-then a t, append-assoc body (bytes a) (bytes t))
-bytes-then (known id own kids a) t = rw (bytes-then a t, append-assoc own (bytes kids ++ bytes a) (bytes t), append-assoc (bytes kids) (bytes a) (bytes t))
 
 pub identifiers-then : (a t : Run) → identifiers (a then t) ≡ identifiers a ++ identifiers t
 identifiers-then end t = refl
@@ -50,14 +33,6 @@ pub skipped-then : (a t : Run) → skipped (a then t) ≡ skipped a + skipped t
 skipped-then end t = omega arith
 skipped-then (skip id body a) t = omega (arith, skipped-then a t)
 skipped-then (known id own kids a) t = omega (arith, skipped-then a t)
-
--- the second run begins at o′
-pub meshes-then : (o o′ at l : ℕ) (a t : Run) → o′ ≡ o + size a → meshesOf o at l (a then t) ≡ meshesOf o at l a ++ meshesOf o′ at l t
-meshes-then o o′ at l end t e = let e₀ : o ≡ o′ = omega arith in rw e₀
-meshes-then o o′ at l (skip id body a) t e = meshes-then (o + (6 + length body)) o′ at l a t (omega arith)
-meshes-then o o′ at l (known id own kids a) t e =
-    let ih = meshes-then (o + (6 + length own + size kids)) o′ at l a t (omega arith) in
-    rw (ih, append-assoc (oneMesh (eqb id 0x4100) (meshOf at l kids)), append-assoc (meshesOf (o + (6 + length own)) (o + 6) (length own - 1) kids))
 
 -- ---- the rules
 

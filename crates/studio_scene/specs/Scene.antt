@@ -4,8 +4,7 @@ use Prim.Native.Nat.{ℕ}
 use mathlib.Core.List.{List, []}
 use Rattle.shared_words.specs.Bytes.{Bytes}
 use Rattle.shared_words.specs.Conditions.{accepted}
-use Rattle.studio_rules.specs.Layout.{Run, known, figure, bytes}
-use Rattle.studio_rules.specs.Readings.{_then_}
+use Rattle.studio_rules.specs.Layout.{Run, known, figure, bytes, _then_}
 use Rattle.studio_rules.specs.Walk.{verdict}
 
 -- the children of a 4D4D, of which one is 3D3D

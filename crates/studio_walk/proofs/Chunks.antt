@@ -3,7 +3,7 @@ use mathlib.Core.Path.{_≡_, refl, sym, ap, _∙_, subst}
 use mathlib.Core.Bool.{Bool, true, false, cond, true≢false}
 use mathlib.Core.List.{List, []}
 use mathlib.Core.Option.{Option, none, some}
-use Prim.Native.Nat.{ℕ, suc, _+_, _-_, _≤_, _<_, _^_}
+use Prim.Native.Nat.{ℕ, _+_, _-_, _≤_, _<_, _^_}
 use native.Mathlib.Omega.{arith}
 use lib.Dec.{leb}
 use lib.ListN.{length}
@@ -20,7 +20,7 @@ use Rattle.studio_rules.specs.Walk.{Step, stop, pass, enter, endConditions, end
 use Rattle.shared_words.proofs.Bools.{every-weaker}
 use Rattle.shared_words.proofs.Conditions.{unbroken}
 use Rattle.studio_rules.proofs.Rows.{under-listed}
-use Rattle.studio_rules.proofs.Sound.{Tells, run-tells}
+use Rattle.studio_rules.proofs.Sound.{Tells}
 use Rattle.studio_rules.proofs.Steps.{Says}
 use Rattle.studio_rules.proofs.Fuel.{walk-nil}
 use Rattle.studio_row.specs.Packed.{rowOf, slotOf}
@@ -33,6 +33,7 @@ use Rattle.studio_walk.specs.declared.Ran.{Ran}
 use Rattle.studio_head.specs.Heads.{HeadIs, MarksAre}
 use Rattle.studio_walk.specs.Runs.{ClosedIs, closedTo, ChunkIs, RunIs}
 use Rattle.studio_walk.proofs.Parts.{bytes-slice}
+pub use Rattle.studio_rules.proofs.Sound.{walk-tells}
 
 -- nothing is two things at once
 pub clash : _≡_ {A = ℕ} 0 1 → ⊥
@@ -120,11 +121,6 @@ entering p seen at (enter id′ own kids rest) id row word from past h = go (plu
     go true h =
         let i : id ≡ id′ = cc in
         record { own = own; kids = kids; rest = rest; is = rw i; row-is = cc; word-is = cc; from-is = cc; past-is = cc }
-
--- what the rules' walk tells of an accepted run
-pub walk-tells : (p : Parent) (seen : List ℕ) (o : ℕ) (s : List ℕ) → Bytes s → Tells p seen s (walk p seen o s)
-unfolding walk
-walk-tells p seen o s b = run-tells (suc (length s)) p seen o s b
 
 module _ (p : Parent) (seen s : List ℕ) (at id from past : ℕ) (own : List ℕ) (b : Bytes s) (order : from ≤ past) (stays : past ≤ length s) (small : length s < 2 ^ 32) (starts : 1 ≤ from) where
   answer : Answer Run

@@ -4,7 +4,7 @@ use mathlib.Core.Logic.{_⊎_, inl, inr}
 use Prim.Native.Nat.{ℕ, suc, _+_}
 use native.Mathlib.Omega.{arith}
 use mathlib.Core.Bool.{Bool, true, not, true≢false, false≢true}
-use mathlib.Core.List.{List, [], _∷_, _++_, map, append-assoc}
+use mathlib.Core.List.{List, [], _∷_, _++_, map, append-assoc, map-append}
 use lib.ListN.{length}
 use borrow.Author.Tests.{eqb-true, not-true}
 use Rattle.studio_rules.specs.declared.Record.{Record}
@@ -27,16 +27,12 @@ ids end = []
 ids (skip id body rest) = ids rest
 ids (known id own kids rest) = id ∷ (ids kids ++ ids rest)
 
-map-append : (xs ys : List Record) → map (λ (r : Record). r .identifier) (xs ++ ys) ≡ map (λ (r : Record). r .identifier) xs ++ map (λ (r : Record). r .identifier) ys
-map-append [] ys = refl
-map-append (x ∷ xs) ys = ap (λ (l : List ℕ). x .identifier ∷ l) (map-append xs ys)
-
 ids-listed : (o depth parent next : ℕ) (t : Run) → map (λ (r : Record). r .identifier) (recordsOf o depth parent next t) ≡ ids t
 ids-listed o depth parent next end = refl
 ids-listed o depth parent next (skip id body rest) = ids-listed (o + (6 + length body)) depth parent next rest
 ids-listed o depth parent next (known id own kids rest) =
     ap (λ (l : List ℕ). id ∷ l)
-    (map-append (recordsOf (o + (6 + length own)) (suc depth) next (suc next) kids) (recordsOf (o + (6 + length own + size kids)) depth parent (suc (next + recordCount kids)) rest) ∙
+    (map-append (λ (r : Record). r .identifier) (recordsOf (o + (6 + length own)) (suc depth) next (suc next) kids) (recordsOf (o + (6 + length own + size kids)) depth parent (suc (next + recordCount kids)) rest) ∙
     rw (ids-listed (o + (6 + length own)) (suc depth) next (suc next) kids, ids-listed (o + (6 + length own + size kids)) depth parent (suc (next + recordCount kids)) rest))
 
 -- ---- runs that are still to come, in the chunks around them and behind the children `seen`

@@ -1,7 +1,7 @@
 -- Own data that was read, written again: the numbers that the reader takes from it make the same bytes.
 use mathlib.Core.Path.{_≡_, refl, sym, ap, _∙_}
 use Prim.Native.Nat.{ℕ, zero, suc, _+_, _*_, _^_, _<_, _≤_}
-use native.Mathlib.Nat.{mul-suc, pow-succ'}
+use native.Mathlib.Nat.{mul-suc}
 use native.Mathlib.Omega.{arith}
 use mathlib.Core.Bool.{Bool, true, false, not, cond}
 use mathlib.Core.List.{List, [], _∷_, _++_}
@@ -14,17 +14,13 @@ use Rattle.shared_words.specs.Lists.{every}
 use Rattle.studio_rules.specs.OwnData.{nameSize, corners}
 use Rattle.studio_rules.specs.Rules.{allBelow}
 use Rattle.shared_words.proofs.Bools.{both, and-parts}
-use Rattle.shared_words.proofs.Bytes.{bytes-drop, bytes-take}
+use Rattle.shared_words.proofs.Bytes.{bytes-drop, bytes-take, value-small}
 use Rattle.shared_words.proofs.Numbers.{front}
 use Rattle.studio_write_bytes.specs.Bare.{nameData, faceWords}
 use Rattle.studio_write_judge.specs.Judged.{notZero}
 use Rattle.studio_write.specs.WritesAgain.{flags}
 
 -- ---- numbers
-
-value-small : (s : List ℕ) → Bytes s → value s < 256 ^ length s
-value-small [] b = omega arith
-value-small (x ∷ s) b = omega (arith, b .0, value-small s (b .1), pow-succ' 256 (length s))
 
 pub numbers-small : (w k : ℕ) (s : List ℕ) → Bytes s → length s ≡ w * k → allBelow (256 ^ w) (numbers w k s) ≡ true
 unfolding every

@@ -31,7 +31,7 @@ use Rattle.studio_rules.specs.Gives.{Mesh}
 use Rattle.shared_words.specs.Effects.{Effect, leaving, filled}
 use Rattle.studio_rules.specs.Calls.{Rows, inNumbers, sizesOf, rowsWith, tablesOf, tablesCall, nameCall}
 use Rattle.shared_words.proofs.Bools.{both}
-use Rattle.shared_words.proofs.Bytes.{bytes-drop, word-small}
+use Rattle.shared_words.proofs.Bytes.{bytes-drop, word-small, bytes-parts}
 use Rattle.shared_words.proofs.Conditions.{Met}
 use Rattle.studio_rules.proofs.Verdict.{accepted-exactly}
 use Rattle.shared_words.specs.declared.Written.the-variants.{Size}
@@ -78,10 +78,6 @@ module _ (own : List ℕ) (b : Bytes own) where
       rw (corners-count own, packed-corners (count own) (drop 2 own) (bytes-drop 2 own b) d z) (counted (omega arith))
 
 -- ---- the own data of a file of bytes is bytes
-
-bytes-parts : (x y : List ℕ) → Bytes (x ++ y) → Bytes x × Bytes y
-bytes-parts [] y b = (tt, b)
-bytes-parts (n ∷ x) y b = let p = bytes-parts x y (b .1) in ((b .0, p .0), p .1)
 
 leaf-own : (id : ℕ) (own : List ℕ) → Bytes (bytes (known id own end end)) → Bytes own
 leaf-own id own b = bytes-parts (header id (6 + length own)) own (subst Bytes (leaf-bytes id own (6 + length own) refl) b) .1

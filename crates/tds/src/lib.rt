@@ -25,7 +25,7 @@ ghost use Rattle.cob_tables.specs.Rows.{rows as cobRows};
 ghost use Rattle.c_slip.specs.Codes.{entriesOr};
 ghost use Rattle.c_counted.specs.Codes.{countedOr};
 ghost use Rattle.studio_rescue_rules.specs.Call.{cutBytes, rescueCall};
-ghost use Rattle.studio_rescue.specs.Parts.{twoRows as rescueRows};
+ghost use Rattle.studio_rescue.specs.Parts.{rescueRows};
 ghost use Rattle.c_rescue.specs.Codes.{cutsOr};
 ghost use Rattle.c_cob.specs.Codes.{countOr};
 ghost use Rattle.c_sums.specs.Numbers.{sumsOr, zeroOr, sumIn, withPartNumber, joinNumbers};

@@ -14,7 +14,7 @@ use Rattle.studio_row.proofs.Facts.{holder-kind}
 use Rattle.studio_list_rows.specs.Lent.{lent}
 use Rattle.studio_list_walk.specs.Laid.{first, Laid, Listed}
 use Rattle.studio_list_rows.proofs.Rows.{room-less}
-use Rattle.studio_list_rows.proofs.Counts.{count-small}
+use Rattle.studio_rules.proofs.SixEach.{count-small}
 use Rattle.studio_list_walk.proofs.Runs.{FirstAt, split-count, header-ends, first-at}
 use Rattle.studio_list_walk.proofs.Chunks.{Entered, skipped-listed, entered, childless, entered-listed}
 use Rattle.studio_list_walk.proofs.Loop.{Sofar, sofar-start, sofar-next, sofar-ends}

@@ -1,7 +1,8 @@
 -- The 4140, or none.
 use native.Mathlib.Omega.{arith}
 use borrow.Author.Needs.{needs}
-use Rattle.studio_mesh_find.proofs.Parts.{all-listed, pairs-counted, word-first, mapping-first, mapping-nowhere, begins-first, begins-nowhere}
+use Rattle.studio_mesh_find.proofs.Parts.{all-listed, word-first, mapping-first, mapping-nowhere, begins-first, begins-nowhere}
+use Rattle.studio_rules.proofs.Rows.{pairs-counted}
 use Rattle.studio_mesh_find.proofs.mapping_of.Statement.{statement}
 use Rattle.studio_mesh_find.proofs.mapping_of.Tie as tie
 

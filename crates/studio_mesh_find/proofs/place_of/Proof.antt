@@ -9,7 +9,8 @@ use Rattle.studio_child.specs.Runs.{Spans}
 use native.Mathlib.Omega.{arith}
 use borrow.Author.Needs.{needs}
 use Rattle.studio_child.proofs.Runs.{header-here, kids-at}
-use Rattle.studio_mesh_find.proofs.Parts.{all-listed, mesh-own, vertices-counted, faces-counted, place-there}
+use Rattle.studio_mesh_find.proofs.Parts.{all-listed, mesh-own, place-there}
+use Rattle.studio_rules.proofs.Rows.{vertices-counted, faces-counted}
 use Rattle.studio_mesh_find.proofs.place_of.Statement.{statement}
 use Rattle.studio_mesh_find.proofs.place_of.Tie as tie
 
