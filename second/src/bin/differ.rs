@@ -1,10 +1,7 @@
 //! The comparison on the command line: many cases from a seed, every bit of
 //! some files turned, or all figures in some folders.
 
-use second::boundary::{
-    Boundary, C4dRight, CobRight, FigureRight, Right, Second, SlipRight, SumRight, C4DS_LINKED,
-    COBS_LINKED, FIGURES_LINKED, LINKED, SLIPS_LINKED, SUMS_LINKED,
-};
+use second::boundary::{Boundary, Right, Second, LINKED};
 use second::differ::compare::Pair;
 use second::differ::run::{add, run, words, Failure, Plan, Tally};
 use second::differ::seeded::{Seeded, ERRORS};
@@ -78,55 +75,27 @@ fn plan(arguments: &[&str]) -> Option<Plan> {
     }
 }
 
-/// The runs over other formats: what they are over, whether the library under
-/// test has the calls, and the run.
-type Other = (&'static str, bool, fn(Plan) -> Result<Tally, Box<Failure>>);
+/// The runs over other formats.
+type Other = fn(Plan, &mut Pair<Second, Right>) -> Result<Tally, Box<Failure>>;
 const OTHERS: [Other; 5] = [
-    ("sums", SUMS_LINKED, |plan| {
-        sums::run(plan, &mut Pair::new(Second, SumRight::default()))
-    }),
-    ("slips", SLIPS_LINKED, |plan| {
-        slips::run(plan, &mut Pair::new(Second, SlipRight::default()))
-    }),
-    ("Caligari figures", COBS_LINKED, |plan| {
-        cobs::run(plan, &mut Pair::new(Second, CobRight::default()))
-    }),
-    ("Cinema 4D figures", C4DS_LINKED, |plan| {
-        c4ds::run(plan, &mut Pair::new(Second, C4dRight::default()))
-    }),
-    ("figures with materials", FIGURES_LINKED, |plan| {
-        figures::run(plan, &mut Pair::new(Second, FigureRight::default()))
-    }),
-];
-
-/// The calls over figures that have landed later than others, or will.
-const LATER: [(&str, bool); 4] = [
-    ("mapping pairs", cfg!(feature = "mapping")),
-    ("parts", cfg!(feature = "parts")),
-    ("places of all meshes", cfg!(feature = "meshes")),
-    ("rescues", cfg!(feature = "rescue")),
+    sums::run::<Second, Right>,
+    slips::run::<Second, Right>,
+    cobs::run::<Second, Right>,
+    c4ds::run::<Second, Right>,
+    figures::run::<Second, Right>,
 ];
 
 /// Many cases from a seed, over figures and then over all other formats.
-fn grown<L: Boundary, R: Boundary>(plan: Plan, pair: &mut Pair<L, R>) -> Result<(), String> {
+fn grown(plan: Plan, pair: &mut Pair<Second, Right>) -> Result<(), String> {
     let begin = Instant::now();
     let mut total = run(plan, pair).map_err(|failure| {
         let (family, index) = (&failure.family, failure.index);
         println!("{family}, case {index}: a difference; looking for a smaller one");
         failure.shrunk(plan.seed, pair).words(plan.seed)
     })?;
-    for (what, linked, run) in OTHERS {
-        if linked || !LINKED {
-            let tally = run(plan).map_err(|failure| failure.words(plan.seed))?;
-            add(&mut total, &tally);
-        } else {
-            println!("{what} are not compared: the library under test has no such calls yet");
-        }
-    }
-    for (what, landed) in LATER {
-        if LINKED && !landed {
-            println!("{what} are not compared: the library under test has no such calls yet");
-        }
+    for run in OTHERS {
+        let tally = run(plan, pair).map_err(|failure| failure.words(plan.seed))?;
+        add(&mut total, &tally);
     }
     let seconds = begin.elapsed().as_secs_f64();
     println!("{:<46}{seconds:>7.1} s {}", "Total", words(&total));
