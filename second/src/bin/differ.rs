@@ -11,7 +11,8 @@ use std::process::ExitCode;
 use std::time::Instant;
 
 const USAGE: &str = "differ --count N --seed S      both sides over N files grown from a seed
-                               (--trace names each case before it is run)
+                               (--only KIND: figures, sums, slips, cobs, c4ds or materials;
+                               --trace names each case before it is run)
 differ --turned FILE...        every bit of some files turned: what becomes of it
 differ --guarded FILE...       every bit of some files turned: refused, and found with a slip
 differ --real FOLDER...        both sides over the figures in some folders
@@ -33,7 +34,7 @@ fn main() -> ExitCode {
         ["--real", ref folders @ ..] => all_real(folders, pair),
         ["--seeded"] => all_seeded(),
         _ => match plan(&arguments) {
-            Some(plan) => grown(plan, pair),
+            Some((plan, kinds)) => grown(plan, kinds, pair),
             None => Err(USAGE.to_string()),
         },
     };
@@ -46,18 +47,31 @@ fn main() -> ExitCode {
     }
 }
 
-/// The count and the seed, if the arguments are just these.
-fn plan(arguments: &[&str]) -> Option<Plan> {
+/// What is compared, by the names of `--only`: the figures, other formats, and
+/// the writer of figures with materials.
+type Kind = (&'static str, Run);
+type Run = fn(Plan, &mut Pair<Second, Right>) -> Result<Tally, Box<Failure>>;
+const KINDS: &[Kind] = &[
+    ("figures", run::<Second, Right>),
+    ("sums", sums::run::<Second, Right>),
+    ("slips", slips::run::<Second, Right>),
+    ("cobs", cobs::run::<Second, Right>),
+    ("c4ds", c4ds::run::<Second, Right>),
+    ("materials", figures::run::<Second, Right>),
+];
+
+/// The count, the seed and the kinds, if the arguments are just these.
+fn plan(arguments: &[&str]) -> Option<(Plan, &'static [Kind])> {
     let mut plan = Plan {
         count: 200_000,
         seed: 1,
         loud: true,
         trace: false,
     };
-    let mut rest = arguments;
+    let (mut rest, mut kinds) = (arguments, KINDS);
     loop {
         rest = match rest {
-            [] => return Some(plan),
+            [] => return Some((plan, kinds)),
             ["--trace", rest @ ..] => {
                 plan.trace = true;
                 rest
@@ -70,31 +84,28 @@ fn plan(arguments: &[&str]) -> Option<Plan> {
                 plan.seed = seed.parse().ok()?;
                 rest
             }
+            ["--only", only, rest @ ..] => {
+                let which = KINDS.iter().position(|(name, _)| name == only)?;
+                kinds = &KINDS[which..=which];
+                rest
+            }
             _ => return None,
         };
     }
 }
 
-/// The runs over other formats.
-type Other = fn(Plan, &mut Pair<Second, Right>) -> Result<Tally, Box<Failure>>;
-const OTHERS: [Other; 5] = [
-    sums::run::<Second, Right>,
-    slips::run::<Second, Right>,
-    cobs::run::<Second, Right>,
-    c4ds::run::<Second, Right>,
-    figures::run::<Second, Right>,
-];
-
-/// Many cases from a seed, over figures and then over all other formats.
-fn grown(plan: Plan, pair: &mut Pair<Second, Right>) -> Result<(), String> {
+/// Many cases of some kinds from a seed.
+fn grown(plan: Plan, kinds: &[Kind], pair: &mut Pair<Second, Right>) -> Result<(), String> {
     let begin = Instant::now();
-    let mut total = run(plan, pair).map_err(|failure| {
-        let (family, index) = (&failure.family, failure.index);
-        println!("{family}, case {index}: a difference; looking for a smaller one");
-        failure.shrunk(plan.seed, pair).words(plan.seed)
-    })?;
-    for run in OTHERS {
-        let tally = run(plan, pair).map_err(|failure| failure.words(plan.seed))?;
+    let mut total = Tally::default();
+    for (_, run) in kinds {
+        let tally = run(plan, pair).map_err(|failure| {
+            let (family, index) = (&failure.family, failure.index);
+            if failure.subject.is_some() {
+                println!("{family}, case {index}: a difference; looking for a smaller one");
+            }
+            failure.shrunk(plan.seed, pair).words(plan.seed)
+        })?;
         add(&mut total, &tally);
     }
     let seconds = begin.elapsed().as_secs_f64();
