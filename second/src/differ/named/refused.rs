@@ -268,8 +268,7 @@ fn names() -> Vec<Fault> {
     let named = |own| figure(vec![leaf(0x4000, own), Node::leaf(0x1470, vec![])]);
     let material = |own| figure(vec![Node::holding(0xAFFF, vec![], vec![leaf(0xA000, own)])]);
     let grouped = |own| mesh(vec![faces(&[], vec![leaf(0x4130, own)])]);
-    // The zero is found in the child's length, and three bytes are left; such a
-    // name is none for a label.
+    // The zero is found in the child's length: no label takes such a name.
     let run_on = figure(vec![shorter(object("abc", vec![Node::leaf(0x4010, vec![])]))]);
     vec![
         at(&[0, 0], "an object of no bytes", named(b""), 9),
