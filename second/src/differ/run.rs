@@ -29,7 +29,7 @@ pub type Judge<P> = fn(u64, &mut Random, &mut P) -> Result<u64, Difference>;
 
 /// A family of cases of another format: its name, what it is, how many there
 /// are, and how one is judged.
-pub struct Kind<P>(pub &'static str, pub &'static str, pub Share, pub Judge<P>);
+pub struct Cases<P>(pub &'static str, pub &'static str, pub Share, pub Judge<P>);
 
 /// How many cases a family has: a share of all in ten thousand, and how many
 /// there are at the least and at the most.
@@ -197,11 +197,11 @@ impl Plan {
     pub fn all<P>(
         &self,
         stream: u64,
-        kinds: &[Kind<P>],
+        families: &[Cases<P>],
         pair: &mut P,
     ) -> Result<Tally, Box<Failure>> {
         let mut total = Tally::default();
-        for (which, Kind(family, what, share, judge)) in kinds.iter().enumerate() {
+        for (which, Cases(family, what, share, judge)) in families.iter().enumerate() {
             let begin = Instant::now();
             let (stream, cases) = (stream + which as u64, share.of(self.count));
             let tally = self.each(family, stream, cases, |index, source| {

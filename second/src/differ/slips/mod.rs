@@ -8,7 +8,7 @@ mod grow;
 use super::compare::Pair;
 use super::lent::Difference;
 use super::random::Random;
-use super::run::{few, share, Failure, Kind, Plan, Tally};
+use super::run::{few, share, Cases, Failure, Plan, Tally};
 use crate::boundary::{refusal, Slips};
 use grow::Draft;
 
@@ -18,13 +18,13 @@ const STREAM: u64 = 200;
 /// Runs all families of slips.
 pub fn run<L: Slips, R: Slips>(plan: Plan, pair: &mut Pair<L, R>) -> Result<Tally, Box<Failure>> {
     #[rustfmt::skip]
-    let kinds: [Kind<Pair<L, R>>; 4] = [
-        Kind("Slips",     "slips, right and wrong",           share(500, 600), any),
-        Kind("SlipBits",  "every bit of a small slip turned", share(10, 20),   turned),
-        Kind("SlipsLong", "1,000 entries and one more",       few(2, 24),      long),
-        Kind("Entries",   "entries written",                  share(500, 600), asked::entries),
+    let families: [Cases<Pair<L, R>>; 4] = [
+        Cases("Slips",     "slips, right and wrong",           share(500, 600), any),
+        Cases("SlipBits",  "every bit of a small slip turned", share(10, 20),   turned),
+        Cases("SlipsLong", "1,000 entries and one more",       few(2, 24),      long),
+        Cases("Entries",   "entries written",                  share(500, 600), asked::entries),
     ];
-    plan.all(STREAM, &kinds, pair)
+    plan.all(STREAM, &families, pair)
 }
 
 /// A slip with or without faults.
