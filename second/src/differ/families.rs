@@ -6,7 +6,7 @@ use super::compare::{Call, Pair};
 use super::facts::Facts;
 use super::gaps;
 use super::grow::{figure, finite, grower, unlisted, Fill, LISTED};
-use super::lent::Difference;
+use super::lent::{anywhere, Difference};
 use super::node::Node;
 use super::random::Random;
 use super::run::{few, share, Share};
@@ -96,17 +96,11 @@ pub fn judge<L: Boundary, R: Boundary>(
 ) -> Result<u64, Difference> {
     match (family, subject) {
         (_, Subject::Writing(writing)) => writing.ask(pair),
-        (_, Subject::File(file)) => {
-            // At any address, and with other bytes behind it.
-            let shift = random.below(8);
-            let lent = [&vec![0; shift][..], file, &random.bytes(24)].concat();
-            let file = &lent[shift..shift + file.len()];
-            match family {
-                Family::Gaps => gap(file, random, pair),
-                Family::Swaps => swap(file, random, pair),
-                _ => pair.whole(file, random),
-            }
-        }
+        (_, Subject::File(file)) => anywhere(file, random, |file, random| match family {
+            Family::Gaps => gap(file, random, pair),
+            Family::Swaps => swap(file, random, pair),
+            _ => pair.whole(file, random),
+        }),
     }
 }
 

@@ -8,7 +8,7 @@ mod harm;
 
 use super::compare::Pair;
 use super::drafts::{damaged, faulty, long, valid, Asks, Draft};
-use super::lent::Difference;
+use super::lent::{anywhere, Difference};
 use super::random::Random;
 use super::run::{few, share, Cases, Failure, Plan, Tally};
 use crate::boundary::C4ds;
@@ -36,5 +36,6 @@ fn objects<L: C4ds, R: C4ds>(
     random: &mut Random,
     pair: &mut Pair<L, R>,
 ) -> Result<u64, Difference> {
-    pair.whole(&File::any_kinds(random).bytes(), random)
+    let file = File::any_kinds(random).bytes();
+    anywhere(&file, random, |file, random| pair.whole(file, random))
 }

@@ -6,7 +6,7 @@ pub mod erring;
 mod grow;
 
 use super::compare::Pair;
-use super::lent::Difference;
+use super::lent::{anywhere, Difference};
 use super::random::Random;
 use super::run::{few, share, Cases, Failure, Plan, Tally};
 use crate::boundary::{refusal, Slips};
@@ -52,7 +52,9 @@ fn slip<L: Slips, R: Slips>(
     pair: &mut Pair<L, R>,
 ) -> Result<u64, Difference> {
     let slip = draft.bytes();
-    let answer = asked::read(&slip, random, pair)?;
+    let answer = anywhere(&slip, random, |slip, random| {
+        asked::read(slip, random, pair)
+    })?;
     if refusal(answer).is_none() {
         asked::again(&slip, answer as usize, pair)?;
     }
