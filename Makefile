@@ -1,7 +1,7 @@
 # make run    builds the library and the bench tool, and checks samples/edition (STICK=folder: any other)
 # make test   the gate: layout, proofs, must-fail edits, programs, and all tests
 # make prove  the proofs alone, in seconds where little has changed
-# make fuzz   both readers over COUNT files grown from SEED; make real FOLDER=…  over figures from elsewhere
+# make fuzz   both readers over COUNT files grown from SEED (KIND=slips: of one kind); make real FOLDER=…  over figures from elsewhere
 # make bench  the speed, against the second reader
 .DEFAULT_GOAL := run
 SHELL := /bin/bash
@@ -40,7 +40,7 @@ rust-test: differ
 	second/target/release/differ --count 200000 --seed 1
 
 fuzz: differ
-	second/target/release/differ --count $(COUNT) --seed $(SEED)
+	second/target/release/differ --count $(COUNT) --seed $(SEED) $(if $(KIND),--only $(KIND))
 
 real: differ
 	@test -n '$(FOLDER)' || { echo 'make real FOLDER=folder-of-3ds-files (docs/REAL_FILES.md says where some are)'; exit 2; }

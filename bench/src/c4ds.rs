@@ -4,7 +4,7 @@
 
 use crate::calls::accepted;
 use crate::measure::{both, Times};
-use second::boundary::{C4dRight, C4ds, Second};
+use second::boundary::{Right, C4ds, Second};
 use second::{read_c4d, LIMIT};
 use std::hint::black_box;
 
@@ -29,7 +29,7 @@ pub fn all() -> Vec<Figure> {
 
 /// The check and the list of a figure: the list into lent rows on both sides.
 pub fn times(file: &[u8], turns: usize) -> [(&'static str, Times); 2] {
-    let right = C4dRight::default();
+    let right = Right::default();
     let left = || {
         black_box(read_c4d(black_box(file))).unwrap();
     };

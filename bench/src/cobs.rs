@@ -4,7 +4,7 @@
 
 use crate::calls::accepted;
 use crate::measure::{both, Times};
-use second::boundary::{CobRight, Cobs, Second};
+use second::boundary::{Right, Cobs, Second};
 use second::{read_cob, LIMIT};
 use std::hint::black_box;
 
@@ -32,7 +32,7 @@ pub fn all() -> Vec<Figure> {
 
 /// The check and the list of a figure: the list into lent rows on both sides.
 pub fn times(file: &[u8], turns: usize) -> [(&'static str, Times); 2] {
-    let right = CobRight::default();
+    let right = Right::default();
     let left = || {
         black_box(read_cob(black_box(file))).unwrap();
     };

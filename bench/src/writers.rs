@@ -4,7 +4,7 @@
 use crate::calls::accepted;
 use crate::figures::{corners, vertices};
 use crate::measure::{both, Times};
-use second::boundary::{FigureRight, Figures, Rows, Second};
+use second::boundary::{Right, Figures, Rows, Second};
 use second::LIMIT;
 use std::hint::black_box;
 
@@ -18,7 +18,7 @@ pub fn all() -> [(&'static str, Rows); 2] {
 
 /// The size of what is written, and the time that it takes.
 pub fn times(rows: &Rows, turns: usize) -> (usize, Times) {
-    let right = FigureRight::default();
+    let right = Right::default();
     let (mut ours, mut theirs) = (vec![0; LIMIT], vec![0; LIMIT]);
     let size = right.write_figure(rows, &mut theirs) as usize;
     let left = || accepted(Second.write_figure(black_box(rows), &mut ours));

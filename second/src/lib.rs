@@ -29,18 +29,16 @@ pub use c4d::{read_c4d, C4d};
 pub use cob::{read_cob, Cob, CobMesh, CobRecord};
 pub use figures::{write_figure, Figure, Group, Material, Object};
 pub use judge::{check, Counts};
-pub use label::LABELS_JUDGED;
-pub use list::{list, record};
+pub use list::list;
 pub use mapping::mapping;
 pub use meshes::{meshes, MeshPlaces};
-pub use parts::{parts, Part, PARTS_LISTED, ROOT};
+pub use parts::{parts, Part, ROOT};
 pub use refusal::{Number, Refusal};
 pub use rescue::{rescue, Cut, Rescued};
 pub use slip::{read_slip, write_slip, Entry, MOST as MOST_ENTRIES};
 pub use sums::{sums, Sums};
 pub use table::{place, row, Own, Row};
 pub use tables::{name, tables};
-pub use version::OLD_MAPPING;
 pub use writer::write;
 
 /// The bytes of a chunk's header: identifier and length.
@@ -49,5 +47,5 @@ pub const HEADER: usize = 6;
 /// The most bytes a figure may have.
 pub const LIMIT: usize = 1_048_576;
 
-/// The 32-bit numbers of one record in the list: seven with Q-9, else six.
-pub const RECORD: usize = if cfg!(feature = "next") { 7 } else { 6 };
+/// The 32-bit numbers of one record in the list.
+pub const RECORD: usize = 7;

@@ -1,4 +1,4 @@
-//! The list of known chunks, so many numbers a record, into a lent row. The
+//! The list of known chunks, seven numbers a record, into a lent row. The
 //! first pass judges and counts, the second fills and judges nothing.
 
 use crate::bytes::{first_word, header, name_length};
@@ -30,7 +30,9 @@ struct Filling<'a> {
 }
 
 impl Filling<'_> {
-    /// Notes the known chunks of one run and all inside them.
+    /// Notes the known chunks of one run and all inside them: identifier, offset,
+    /// length, depth, parent, own data, and the number of the next record that is
+    /// not inside it.
     fn run(&mut self, mut at: usize, end: usize, parent: usize, depth: u32) {
         while let Some((identifier, length)) = header(&self.file[at..end]) {
             if let Some(row) = row(identifier) {
@@ -44,7 +46,7 @@ impl Filling<'_> {
                 if own < body.len() {
                     self.run(at + HEADER + own, at + length, number, depth + 1);
                 }
-                self.row[number] = record([
+                self.row[number] = [
                     u32::from(identifier),
                     at as u32,
                     length as u32,
@@ -52,18 +54,11 @@ impl Filling<'_> {
                     parent as u32,
                     own as u32,
                     self.number as u32,
-                ]);
+                ];
             }
             at += length;
         }
     }
-}
-
-/// A record of its numbers: identifier, offset, length, depth, parent, own
-/// data, and the number of the next record that is not inside it.
-#[inline(always)]
-pub fn record(numbers: [u32; 7]) -> [u32; RECORD] {
-    std::array::from_fn(|which| numbers[which])
 }
 
 /// The own data of a chunk that children may follow, already judged.

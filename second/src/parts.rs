@@ -4,9 +4,6 @@
 use crate::judge::hung;
 use crate::{Number, Refusal};
 
-/// Whether the keyframer is listed; it is not before Q-7.
-pub const PARTS_LISTED: bool = cfg!(feature = "parts");
-
 /// The father of a part that hangs on none.
 pub const ROOT: u16 = 65_535;
 

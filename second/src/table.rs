@@ -1,7 +1,6 @@
 //! The table of chunks, laid out as the paper lays it out: where each
 //! identifier may stand, what its own data is, and whether children follow.
 
-use crate::parts::PARTS_LISTED;
 use place::*;
 use Own::*;
 
@@ -96,9 +95,9 @@ const fn under(place: u16, own: Own) -> Row {
     }
 }
 
-/// The rows, each with the identifiers that have it, those of Q-7 last.
+/// The rows, each with the identifiers that have it; the keyframer's last.
 #[rustfmt::skip]
-const ALL: [(&[u16], Row); 38] = [
+const ROWS: [(&[u16], Row); 38] = [
     (&[0x4D4D],                                 under(FILE, Bytes(0)).plus(H4D4D).needs(2)),
     (&[0x0002],                                 under(H4D4D, Bytes(4)).once(1)),
     (&[0x3D3D],                                 under(H4D4D, Bytes(0)).plus(H3D3D).once(2)),
@@ -138,9 +137,6 @@ const ALL: [(&[u16], Row); 38] = [
     (&[0xB002],                                 under(HB000, Bytes(0)).plus(HB002).needs(1)),
     (&[0xB010],                                 under(HB002, Part).once(1)),
 ];
-
-/// Those that are in force.
-const ROWS: &[(&[u16], Row)] = ALL.split_at(if PARTS_LISTED { 38 } else { 34 }).0;
 
 /// The rows by their numbers, close together.
 static TABLE: [Row; ROWS.len()] = {

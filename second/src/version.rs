@@ -4,16 +4,13 @@
 use crate::judge::child;
 use crate::HEADER;
 
-/// Whether old figures may have fewer pairs than vertices, as Q-6 has it.
-pub const OLD_MAPPING: bool = cfg!(feature = "mapping");
-
 /// The first version of figures whose meshes have as many pairs as vertices.
 const NEW: u32 = 3;
 
 /// Whether a figure's mapping lists must be as long as its vertices; its 4D4D
 /// is the whole file.
 pub fn mapped_whole(file: &[u8]) -> bool {
-    !OLD_MAPPING || version(&file[HEADER..]).is_some_and(|version| version >= NEW)
+    version(&file[HEADER..]).is_some_and(|version| version >= NEW)
 }
 
 /// That of the first 0002 of length 10 in a run of chunks, up to the first bad

@@ -3,7 +3,7 @@
 
 mod common;
 use common::{chunk, faces, figure, object, pair, triangle, vertices};
-use second::{bounding_box, list, name, record, tables, RECORD};
+use second::{bounding_box, list, name, tables, RECORD};
 
 /// Two meshes: one point and a face in the first, nothing in the second.
 fn two() -> Vec<u8> {
@@ -44,8 +44,8 @@ fn a_record_in_part_is_no_room() {
     assert_eq!(list(&file, short).map_err(pair), Err((15, 2)));
     assert_eq!(row, [7; 2 * RECORD + 1]);
     assert_eq!(list(&file, &mut row).unwrap().records, 2);
-    let figure = record([0x4D4D, 0, 12, 0, 0, 0, 2]);
-    let edit = record([0x3D3D, 6, 6, 1, 0, 0, 2]);
+    let figure = [0x4D4D, 0, 12, 0, 0, 0, 2];
+    let edit = [0x3D3D, 6, 6, 1, 0, 0, 2];
     assert_eq!(row[..], [&figure[..], &edit, &[7]].concat());
 }
 
@@ -55,15 +55,11 @@ fn groups_and_their_depth_are_listed() {
     let file = common::mesh(&[&vertices(&[0.0; 3]), &faces(&[[0; 3]], &[&group])]);
     let mut row = [0; 7 * RECORD];
     assert_eq!(list(&file, &mut row).unwrap().records, 7);
-    let last = [
-        record([0x4120, 45, 32, 4, 3, 10, 7]),
-        record([0x4130, 61, 16, 5, 5, 10, 7]),
-    ];
+    let last = [[0x4120, 45, 32, 4, 3, 10, 7], [0x4130, 61, 16, 5, 5, 10, 7]];
     assert_eq!(row[5 * RECORD..], *last.as_flattened());
 }
 
 #[test]
-#[cfg(feature = "next")]
 fn a_record_says_where_its_branch_ends() {
     let private = chunk(0x8123, &[b"1041"]);
     let file = figure(&[&chunk(0x1470, &[]), &private, &two()[12..]]);

@@ -4,7 +4,7 @@
 mod common;
 use common::triangle;
 use second::boundary::{refusal, refused, Boundary, Chunk, Second, RECORD_BYTES};
-use second::{record, RECORD};
+use second::RECORD;
 
 #[test]
 fn answers_are_numbers() {
@@ -54,9 +54,9 @@ fn the_row_and_the_table_both_have_room() {
     assert_eq!((row, table), ([7; ROOM + 4], [seven; 7]));
     assert_eq!(Second.records(&file, &mut row, &mut table), 6);
     let (first, last) = ([0x4D4D, 0, 86, 0, 0, 0, 6], [0x4120, 70, 16, 4, 3, 10, 6]);
-    assert_eq!(row[5 * RECORD..], [&record(last)[..], &[7; 4]].concat());
-    assert_eq!(table[0], Chunk::from(record(first)));
-    assert_eq!(<[u32; RECORD]>::from(table[5]), record(last));
+    assert_eq!(row[5 * RECORD..], [&last[..], &[7; 4]].concat());
+    assert_eq!(table[0], Chunk::from(first));
+    assert_eq!(<[u32; RECORD]>::from(table[5]), last);
     assert_eq!(table[6], seven);
 }
 

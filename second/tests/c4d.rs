@@ -1,7 +1,7 @@
 //! Cinema 4D figures by hand: each refusal with its place and against those it
 //! comes before, combinations, textures; asked of both sides.
 
-use second::boundary::{refused, C4dRight, C4ds, Second};
+use second::boundary::{refused, C4ds, Right, Second};
 use second::LIMIT;
 
 /// A file of chunks, of which the first stands at 12.
@@ -44,13 +44,13 @@ fn objects(identifiers: &[u8]) -> Vec<u8> {
 
 /// What both sides answer, which is the same, and what becomes of the lent bytes.
 fn both(file: &[u8], rooms: [usize; 2]) -> (u64, [Vec<u8>; 2]) {
-    let [left, right] = [&Second as &dyn C4ds, &C4dRight::default()].map(|side| {
+    let [left, right] = [&Second as &dyn C4ds, &Right::default()].map(|side| {
         let mut lent = rooms.map(|room| vec![0xA5; room]);
         let [first, second] = lent.each_mut();
         (side.c4d_list(file, first, second), lent)
     });
     assert_eq!(right, left, "right, left");
-    let checked = [&Second as &dyn C4ds, &C4dRight::default()].map(|side| side.c4d_check(file));
+    let checked = [&Second as &dyn C4ds, &Right::default()].map(|side| side.c4d_check(file));
     assert_eq!(checked[0], checked[1]);
     assert!(
         checked[0] == left.0 || left.0 >> 32 == 15,

@@ -1,7 +1,7 @@
 //! Caligari figures by hand: each refusal with its place and against those it
 //! comes before, the list with its owners, the tables; asked of both sides.
 
-use second::boundary::{refused, CobRight, Cobs, Second};
+use second::boundary::{refused, Cobs, Right, Second};
 use second::LIMIT;
 
 const GROUP: (&[u8; 4], [u16; 2]) = (b"Grou", [0, 1]);
@@ -80,7 +80,7 @@ fn both(
     rooms: [usize; 2],
     call: impl Fn(&dyn Cobs, &mut [u8], &mut [u8]) -> u64,
 ) -> (u64, [Vec<u8>; 2]) {
-    let [left, right] = [&Second as &dyn Cobs, &CobRight::default()].map(|side| {
+    let [left, right] = [&Second as &dyn Cobs, &Right::default()].map(|side| {
         let mut lent = rooms.map(|room| vec![0xA5; room]);
         let [first, second] = lent.each_mut();
         (call(side, first, second), lent)

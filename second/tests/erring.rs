@@ -5,7 +5,6 @@ use second::boundary::Second;
 use second::differ::compare::Pair;
 use second::differ::run::{Failure, Plan, Tally};
 use second::differ::{c4ds, cobs, figures, slips, sums};
-use second::LABELS_JUDGED;
 
 /// A small run that prints nothing.
 const PLAN: Plan = Plan {
@@ -41,10 +40,7 @@ fn errors_in_slips_are_seen() {
             &mut Pair::new(Second, slips::erring::Erring { error }),
         )
     };
-    agrees(run(None), &[0, 18]);
-    if LABELS_JUDGED {
-        agrees(run(None), &[24]);
-    }
+    agrees(run(None), &[0, 18, 24]);
     all_seen(slips::erring::ERRORS, |error| run(Some(error)));
 }
 
@@ -77,9 +73,6 @@ fn errors_in_figures_with_materials_are_seen() {
             &mut Pair::new(Second, figures::erring::Erring { error }),
         )
     };
-    agrees(run(None), &[0, 1, 9, 11, 12, 13, 29, 30]);
-    if LABELS_JUDGED {
-        agrees(run(None), &[24]);
-    }
+    agrees(run(None), &[0, 1, 9, 11, 12, 13, 24, 29, 30]);
     all_seen(figures::erring::ERRORS, |error| run(Some(error)));
 }

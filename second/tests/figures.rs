@@ -3,8 +3,8 @@
 
 mod common;
 use common::{chunk, counts, faces, figure, vertices, words};
-use second::boundary::{refused, Boundary, FigureRight, Figures, Rows, Second};
-use second::{LABELS_JUDGED, LIMIT};
+use second::boundary::{refused, Boundary, Figures, Right, Rows, Second};
+use second::LIMIT;
 
 /// An object: name, floats, corners, smoothing words, groups.
 type Object<'a> = (
@@ -55,7 +55,7 @@ fn rows(objects: &[Object], materials: &[&str]) -> Rows {
 
 /// What both sides answer, which is the same, and what becomes of the room.
 fn both(rows: &Rows, room: usize) -> (u64, Vec<u8>) {
-    let [left, right] = [&Second as &dyn Figures, &FigureRight::default()].map(|side| {
+    let [left, right] = [&Second as &dyn Figures, &Right::default()].map(|side| {
         let mut out = vec![0xA5; room];
         (side.write_figure(rows, &mut out), out)
     });
@@ -178,19 +178,9 @@ fn zeros_in_names() {
 
 #[test]
 fn names_fit_for_the_label() {
-    let text = |place, size| {
-        if LABELS_JUDGED {
-            refused(24, place)
-        } else {
-            size
-        }
-    };
     let long = "n".repeat(64);
-    assert_eq!(write(&[("a\x1F", &[], &[], &[], &[])], &[]), text(1, 43));
-    assert_eq!(
-        write(&[(&long, &[], &[], &[], &[])], &[]),
-        text(63, 41 + 64)
-    );
+    assert_eq!(write(&[("a\x1F", &[], &[], &[], &[])], &[]), refused(24, 1));
+    assert_eq!(write(&[(&long, &[], &[], &[], &[])], &[]), refused(24, 63));
     assert_eq!(write(&[(&long[1..], &[], &[], &[], &[])], &[]), 41 + 63);
 }
 
@@ -295,19 +285,14 @@ fn numbers_and_indices() {
 
 #[test]
 fn sizes_come_last() {
-    let name = |length: usize| "n".repeat(length);
-    if LABELS_JUDGED {
-        return assert_eq!(
-            write(&[(&name(64), &[], &[], &[], &[])], &[]),
-            refused(24, 63)
-        );
-    }
-    let sized = |more: usize, corners: &[u16], room| {
-        let name = name(LIMIT - 41 - 12 - 8 + more);
-        both(&rows(&[(&name, &POINT, corners, &[], &[])], &[]), room).0
+    // With a name of three letters just as long as a figure may be.
+    let (points, corners) = (vec![0.5; 3 * 65_535], vec![0; 3 * 32_764]);
+    let bad = [&[0, u16::MAX][..], &corners[2..]].concat();
+    let sized = |name: &str, corners: &[u16], room| {
+        both(&rows(&[(name, &points, corners, &[], &[])], &[]), room).0
     };
-    assert_eq!(sized(0, &FACE, LIMIT), LIMIT as u64);
-    assert_eq!(sized(0, &FACE, LIMIT - 1), refused(15, LIMIT));
-    assert_eq!(sized(1, &FACE, 0), refused(1, 0));
-    assert_eq!(sized(1, &[0, 1, 0], 0), refused(12, 1));
+    assert_eq!(sized("abc", &corners, LIMIT), LIMIT as u64);
+    assert_eq!(sized("abc", &corners, LIMIT - 1), refused(15, LIMIT));
+    assert_eq!(sized("abcd", &corners, 0), refused(1, 0));
+    assert_eq!(sized("abcd", &bad, 0), refused(12, 1));
 }

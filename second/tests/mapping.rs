@@ -4,7 +4,6 @@
 mod common;
 use common::{chunk, figure, object, vertices, words};
 use second::boundary::{refused, Boundary, Right, Second};
-use second::OLD_MAPPING;
 
 /// What both sides answer, which is the same, and what the lent bytes become.
 fn both(room: usize, call: impl Fn(&dyn Boundary, &mut [u8]) -> u64) -> (u64, Vec<u8>) {
@@ -40,12 +39,10 @@ fn versioned(version: u32, objects: &[&[u8]]) -> Vec<u8> {
 
 #[test]
 fn the_version_decides() {
-    let fewer = |place| if OLD_MAPPING { 6 } else { refused(13, place) };
     for m in 0..2 {
-        assert_eq!(check(&figure(&[&mesh(m)])), fewer(25));
+        assert_eq!(check(&figure(&[&mesh(m)])), 6);
         for version in 0..3 {
-            let answer = check(&versioned(version, &[&mesh(m)]));
-            assert_eq!(answer, fewer(35) + u64::from(OLD_MAPPING));
+            assert_eq!(check(&versioned(version, &[&mesh(m)])), 7);
         }
         for version in [3, 4, 0x0100, 1 << 31, u32::MAX] {
             assert_eq!(check(&versioned(version, &[&mesh(m)])), refused(13, 35));
@@ -60,7 +57,6 @@ fn the_version_decides() {
 }
 
 #[test]
-#[cfg(feature = "mapping")]
 fn the_first_version_of_length_10() {
     let edit = chunk(0x3D3D, &[&mesh(1)]);
     let version =
@@ -116,7 +112,6 @@ fn pairs_are_two_numbers_a_vertex() {
 }
 
 #[test]
-#[cfg(feature = "mapping")]
 fn missing_pairs_are_zero() {
     let file = figure(&[&mesh(1), &mesh(0), &object(&[&pairs(0)])]);
     let (answer, out) = both(18, |side, out| side.mapping(&file, 0, out));

@@ -73,7 +73,6 @@ fn every_mesh_and_nothing_else() {
 }
 
 #[test]
-#[cfg(feature = "mapping")]
 fn pairs_as_they_stand() {
     let file = figure(&[&object(&[&vertices(&[1.0; 6]), &mapping(1)])]);
     let known = bytes(&[[18, 0, 2, 33, 0, 0, 1, 65]]);

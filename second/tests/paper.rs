@@ -3,7 +3,7 @@
 
 mod common;
 use common::{chunk, counts, hex, pair, refusal, triangle};
-use second::{bounding_box, check, list, name, record, tables, RECORD};
+use second::{bounding_box, check, list, name, tables, RECORD};
 
 const P4: &str = "4D4D 0C000000 3D3D 06000000";
 
@@ -61,7 +61,7 @@ fn p12() {
     assert_eq!(counts(&file), (36, 50, 10));
     let mut row = [0; 6 * RECORD];
     assert_eq!(list(&file, &mut row).unwrap().records, 6);
-    let mesh = record([0x4100, 30, 66, 3, 2, 0, 6]);
+    let mesh = [0x4100, 30, 66, 3, 2, 0, 6];
     assert_eq!(row[3 * RECORD..4 * RECORD], mesh);
     assert_eq!(table_of(&file), table_of(&triangle()));
     assert_eq!(name(&file, 0), Ok((18, 1)));
@@ -88,7 +88,6 @@ fn the_triangles_list_and_tables() {
         [0x4110, 26, 44, 4, 3, 38, 5],
         [0x4120, 70, 16, 4, 3, 10, 6],
     ];
-    let expected = expected.map(record);
     assert_eq!(row[..6 * RECORD], *expected.as_flattened());
     assert_eq!(row[6 * RECORD..], [7; 4]);
     let (vertices, corners) = table_of(&file);

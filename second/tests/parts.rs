@@ -1,6 +1,5 @@
 //! The parts of a moving figure: fathers, depths, each refusal with its place;
 //! asked of both sides.
-#![cfg(feature = "parts")]
 
 mod common;
 use common::{chunk, words};
@@ -90,8 +89,7 @@ fn the_order_at_a_part() {
     assert_eq!(whose(&called(b"a\0", &[9; 5])), refused(10, 24));
     assert_eq!(whose(&called(b"a\0", &[9; 7])), refused(10, 24));
     assert_eq!(whose(&called(b"a\0", &[9; 6])), refused(23, 24));
-    let text = if second::LABELS_JUDGED { 24 } else { 23 };
-    assert_eq!(whose(&called(b"\n\0", &[9; 6])), refused(text, 24));
+    assert_eq!(whose(&called(b"\n\0", &[9; 6])), refused(24, 24));
     assert_eq!(whose(&called(b"\0", &[255; 6])), 1);
     assert_eq!(whose(&called(b"a\0", &[255; 6]).repeat(2)), refused(8, 38));
     assert_eq!(whose(&[]), refused(14, 18));

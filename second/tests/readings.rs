@@ -4,8 +4,6 @@
 mod common;
 use common::{chunk, counts, faces, figure, mapping, mesh, object, refusal, vertices, words};
 
-use second::LABELS_JUDGED;
-
 const POINT: [f32; 3] = [0.0; 3];
 
 #[test]
@@ -72,8 +70,7 @@ fn no_zero_is_name_before_length() {
     assert_eq!(refusal(&group(b"abc\0\0")), (10, 33));
     assert_eq!(counts(&group(b"abc\0\0\0")).2, 0);
     assert_eq!(refusal(&group(b"abc\0\0\0\0")), (10, 33));
-    let text = if LABELS_JUDGED { 24 } else { 10 };
-    assert_eq!(refusal(&group(b"abc\x01\0")), (text, 33));
+    assert_eq!(refusal(&group(b"abc\x01\0")), (24, 33));
     let material = |body: &[u8]| figure(&[&chunk(0xAFFF, &[&chunk(0xA000, &[body])])]);
     assert_eq!(refusal(&material(&[])), (9, 18));
     assert_eq!(refusal(&material(b"x")), (9, 18));
@@ -83,7 +80,6 @@ fn no_zero_is_name_before_length() {
 }
 
 #[test]
-#[cfg(feature = "labels")]
 fn names_fit_for_the_label() {
     let object = |name: &[u8]| figure(&[&chunk(0x4000, &[name])]);
     let material = |name: &[u8]| figure(&[&chunk(0xAFFF, &[&chunk(0xA000, &[name])])]);
@@ -118,8 +114,7 @@ fn names_fit_for_the_label() {
 fn the_zero_is_searched_in_the_whole_body() {
     // The name runs on into the child's header, up to its length's first zero.
     let file = figure(&[&chunk(0x4000, &[b"abc", &chunk(0x4010, &[])])]);
-    let met = if LABELS_JUDGED { (24, 12) } else { (6, 25) };
-    assert_eq!(refusal(&file), met);
+    assert_eq!(refusal(&file), (24, 12));
     // In a 4130 the count and the entries are searched too, but no further.
     let file = mesh(&[&faces(&[], &[&chunk(0x4130, &[b"abc", &words(&[0x0101])])])]);
     assert_eq!(refusal(&file), (9, 33));

@@ -6,7 +6,7 @@ mod bare;
 mod common;
 use bare::{Figure, Seed, EDGES, FAULTS, MOST, SIGNALLING};
 use second::boundary::{refused, Boundary, Second, Tds};
-use second::{list, name, record, tables, LABELS_JUDGED, LIMIT, RECORD};
+use second::{list, name, tables, LIMIT, RECORD};
 
 /// Canaries on each side of the room; odd, so that the room is not aligned.
 const GUARD: usize = 37;
@@ -52,7 +52,7 @@ impl Figure {
             [0x4110, mesh + 6, v, 4, 3, v - 6, 5],
             [0x4120, mesh + 6 + v, c, 4, 3, c - 6, 6],
         ];
-        assert_eq!(listed[..6], expected.map(record));
+        assert_eq!(listed[..6], expected);
         let (n, f) = ((v as usize - 8) / 12, (c as usize - 8) / 8);
         let (mut vertices, mut corners) = (vec![f32::NAN; 3 * n], vec![7; 3 * f]);
         assert_eq!(tables(file, 0, &mut vertices, &mut corners), Ok((n, f)));
@@ -117,7 +117,7 @@ fn from_nothing_to_the_limit() {
     let sizes = [&small[..], &wide, &long, &near, &full, &fullest, &labelled].concat();
     for (at, (name, n, f)) in sizes.into_iter().enumerate() {
         let mut figure = Seed(at as u64).figure(name, n, f);
-        if LABELS_JUDGED && name > 63 {
+        if name > 63 {
             figure.refuses(24, 63, &[0, LIMIT]);
             continue;
         }

@@ -1,8 +1,8 @@
 //! The slip in the house manner: hand-made slips read and written, and each
 //! refusal with its place; asked of both sides.
 
-use second::boundary::{refused, Second, SlipRight, Slips, ENTRY_BYTES};
-use second::{Entry, LABELS_JUDGED, MOST_ENTRIES};
+use second::boundary::{refused, Right, Second, Slips, ENTRY_BYTES};
+use second::{Entry, MOST_ENTRIES};
 
 /// Two files on a stick: "a" of 258 bytes, "bc" of 4.
 const TWO: [u8; 24] = [
@@ -11,7 +11,7 @@ const TWO: [u8; 24] = [
 
 /// What both sides answer, which is the same, and what the lent bytes become.
 fn both(room: usize, call: impl Fn(&dyn Slips, &mut [u8]) -> u64) -> (u64, Vec<u8>) {
-    let [left, right] = [&Second as &dyn Slips, &SlipRight::default()].map(|side| {
+    let [left, right] = [&Second as &dyn Slips, &Right::default()].map(|side| {
         let mut lent = vec![0xA5; room];
         (call(side, &mut lent), lent)
     });
@@ -117,14 +117,8 @@ fn names_are_all_different() {
     assert_eq!(read(&slip(&[b"ab", b"a", b"abc", b"b"])), 4);
     assert_eq!(read(&slip(&[b"ab", b"a", b"ab", b"a"])), refused(18, 24));
     assert_eq!(read(&slip(&[b"A", b"a"])), 2);
-    assert_eq!(
-        read(&slip(&[b"\0", b"\0\0"])),
-        if LABELS_JUDGED { refused(24, 7) } else { 2 }
-    );
-    assert_eq!(
-        read(&slip(&[&[b'n'; 255]])),
-        if LABELS_JUDGED { refused(24, 7) } else { 1 }
-    );
+    assert_eq!(read(&slip(&[b"\0", b"\0\0"])), refused(24, 7));
+    assert_eq!(read(&slip(&[&[b'n'; 255]])), refused(24, 7));
 }
 
 #[test]
@@ -166,14 +160,7 @@ fn the_writers_first_bad_entry() {
     }
     // The name may be the same although it stands elsewhere.
     assert_eq!(write(b"xx", &[[0, 1, 0, 0], [1, 1, 0, 0]]), refused(18, 1));
-    assert_eq!(
-        write(&[b'n'; 255], &[[0, 255, 0, 0]]),
-        if LABELS_JUDGED {
-            refused(24, 0)
-        } else {
-            7 + 262
-        }
-    );
+    assert_eq!(write(&[b'n'; 255], &[[0, 255, 0, 0]]), refused(24, 0));
 }
 
 #[test]
@@ -202,14 +189,12 @@ fn a_thousand_entries_and_one_more() {
     assert_eq!(write(&names, &entries), refused(18, 999));
 }
 
-/// Q-8 for the slip: at most 63 bytes, each from 32 to 126, after all of 18.
-/// Before it lands any byte will do.
+/// At most 63 bytes, each from 32 to 126, after all of 18.
 #[test]
 fn names_fit_for_the_label() {
-    let text = |place| if LABELS_JUDGED { refused(24, place) } else { 2 };
-    assert_eq!(read(&changed(8, 31)), text(7));
-    assert_eq!(read(&changed(8, 127)), text(7));
-    assert_eq!(read(&changed(17, 0)), text(15));
+    assert_eq!(read(&changed(8, 31)), refused(24, 7));
+    assert_eq!(read(&changed(8, 127)), refused(24, 7));
+    assert_eq!(read(&changed(17, 0)), refused(24, 15));
     assert_eq!(read(&changed(8, b' ')), 2);
     assert_eq!(read(&changed(8, b'~')), 2);
     let mut both_faults = changed(8, 31);
@@ -220,15 +205,12 @@ fn names_fit_for_the_label() {
         [&[1, 0, 0, 0, count + 9, 0, 1, count], &name[..], &[0; 6]].concat()
     };
     assert_eq!(read(&long(63)), 1);
-    assert_eq!(
-        read(&long(64)),
-        if LABELS_JUDGED { refused(24, 7) } else { 1 }
-    );
+    assert_eq!(read(&long(64)), refused(24, 7));
     let entry = Entry {
         name_offset: 8,
         name_length: 1,
         ..Entry::default()
     };
-    let said = second::write_slip(&changed(8, 31), &[entry]).map(|slip| slip.len());
-    assert_eq!(said.is_err(), LABELS_JUDGED);
+    assert!(second::write_slip(&changed(8, 31), &[entry]).is_err());
+    assert!(second::write_slip(&changed(8, 32), &[entry]).is_ok());
 }

@@ -1,7 +1,7 @@
 //! Fletcher's sums from their definition, the check of a file against an entry,
 //! and files in parts; each asked of both sides.
 
-use second::boundary::{refused, Second, SumRight, Summing};
+use second::boundary::{refused, Right, Second, Summing};
 use second::LIMIT;
 
 /// The most that a state says of a length.
@@ -10,7 +10,7 @@ const MOST: u64 = (1 << 48) - 1;
 /// What both sides answer, which is the same.
 fn both(call: impl Fn(&dyn Summing) -> u64) -> u64 {
     let answer = call(&Second);
-    assert_eq!(call(&SumRight::default()), answer, "right, left");
+    assert_eq!(call(&Right::default()), answer, "right, left");
     answer
 }
 

@@ -1,7 +1,7 @@
 //! The table against the paper's own words: the rows are read out of its
 //! text, and every identifier is compared.
 
-use second::{place, row, Own, PARTS_LISTED};
+use second::{place, row, Own};
 
 /// The paper's table, as it stands there.
 const PAPER: &str = "\
@@ -32,7 +32,7 @@ const PAPER: &str = "\
 | 4651 / 4653 / 4656 | 4610 | 0 / name / 4 |
 | 4700 | 4000 | 32 + |";
 
-/// What Q-7 adds to it.
+/// What the paper adds to it for the keyframer.
 const KEYFRAMER: &str = "\
 | B000 | 4D4D | 0 + |
 | B008 | B000 | 8 |
@@ -61,8 +61,7 @@ fn own(text: &str) -> Own {
 
 fn lines() -> Vec<Line> {
     let mut lines = Vec::new();
-    let later = if PARTS_LISTED { KEYFRAMER } else { "" };
-    for line in PAPER.lines().chain(later.lines()) {
+    for line in PAPER.lines().chain(KEYFRAMER.lines()) {
         let cells: Vec<&str> = line.trim_matches(['|', ' ']).split(" | ").collect();
         let parents = match cells[1] {
             "the file" => vec![],
@@ -84,7 +83,7 @@ fn lines() -> Vec<Line> {
 #[test]
 fn every_identifier_has_the_papers_row() {
     let lines = lines();
-    assert_eq!(lines.len(), if PARTS_LISTED { 47 } else { 43 });
+    assert_eq!(lines.len(), 47);
     let holds = |identifier: u16| row(identifier).map_or(0, |row| row.holds);
     for identifier in 0..=u16::MAX {
         let line = lines.iter().find(|line| line.0 == identifier);
@@ -110,13 +109,10 @@ fn every_identifier_has_the_papers_row() {
 
 #[test]
 fn at_most_one_and_at_least_one() {
-    let mut once = vec![
+    let once = [
         0x0002, 0x3D3D, 0xA000, 0x4100, 0x4600, 0x4700, 0x4110, 0x4120, 0x4140, 0x4160, 0x4165,
-        0x4150, 0x4610,
+        0x4150, 0x4610, 0xB000, 0xB008, 0xB010,
     ];
-    if PARTS_LISTED {
-        once.extend([0xB000, 0xB008, 0xB010]);
-    }
     let together = [0x4100, 0x4600, 0x4700];
     for a in 0..=u16::MAX {
         let Some(row_a) = row(a) else { continue };

@@ -9,7 +9,6 @@ use second::differ::guarded::guarded;
 use second::differ::kinds::Kind;
 use second::differ::real;
 use second::differ::turned::{turned, Counts, Turned};
-use second::LABELS_JUDGED;
 
 /// What becomes of every bit of a file.
 fn all_bits(file: &[u8]) -> Turned {
@@ -31,8 +30,7 @@ fn bits_of_the_triangle() {
     let Turned { all, kinds } = all_bits(&triangle());
     // The name's one letter and the flag word: all that no answer shows. Of
     // the letter two bits make it one that no label takes.
-    let letter = if LABELS_JUDGED { 6 } else { 8 };
-    assert_eq!(all.same, letter + 16);
+    assert_eq!(all.same, 6 + 16);
     assert_eq!(all.refused + all.same + all.other, 8 * 86);
     let mut sum = Counts::default();
     kinds.values().for_each(|counts| sum.add(*counts));

@@ -3,7 +3,7 @@
 
 mod common;
 use common::{pair, triangle};
-use second::{check, name, tables, write, LABELS_JUDGED, LIMIT};
+use second::{check, name, tables, write, LIMIT};
 
 const FLOATS: [f32; 9] = [0.0, 0.0, 0.0, 1.0, 0.0, 0.0, 0.0, 1.0, 0.0];
 
@@ -43,7 +43,6 @@ fn refusals_in_order() {
 }
 
 #[test]
-#[cfg(feature = "labels")]
 fn names_fit_for_the_label() {
     let named = |name: &[u8]| ask(name, &[], &[], 999);
     assert_eq!(named(&[b'~'; 63]), Ok(41 + 63));
@@ -63,14 +62,8 @@ fn limits() {
     assert_eq!(full(b"abc", LIMIT), Ok(LIMIT));
     assert_eq!(full(b"abc", LIMIT - 1), Err((15, LIMIT)));
     assert_eq!(full(b"abcd", 0), Err((1, 0)));
-    // A long name is written where no label has to take it.
     let name = vec![b'x'; LIMIT - 41];
-    let answer = if LABELS_JUDGED {
-        Err((24, 63))
-    } else {
-        Ok(LIMIT)
-    };
-    assert_eq!(ask(&name, &[], &[], LIMIT), answer);
+    assert_eq!(ask(&name, &[], &[], LIMIT), Err((24, 63)));
     assert_eq!(ask(b"", &floats, &[], LIMIT), Ok(41 + 12 * 65_535));
     assert_eq!(ask(b"", &floats, &[0; 3 * 32_760], LIMIT), Ok(1_048_541));
     assert_eq!(ask(b"", &floats, &[0; 3 * 32_765], LIMIT), Err((1, 0)));

@@ -1,10 +1,7 @@
 //! The comparison on the command line: many cases from a seed, every bit of
 //! some files turned, or all figures in some folders.
 
-use second::boundary::{
-    Boundary, C4dRight, CobRight, FigureRight, Right, Second, SlipRight, SumRight, C4DS_LINKED,
-    COBS_LINKED, FIGURES_LINKED, LINKED, SLIPS_LINKED, SUMS_LINKED,
-};
+use second::boundary::{Boundary, Right, Second, LINKED};
 use second::differ::compare::Pair;
 use second::differ::run::{add, run, words, Failure, Plan, Tally};
 use second::differ::seeded::{Seeded, ERRORS};
@@ -14,7 +11,8 @@ use std::process::ExitCode;
 use std::time::Instant;
 
 const USAGE: &str = "differ --count N --seed S      both sides over N files grown from a seed
-                               (--trace names each case before it is run)
+                               (--only KIND: figures, sums, slips, cobs, c4ds or materials;
+                               --trace names each case before it is run)
 differ --turned FILE...        every bit of some files turned: what becomes of it
 differ --guarded FILE...       every bit of some files turned: refused, and found with a slip
 differ --real FOLDER...        both sides over the figures in some folders
@@ -36,7 +34,7 @@ fn main() -> ExitCode {
         ["--real", ref folders @ ..] => all_real(folders, pair),
         ["--seeded"] => all_seeded(),
         _ => match plan(&arguments) {
-            Some(plan) => grown(plan, pair),
+            Some((plan, kinds)) => grown(plan, kinds, pair),
             None => Err(USAGE.to_string()),
         },
     };
@@ -49,18 +47,31 @@ fn main() -> ExitCode {
     }
 }
 
-/// The count and the seed, if the arguments are just these.
-fn plan(arguments: &[&str]) -> Option<Plan> {
+/// What is compared, by the names of `--only`: the figures, other formats, and
+/// the writer of figures with materials.
+type Kind = (&'static str, Run);
+type Run = fn(Plan, &mut Pair<Second, Right>) -> Result<Tally, Box<Failure>>;
+const KINDS: &[Kind] = &[
+    ("figures", run::<Second, Right>),
+    ("sums", sums::run::<Second, Right>),
+    ("slips", slips::run::<Second, Right>),
+    ("cobs", cobs::run::<Second, Right>),
+    ("c4ds", c4ds::run::<Second, Right>),
+    ("materials", figures::run::<Second, Right>),
+];
+
+/// The count, the seed and the kinds, if the arguments are just these.
+fn plan(arguments: &[&str]) -> Option<(Plan, &'static [Kind])> {
     let mut plan = Plan {
         count: 200_000,
         seed: 1,
         loud: true,
         trace: false,
     };
-    let mut rest = arguments;
+    let (mut rest, mut kinds) = (arguments, KINDS);
     loop {
         rest = match rest {
-            [] => return Some(plan),
+            [] => return Some((plan, kinds)),
             ["--trace", rest @ ..] => {
                 plan.trace = true;
                 rest
@@ -73,60 +84,29 @@ fn plan(arguments: &[&str]) -> Option<Plan> {
                 plan.seed = seed.parse().ok()?;
                 rest
             }
+            ["--only", only, rest @ ..] => {
+                let which = KINDS.iter().position(|(name, _)| name == only)?;
+                kinds = &KINDS[which..=which];
+                rest
+            }
             _ => return None,
         };
     }
 }
 
-/// The runs over other formats: what they are over, whether the library under
-/// test has the calls, and the run.
-type Other = (&'static str, bool, fn(Plan) -> Result<Tally, Box<Failure>>);
-const OTHERS: [Other; 5] = [
-    ("sums", SUMS_LINKED, |plan| {
-        sums::run(plan, &mut Pair::new(Second, SumRight::default()))
-    }),
-    ("slips", SLIPS_LINKED, |plan| {
-        slips::run(plan, &mut Pair::new(Second, SlipRight::default()))
-    }),
-    ("Caligari figures", COBS_LINKED, |plan| {
-        cobs::run(plan, &mut Pair::new(Second, CobRight::default()))
-    }),
-    ("Cinema 4D figures", C4DS_LINKED, |plan| {
-        c4ds::run(plan, &mut Pair::new(Second, C4dRight::default()))
-    }),
-    ("figures with materials", FIGURES_LINKED, |plan| {
-        figures::run(plan, &mut Pair::new(Second, FigureRight::default()))
-    }),
-];
-
-/// The calls over figures that have landed later than others, or will.
-const LATER: [(&str, bool); 4] = [
-    ("mapping pairs", cfg!(feature = "mapping")),
-    ("parts", cfg!(feature = "parts")),
-    ("places of all meshes", cfg!(feature = "meshes")),
-    ("rescues", cfg!(feature = "rescue")),
-];
-
-/// Many cases from a seed, over figures and then over all other formats.
-fn grown<L: Boundary, R: Boundary>(plan: Plan, pair: &mut Pair<L, R>) -> Result<(), String> {
+/// Many cases of some kinds from a seed.
+fn grown(plan: Plan, kinds: &[Kind], pair: &mut Pair<Second, Right>) -> Result<(), String> {
     let begin = Instant::now();
-    let mut total = run(plan, pair).map_err(|failure| {
-        let (family, index) = (&failure.family, failure.index);
-        println!("{family}, case {index}: a difference; looking for a smaller one");
-        failure.shrunk(plan.seed, pair).words(plan.seed)
-    })?;
-    for (what, linked, run) in OTHERS {
-        if linked || !LINKED {
-            let tally = run(plan).map_err(|failure| failure.words(plan.seed))?;
-            add(&mut total, &tally);
-        } else {
-            println!("{what} are not compared: the library under test has no such calls yet");
-        }
-    }
-    for (what, landed) in LATER {
-        if LINKED && !landed {
-            println!("{what} are not compared: the library under test has no such calls yet");
-        }
+    let mut total = Tally::default();
+    for (_, run) in kinds {
+        let tally = run(plan, pair).map_err(|failure| {
+            let (family, index) = (&failure.family, failure.index);
+            if failure.subject.is_some() {
+                println!("{family}, case {index}: a difference; looking for a smaller one");
+            }
+            failure.shrunk(plan.seed, pair).words(plan.seed)
+        })?;
+        add(&mut total, &tally);
     }
     let seconds = begin.elapsed().as_secs_f64();
     println!("{:<46}{seconds:>7.1} s {}", "Total", words(&total));

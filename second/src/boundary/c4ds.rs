@@ -44,9 +44,7 @@ pub(crate) fn c4d_list_of(
     }))
 }
 
-right!(C4dRight, C4DS_LINKED, "c4d");
-
-#[cfg(all(feature = "tds", feature = "c4d"))]
+#[cfg(feature = "tds")]
 mod linked {
     //! The library under test.
 

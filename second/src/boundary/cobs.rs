@@ -85,9 +85,7 @@ fn find(read: Result<Cob, Refusal>, mesh: u32) -> Result<CobMesh, Refusal> {
     Ok(meshes.swap_remove(mesh))
 }
 
-right!(CobRight, COBS_LINKED, "cob");
-
-#[cfg(all(feature = "tds", feature = "cob"))]
+#[cfg(feature = "tds")]
 mod linked {
     //! The library under test.
 

@@ -123,9 +123,7 @@ fn take<'a, T>(row: &mut &'a [T], count: u32) -> &'a [T] {
     taken
 }
 
-right!(FigureRight, FIGURES_LINKED, "figures");
-
-#[cfg(all(feature = "tds", feature = "figures"))]
+#[cfg(feature = "tds")]
 mod linked {
     //! The library under test.
 

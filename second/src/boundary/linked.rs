@@ -43,7 +43,6 @@ extern "C" {
         out: *mut u8,
         out_len: usize,
     ) -> u64;
-    #[cfg(feature = "mapping")]
     fn tds_mapping(
         file: *const u8,
         file_len: usize,
@@ -51,9 +50,7 @@ extern "C" {
         mapping: *mut u8,
         mapping_len: usize,
     ) -> u64;
-    #[cfg(feature = "meshes")]
     fn tds_meshes(file: *const u8, file_len: usize, meshes: *mut u8, meshes_len: usize) -> u64;
-    #[cfg(feature = "rescue")]
     fn tds_rescue(
         file: *const u8,
         file_len: usize,
@@ -62,7 +59,6 @@ extern "C" {
         out: *mut u8,
         out_len: usize,
     ) -> u64;
-    #[cfg(feature = "parts")]
     fn tds_parts(file: *const u8, file_len: usize, parts: *mut u8, parts_len: usize) -> u64;
 }
 
@@ -143,28 +139,24 @@ impl Boundary for Tds {
         unsafe { tds_write(a, a_len, b, b_len, c, c_len, out, len) }
     }
 
-    #[cfg(feature = "mapping")]
     fn mapping(&self, file: &[u8], mesh: u32, numbers: &mut [u8]) -> u64 {
         let (len, mut some) = (numbers.len(), [0; 8]);
         let numbers = lend(numbers, &mut some);
         unsafe { tds_mapping(read(file, &[0]), file.len(), mesh, numbers, len) }
     }
 
-    #[cfg(feature = "parts")]
     fn parts(&self, file: &[u8], numbers: &mut [u8]) -> u64 {
         let (len, mut some) = (numbers.len(), [0; 8]);
         let numbers = lend(numbers, &mut some);
         unsafe { tds_parts(read(file, &[0]), file.len(), numbers, len) }
     }
 
-    #[cfg(feature = "meshes")]
     fn meshes(&self, file: &[u8], numbers: &mut [u8]) -> u64 {
         let (len, mut some) = (numbers.len(), [0; 8]);
         let numbers = lend(numbers, &mut some);
         unsafe { tds_meshes(read(file, &[0]), file.len(), numbers, len) }
     }
 
-    #[cfg(feature = "rescue")]
     fn rescue(&self, file: &[u8], cuts: &mut [u8], out: &mut [u8]) -> u64 {
         let (n, m) = (cuts.len(), out.len());
         let (mut some, mut more) = ([0; 8], [0; 8]);

@@ -2,21 +2,6 @@
 //! 64-bit number; this library behind it, and the one under test. Here are the
 //! calls over figures, and what all calls share.
 
-/// Names the right-hand side over a format: the library under test where its
-/// calls are linked, else this library again; and whether it is the former.
-macro_rules! right {
-    ($right:ident, $linked:ident, $feature:literal) => {
-        /// The right-hand side over this format.
-        #[cfg(all(feature = "tds", feature = $feature))]
-        pub type $right = super::Tds;
-        #[cfg(not(all(feature = "tds", feature = $feature)))]
-        pub type $right = super::Second;
-
-        /// Whether it is the library under test.
-        pub const $linked: bool = cfg!(all(feature = "tds", feature = $feature));
-    };
-}
-
 mod c4ds;
 mod cobs;
 mod figures;
@@ -24,12 +9,12 @@ mod slips;
 mod sums;
 
 pub(crate) use c4ds::c4d_list_of;
-pub use c4ds::{C4dRight, C4ds, C4DS_LINKED, OBJECT_BYTES};
+pub use c4ds::{C4ds, OBJECT_BYTES};
 pub(crate) use cobs::{cob_list_of, cob_sizes_of, cob_tables_of};
-pub use cobs::{CobRight, Cobs, COBS_LINKED, COB_RECORD_BYTES};
-pub use figures::{FigureRight, Figures, Rows, FIGURES_LINKED};
-pub use slips::{SlipRight, Slips, ENTRY_BYTES, SLIPS_LINKED};
-pub use sums::{SumRight, Summing, SUMS_LINKED};
+pub use cobs::{Cobs, COB_RECORD_BYTES};
+pub use figures::{Figures, Rows};
+pub use slips::{Slips, ENTRY_BYTES};
+pub use sums::Summing;
 
 use crate::{bounding_box, check, list, mapping, meshes, name, parts, rescue, tables, write};
 use crate::{Cut, MeshPlaces, Number, Refusal, RECORD};
@@ -57,14 +42,13 @@ pub struct Chunk {
     pub parent: u32,
     pub own: u32,
     /// The next record that is not inside it.
-    #[cfg(feature = "next")]
     pub next: u32,
 }
 
 impl From<[u32; RECORD]> for Chunk {
     /// The numbers in the list's order.
     fn from(numbers: [u32; RECORD]) -> Chunk {
-        let [identifier, offset, length, depth, parent, own, ..] = numbers;
+        let [identifier, offset, length, depth, parent, own, next] = numbers;
         Chunk {
             identifier,
             offset,
@@ -72,8 +56,7 @@ impl From<[u32; RECORD]> for Chunk {
             depth,
             parent,
             own,
-            #[cfg(feature = "next")]
-            next: numbers[6],
+            next,
         }
     }
 }
@@ -88,7 +71,6 @@ impl From<Chunk> for [u32; RECORD] {
             chunk.depth,
             chunk.parent,
             chunk.own,
-            #[cfg(feature = "next")]
             chunk.next,
         ]
     }
@@ -112,25 +94,14 @@ pub trait Boundary {
     fn bounding_box(&self, file: &[u8], mesh: u32, floats: &mut [u8]) -> u64;
     /// The size of the figure, now in the slice.
     fn write(&self, name: &[u8], vertices: &[f32], corners: &[u16], out: &mut [u8]) -> u64;
-
-    // Until a request has landed this library answers its calls.
-
     /// The count of mapping numbers, now in the slice.
-    fn mapping(&self, file: &[u8], mesh: u32, numbers: &mut [u8]) -> u64 {
-        Second.mapping(file, mesh, numbers)
-    }
+    fn mapping(&self, file: &[u8], mesh: u32, numbers: &mut [u8]) -> u64;
     /// The count of parts, their fathers and depths now in the slice.
-    fn parts(&self, file: &[u8], numbers: &mut [u8]) -> u64 {
-        Second.parts(file, numbers)
-    }
+    fn parts(&self, file: &[u8], numbers: &mut [u8]) -> u64;
     /// The count of meshes, where they stand now in the slice.
-    fn meshes(&self, file: &[u8], numbers: &mut [u8]) -> u64 {
-        Second.meshes(file, numbers)
-    }
+    fn meshes(&self, file: &[u8], numbers: &mut [u8]) -> u64;
     /// The count of cuts, now in the slice, and the mended figure in the other.
-    fn rescue(&self, file: &[u8], cuts: &mut [u8], out: &mut [u8]) -> u64 {
-        Second.rescue(file, cuts, out)
-    }
+    fn rescue(&self, file: &[u8], cuts: &mut [u8], out: &mut [u8]) -> u64;
 }
 
 /// A refusal as the boundary answers it; a place too wide is capped.

@@ -64,9 +64,7 @@ fn entry(numbers: &[u32]) -> Entry {
     }
 }
 
-right!(SlipRight, SLIPS_LINKED, "slip");
-
-#[cfg(all(feature = "tds", feature = "slip"))]
+#[cfg(feature = "tds")]
 mod linked {
     //! The library under test.
 

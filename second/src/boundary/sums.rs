@@ -39,9 +39,7 @@ impl Summing for Second {
     }
 }
 
-right!(SumRight, SUMS_LINKED, "sums");
-
-#[cfg(all(feature = "tds", feature = "sums"))]
+#[cfg(feature = "tds")]
 mod linked {
     //! The library under test.
 

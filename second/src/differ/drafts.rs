@@ -2,7 +2,7 @@
 //! damaged, as long as they may be; and both sides asked about each.
 
 use super::damage::{bits, bytes};
-use super::lent::Difference;
+use super::lent::{anywhere, Difference};
 use super::random::Random;
 use crate::LIMIT;
 
@@ -58,7 +58,7 @@ fn said<D: Draft, P: Asks<D>>(
     if file.len() <= LIMIT {
         pair.said(draft, &file)?;
     }
-    pair.whole(&file, random)
+    anywhere(&file, random, |file, random| pair.whole(file, random))
 }
 
 /// A file with a fault of the kind of the index put in, and perhaps more.
@@ -73,7 +73,9 @@ pub fn faulty<D: Draft, P: Asks<D>>(
         let kind = random.next() % D::FAULTS;
         draft.harm(kind, random);
     }
-    pair.whole(&draft.bytes(), random)
+    anywhere(&draft.bytes(), random, |file, random| {
+        pair.whole(file, random)
+    })
 }
 
 /// A valid file whose bytes are damaged.
@@ -90,5 +92,5 @@ pub fn damaged<D: Draft, P: Asks<D>>(
     if random.chance(90) {
         D::mend(&mut file);
     }
-    pair.whole(&file, random)
+    anywhere(&file, random, |file, random| pair.whole(file, random))
 }

@@ -5,14 +5,14 @@ use super::compare::Pair;
 use super::lent::{spoken, Difference};
 use super::node::Node;
 use crate::boundary::{refusal, Boundary, PART_BYTES, PLACES_BYTES, RECORD_BYTES};
-use crate::{record, row, OLD_MAPPING, RECORD};
+use crate::{row, RECORD};
 
 /// One mesh: its tables and the span of its name.
 #[derive(Clone, Debug, Default, PartialEq, Eq)]
 pub struct Mesh {
     pub vertices: Vec<u8>,
     pub corners: Vec<u8>,
-    /// None before Q-6.
+    /// None where there is no list of pairs.
     pub mapping: Vec<u8>,
     pub name: [u32; 2],
     /// Where it stands: name, vertices, faces, pairs.
@@ -110,10 +110,8 @@ fn ask_mesh(
     let filled = accepted("tables", filled)? as usize;
     mesh.vertices.truncate(12 * (filled & 0xFFFF));
     mesh.corners.truncate(6 * (filled >> 16));
-    if OLD_MAPPING {
-        let filled = accepted("mapping", side.mapping(file, number, &mut mesh.mapping))?;
-        mesh.mapping.truncate(4 * filled as usize);
-    }
+    let filled = accepted("mapping", side.mapping(file, number, &mut mesh.mapping))?;
+    mesh.mapping.truncate(4 * filled as usize);
     let mut span = [0; 8];
     accepted("name", side.name(file, number, &mut span))?;
     mesh.name = numbers(&span)[0];
@@ -136,10 +134,7 @@ pub fn rooms(side: &impl Boundary, file: &[u8]) -> Rooms {
         let vertices = 4 * needed(side.tables(file, mesh, &mut [], &mut []));
         let lent = &mut vec![0; vertices];
         let corners = 2 * needed(side.tables(file, mesh, lent, &mut []));
-        let mapping = match OLD_MAPPING {
-            true => 4 * needed(side.mapping(file, mesh, &mut [])),
-            false => 0,
-        };
+        let mapping = 4 * needed(side.mapping(file, mesh, &mut []));
         [vertices, corners, mapping]
     });
     Rooms {
@@ -209,7 +204,7 @@ impl Facts {
             next = self.add(child, next, depth + 1, number);
         }
         let mapped = node.children.iter().any(|c| c.identifier == 0x4140);
-        if let (true, Some(mesh)) = (mapped && OLD_MAPPING, self.meshes.last_mut()) {
+        if let (true, Some(mesh)) = (mapped, self.meshes.last_mut()) {
             mesh.complete();
         }
         if node.identifier == 0x4000 && !node.children.iter().any(|c| c.identifier == 0x4100) {
@@ -217,7 +212,7 @@ impl Facts {
         }
         let (identifier, inside) = (usize::from(node.identifier), self.records.len());
         let numbers = [identifier, at, size, depth, parent, own, inside];
-        self.records[number] = record(numbers.map(|number| number as u32));
+        self.records[number] = numbers.map(|number| number as u32);
         next
     }
 
@@ -251,7 +246,7 @@ impl Facts {
         }
         match node.identifier {
             0x4110 => mesh.vertices = own[2..].to_vec(),
-            0x4140 if OLD_MAPPING => mesh.mapping = own[2..].to_vec(),
+            0x4140 => mesh.mapping = own[2..].to_vec(),
             0x4120 => {
                 let faces = own[2..].as_chunks::<8>().0.iter();
                 mesh.corners = faces.flat_map(|face| face[..6].to_vec()).collect();

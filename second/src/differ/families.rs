@@ -6,9 +6,10 @@ use super::compare::{Call, Pair};
 use super::facts::Facts;
 use super::gaps;
 use super::grow::{figure, finite, grower, unlisted, Fill, LISTED};
-use super::lent::Difference;
+use super::lent::{anywhere, Difference};
 use super::node::Node;
 use super::random::Random;
+use super::run::{few, share, Share};
 use super::writing::Writing;
 use super::{damage, harm, long, parts, rescues, rows, swaps, versions};
 use crate::boundary::Boundary;
@@ -35,24 +36,25 @@ pub enum Family {
     LongWriter,
 }
 
-/// Each family, its share of all cases in ten thousand, and what it is.
-pub const FAMILIES: [(Family, u64, &str); 16] = [
-    (Family::Grown, 1_700, "valid figures"),
-    (Family::Rows, 1_500, "each row in each place"),
-    (Family::Faults, 2_000, "each two faults at one chunk"),
-    (Family::Names, 400, "names that no label takes"),
-    (Family::Versions, 800, "versions and mapping lists"),
-    (Family::Parts, 400, "parts that hang on each other"),
-    (Family::Rescues, 800, "several faults at once"),
-    (Family::Damage, 1_800, "bits, lengths, bytes damaged"),
-    (Family::Gaps, 700, "private chunks in gaps"),
-    (Family::Swaps, 300, "neighbours in the 3D3D exchanged"),
-    (Family::Boxes, 300, "boxes of floats of note"),
-    (Family::Soup, 1_200, "legal parents, all else free"),
-    (Family::Noise, 277, "bytes of no sense"),
-    (Family::Writer, 900, "names and rows written"),
-    (Family::LongWriter, 20, "writings at the limit"),
-    (Family::Long, 3, "figures at the limit"),
+/// Each family, how many cases it has, and what it is.
+#[rustfmt::skip]
+pub const FAMILIES: [(Family, Share, &str); 16] = [
+    (Family::Grown,      share(1_700, 60), "valid figures"),
+    (Family::Rows,       share(1_500, 60), "each row in each place"),
+    (Family::Faults,     share(2_000, 60), "each two faults at one chunk"),
+    (Family::Names,      share(400, 60),   "names that no label takes"),
+    (Family::Versions,   share(800, 60),   "versions and mapping lists"),
+    (Family::Parts,      share(400, 60),   "parts that hang on each other"),
+    (Family::Rescues,    share(800, 60),   "several faults at once"),
+    (Family::Damage,     share(1_800, 60), "bits, lengths, bytes damaged"),
+    (Family::Gaps,       share(700, 60),   "private chunks in gaps"),
+    (Family::Swaps,      share(300, 60),   "neighbours in the 3D3D exchanged"),
+    (Family::Boxes,      share(300, 60),   "boxes of floats of note"),
+    (Family::Soup,       share(1_200, 60), "legal parents, all else free"),
+    (Family::Noise,      share(277, 60),   "bytes of no sense"),
+    (Family::Writer,     share(900, 60),   "names and rows written"),
+    (Family::LongWriter, few(20, 200),     "writings at the limit"),
+    (Family::Long,       few(3, 60),       "figures at the limit"),
 ];
 
 /// What a case is over: a file, or what the writer is handed.
@@ -94,17 +96,11 @@ pub fn judge<L: Boundary, R: Boundary>(
 ) -> Result<u64, Difference> {
     match (family, subject) {
         (_, Subject::Writing(writing)) => writing.ask(pair),
-        (_, Subject::File(file)) => {
-            // At any address, and with other bytes behind it.
-            let shift = random.below(8);
-            let lent = [&vec![0; shift][..], file, &random.bytes(24)].concat();
-            let file = &lent[shift..shift + file.len()];
-            match family {
-                Family::Gaps => gap(file, random, pair),
-                Family::Swaps => swap(file, random, pair),
-                _ => pair.whole(file, random),
-            }
-        }
+        (_, Subject::File(file)) => anywhere(file, random, |file, random| match family {
+            Family::Gaps => gap(file, random, pair),
+            Family::Swaps => swap(file, random, pair),
+            _ => pair.whole(file, random),
+        }),
     }
 }
 

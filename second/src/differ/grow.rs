@@ -4,22 +4,19 @@
 use super::names;
 use super::node::Node;
 use super::random::Random;
-use crate::{row, Own, OLD_MAPPING, PARTS_LISTED, ROOT};
+use crate::{row, Own, ROOT};
 
-/// All identifiers with a row, in the table's order, those of Q-7 last.
-const ALL: [u16; 47] = [
+/// All identifiers with a row, in the table's order.
+pub const LISTED: &[u16] = &[
     0x4D4D, 0x0002, 0x3D3D, 0x3D3E, 0x1400, 0x1450, 0x1460, 0x1420, 0x1470, 0x2100, 0xAFFF, 0xA000,
     0xA010, 0xA020, 0xA030, 0xA040, 0x0010, 0x0013, 0x0011, 0x0012, 0x0030, 0x0031, 0x4000, 0x4010,
     0x4012, 0x4013, 0x4015, 0x4017, 0x4100, 0x4110, 0x4120, 0x4130, 0x4150, 0x4140, 0x4160, 0x4165,
     0x4600, 0x4610, 0x4620, 0x4651, 0x4653, 0x4656, 0x4700, 0xB000, 0xB008, 0xB002, 0xB010,
 ];
 
-/// Those that are in force.
-pub const LISTED: &[u16] = ALL.split_at(if PARTS_LISTED { 47 } else { 43 }).0;
-
 /// Identifiers without a row that a careless reader might take for one.
 const NEARLY: [u16; 18] = [
-    0xB000, 0x3E3D, 0x8123, 0x0000, 0xFFFF, 0x4111, 0x4D4E, 0x4170, 0x4611, 0x0001, 0xA200, 0xA001,
+    0x00B0, 0x3E3D, 0x8123, 0x0000, 0xFFFF, 0x4111, 0x4D4E, 0x4170, 0x4611, 0x0001, 0xA200, 0xA001,
     0x1451, 0x4001, 0xB001, 0xB003, 0xB009, 0xB020,
 ];
 
@@ -88,8 +85,8 @@ impl Grower<'_> {
         match identifier {
             0x4D4D => {
                 // The version grows before the meshes; without one the figure is old.
-                self.old = OLD_MAPPING;
-                let keyed = PARTS_LISTED && (self.fill == Fill::Full || self.random.chance(40));
+                self.old = true;
+                let keyed = self.fill == Fill::Full || self.random.chance(40);
                 let keyframer = if keyed { vec![0xB000] } else { vec![] };
                 [self.some(&[0x0002], 1), vec![0x3D3D], keyframer].concat()
             }
@@ -164,7 +161,7 @@ impl Grower<'_> {
                 .pick(&[0x8000_0000, 0x0001_0000, 0x0300, 0x0001_0002]),
             _ => self.random.below(5) as u32,
         };
-        self.old = OLD_MAPPING && version < 3;
+        self.old = version < 3;
         version.to_le_bytes().to_vec()
     }
 

@@ -2,8 +2,8 @@
 //! refuses, and how many the file's entry on a slip finds; of every format.
 
 use super::lent::Difference;
-use crate::boundary::{refusal, refused, Boundary, C4dRight, C4ds, CobRight, Cobs};
-use crate::boundary::{Right, Second, SumRight, Summing};
+use crate::boundary::{refusal, refused, Boundary, C4ds, Cobs};
+use crate::boundary::{Right, Second, Summing};
 
 /// What became of all bits of a file.
 #[derive(Clone, Copy, Debug, Default, PartialEq, Eq)]
@@ -30,10 +30,8 @@ fn agreed(call: &str, [left, right]: [u64; 2]) -> Result<u64, Difference> {
 /// The check of a file on both sides, by the format that it began as.
 fn checked(unturned: &[u8], file: &[u8]) -> [u64; 2] {
     match unturned {
-        [b'C', b'a', b'l', ..] => [Second.cob_check(file), CobRight::default().cob_check(file)],
-        [b'F', b'O', b'R', b'M', ..] => {
-            [Second.c4d_check(file), C4dRight::default().c4d_check(file)]
-        }
+        [b'C', b'a', b'l', ..] => [Second.cob_check(file), Right::default().cob_check(file)],
+        [b'F', b'O', b'R', b'M', ..] => [Second.c4d_check(file), Right::default().c4d_check(file)],
         _ => [Second.check(file), Right::default().check(file)],
     }
 }
@@ -41,7 +39,7 @@ fn checked(unturned: &[u8], file: &[u8]) -> [u64; 2] {
 /// Turns every bit of a file; both sides have to agree on each.
 pub fn guarded(file: &[u8]) -> Result<Guarded, Difference> {
     let mut all = Guarded::default();
-    let right = SumRight::default();
+    let right = Right::default();
     let (length, sums) = (file.len() as u32, Second.sums(file) as u32);
     let mut bytes = file.to_vec();
     for bit in 0..8 * file.len() {

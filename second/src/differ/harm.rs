@@ -5,7 +5,7 @@ use super::grow::{figure, grower, unlisted, Fill, LISTED};
 use super::names;
 use super::node::{Node, Path};
 use super::random::Random;
-use crate::{row, Own, PARTS_LISTED};
+use crate::{row, Own};
 
 /// What can be done to a chunk, mostly named after the refusal it aims at.
 #[derive(Clone, Copy, Debug, PartialEq, Eq)]
@@ -46,11 +46,7 @@ pub const HARMS: [Harm; 13] = [
 const PARTS: [u16; 6] = [0x4100, 0x4110, 0x4120, 0x4130, 0x4140, 0x4150];
 
 /// The chunks that have names.
-const NAMED: &[u16] = if PARTS_LISTED {
-    &[0xA000, 0x4000, 0x4130, 0x4653, 0xB010]
-} else {
-    &[0xA000, 0x4000, 0x4130, 0x4653]
-};
+const NAMED: &[u16] = &[0xA000, 0x4000, 0x4130, 0x4653, 0xB010];
 
 /// The chunks that are harmed: all, and the parts of a mesh five times more.
 const TARGETS: usize = LISTED.len() + 5 * PARTS.len();

@@ -121,6 +121,17 @@ impl Default for Lender {
     }
 }
 
+/// Hands over a file at any address, with other bytes behind its end.
+pub fn anywhere<T>(
+    file: &[u8],
+    random: &mut Random,
+    ask: impl FnOnce(&[u8], &mut Random) -> T,
+) -> T {
+    let shift = random.below(8);
+    let lent = [&vec![0; shift][..], file, &random.bytes(24)].concat();
+    ask(&lent[shift..shift + file.len()], random)
+}
+
 /// The slices that are lent, inside their buffers.
 pub fn inside(buffers: &mut Buffers) -> [&mut [u8]; 2] {
     buffers.each_mut().map(|buffer| {

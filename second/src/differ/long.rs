@@ -7,7 +7,7 @@ use super::node::Node;
 use super::parts;
 use super::random::Random;
 use super::writing::{room, Writing};
-use crate::{LABELS_JUDGED, LIMIT, ROOT};
+use crate::{LIMIT, ROOT};
 
 /// How many kinds of long figure there are.
 pub const KINDS: usize = 16;
@@ -147,10 +147,10 @@ fn objects(count: usize, random: &mut Random) -> Vec<Node> {
     (0..count).map(one).collect()
 }
 
-/// Objects and materials with names of many bytes; where these are refused,
-/// mostly many with names as long as they may be.
+/// Mostly many objects with names as long as they may be; else objects and
+/// materials with names of far too many bytes.
 fn named(random: &mut Random) -> Vec<Node> {
-    if LABELS_JUDGED && random.chance(75) {
+    if random.chance(75) {
         let one = |_| object(&names::name(names::MOST, random), 1, 1);
         return (0..8_000).map(one).collect();
     }
@@ -192,19 +192,19 @@ pub fn writing(random: &mut Random) -> Writing {
     let f = random.pick(&[0, 3, 3, 32_764, 32_765, 65_535, 65_535, 65_536]);
     // Few bytes are missing to the limit, where a long name cannot make them up.
     let near = [(65_535, 32_764), (65_534, 32_765), (50_000, 56_066)];
-    let (n, f) = match LABELS_JUDGED && random.chance(60) {
+    let (n, f) = match random.chance(60) {
         true => random.pick(&near),
         false => (n, f),
     };
     let odd = random.pick(&[[0, 0], [0, 0], [0, 0], [0, 0], [1, 0], [0, 2], [2, 1]]);
     let mut writing = Writing {
-        name: vec![b'n'; random.pick(&[0, 1, if LABELS_JUDGED { 2 } else { 40 }])],
+        name: vec![b'n'; random.pick(&[0, 1, 2])],
         vertices: vec![1.5; 3 * n + odd[0]],
         corners: vec![n.saturating_sub(1).min(65_535) as u16; 3 * f + odd[1]],
         room: 0,
     };
     if let Some(missing) = LIMIT.checked_sub(writing.size()) {
-        if random.chance(if LABELS_JUDGED && missing > 60 { 9 } else { 75 }) {
+        if random.chance(if missing > 60 { 9 } else { 75 }) {
             let more = (missing + 1).saturating_sub(random.below(3));
             writing.name.extend(vec![b'm'; more]);
         }

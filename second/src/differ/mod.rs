@@ -1,22 +1,15 @@
 //! The comparison of two readers over many files, long and short, valid and
 //! damaged, all grown from one seed.
 
-/// Names the cases of an enum once, those of a later request with when they are on,
-/// and lists all that are on.
+/// Names the cases of an enum once, and lists them all.
 macro_rules! listed {
-    (
-        $(#[$about:meta])* $name:ident, $all:ident: $($case:ident)*
-        $(; $when:meta: $($later:ident)*)*
-    ) => {
+    ($(#[$about:meta])* $name:ident, $all:ident: $($case:ident)*) => {
         $(#[$about])*
         #[derive(Clone, Copy, Debug, PartialEq, Eq)]
-        pub enum $name { $($case,)* $($($later,)*)* }
+        pub enum $name { $($case,)* }
 
         /// All of them.
-        pub const $all: &[$name] = &[
-            $($name::$case,)*
-            $($(#[cfg($when)] $name::$later,)*)*
-        ];
+        pub const $all: &[$name] = &[$($name::$case,)*];
     };
 }
 

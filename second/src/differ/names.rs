@@ -1,24 +1,14 @@
-//! Names as they grow: such as a label takes once names are judged, and before
-//! that any; and names that no label takes.
+//! Names as they grow, such as a label takes; and names that no label takes.
 
 use super::random::Random;
-use crate::LABELS_JUDGED;
 
-/// The most bytes of a name that is judged.
+/// The most bytes of a name.
 pub const MOST: usize = 63;
 
-/// A name of so many bytes, none of them zero, or of as many as it may have.
+/// A name of so many bytes, or of as many as it may have.
 pub fn name(length: usize, random: &mut Random) -> Vec<u8> {
-    match LABELS_JUDGED {
-        true => {
-            let bytes = random.bytes(length.min(MOST)).into_iter();
-            bytes.map(|byte| 32 + byte % 95).collect()
-        }
-        false => {
-            let bytes = random.bytes(length).into_iter();
-            bytes.map(|byte| byte.max(1)).collect()
-        }
-    }
+    let bytes = random.bytes(length.min(MOST)).into_iter();
+    bytes.map(|byte| 32 + byte % 95).collect()
 }
 
 /// Makes a name one that no label takes: too long, or with a byte that cannot

@@ -5,17 +5,14 @@ use super::grow::LISTED;
 use super::node::Node;
 use super::parts::called;
 use super::random::Random;
-use crate::{row, PARTS_LISTED, ROOT};
+use crate::{row, ROOT};
 
-/// The identifiers whose rows end in "+", those of Q-7 last; but for the camera,
-/// in which no listed chunk may stand.
-const ALL: [u16; 15] = [
+/// The identifiers whose rows end in "+"; but for the camera, in which no listed
+/// chunk may stand.
+pub const HOLDERS: &[u16] = &[
     0x4D4D, 0x3D3D, 0x2100, 0xAFFF, 0xA010, 0xA020, 0xA030, 0xA040, 0x4000, 0x4100, 0x4120, 0x4600,
     0x4610, 0xB000, 0xB002,
 ];
-
-/// Those that are in force.
-pub const HOLDERS: &[u16] = ALL.split_at(if PARTS_LISTED { 15 } else { 13 }).0;
 
 /// Body lengths tried: up to one more than the longest fixed row.
 const LENGTHS: usize = 66;
@@ -24,7 +21,7 @@ const LENGTHS: usize = 66;
 const FILLS: usize = 5;
 
 /// How many chunks of one kind in one place there are.
-const PLACES: usize = if PARTS_LISTED { 77 } else { 71 };
+const PLACES: usize = 77;
 
 /// How many cases there are.
 pub const CASES: usize = PLACES * LENGTHS * FILLS;

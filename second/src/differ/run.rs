@@ -27,15 +27,32 @@ pub struct Failure {
 /// How a case is judged: its number, its source of numbers, and both sides.
 pub type Judge<P> = fn(u64, &mut Random, &mut P) -> Result<u64, Difference>;
 
-/// A family of cases of another format: its name, what it is, its share of all
-/// in ten thousand, how many there are at the least, and how one is judged.
-pub struct Kind<P>(
-    pub &'static str,
-    pub &'static str,
-    pub u64,
-    pub u64,
-    pub Judge<P>,
-);
+/// A family of cases of another format: its name, what it is, how many there
+/// are, and how one is judged.
+pub struct Cases<P>(pub &'static str, pub &'static str, pub Share, pub Judge<P>);
+
+/// How many cases a family has: a share of all in ten thousand, and how many
+/// there are at the least and at the most.
+#[derive(Clone, Copy, Debug)]
+pub struct Share(u64, u64, u64);
+
+/// A share with a least number.
+pub const fn share(of_all: u64, least: u64) -> Share {
+    Share(of_all, least, u64::MAX)
+}
+
+/// The same for cases at the limit of length: one takes the time of thousands,
+/// so that a long run is mostly over small files, and other seeds bring more.
+pub const fn few(of_all: u64, least: u64) -> Share {
+    Share(of_all, least, 600)
+}
+
+impl Share {
+    fn of(self, count: u64) -> u64 {
+        let Share(of_all, least, most) = self;
+        (count * of_all).div_ceil(10_000).clamp(least, most)
+    }
+}
 
 /// What to run, and whether to speak of it.
 #[derive(Clone, Copy, Debug)]
@@ -68,13 +85,7 @@ pub fn grown<L: Boundary, R: Boundary>(
     let mut total = Tally::default();
     for (family, share, what) in FAMILIES {
         let begin = Instant::now();
-        let least = if family == Family::LongWriter {
-            200
-        } else {
-            60
-        };
-        let cases = (plan.count * share).div_ceil(10_000).max(least);
-        let tally = plan.cases_of(family, cases, pair)?;
+        let tally = plan.cases_of(family, share.of(plan.count), pair)?;
         plan.say(&format!("{family:?}"), what, &tally, begin);
         add(&mut total, &tally);
     }
@@ -186,14 +197,14 @@ impl Plan {
     pub fn all<P>(
         &self,
         stream: u64,
-        kinds: &[Kind<P>],
+        families: &[Cases<P>],
         pair: &mut P,
     ) -> Result<Tally, Box<Failure>> {
         let mut total = Tally::default();
-        for (which, Kind(family, what, share, least, judge)) in kinds.iter().enumerate() {
+        for (which, Cases(family, what, share, judge)) in families.iter().enumerate() {
             let begin = Instant::now();
-            let cases = (self.count * share).div_ceil(10_000).max(*least);
-            let tally = self.each(family, stream + which as u64, cases, |index, source| {
+            let (stream, cases) = (stream + which as u64, share.of(self.count));
+            let tally = self.each(family, stream, cases, |index, source| {
                 judge(index, &mut source.clone(), pair)
             })?;
             self.say(family, what, &tally, begin);

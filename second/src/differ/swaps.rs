@@ -1,4 +1,4 @@
-//! two neighbouring children of a 3D3D exchanged, and what every answer
+//! Two neighbouring children of a 3D3D exchanged, and what every answer
 //! must then be, worked out from the answers before.
 
 use super::facts::{self, Facts, Rooms};
@@ -6,7 +6,6 @@ use super::gaps::spots;
 use super::lent::{hex, Difference};
 use super::random::Random;
 use crate::boundary::Boundary;
-use crate::RECORD;
 
 /// One try: the file before and after, what must be said of the latter, and
 /// the number that each of its meshes had before.
@@ -82,7 +81,8 @@ impl Swap {
             let mut record = facts.records[*number];
             record[1] = moved(record[1]);
             record[4] = renumbered(&order, record[4]);
-            follow(&facts.records, &order, *number, &mut record);
+            // As many records are inside as before.
+            record[6] = record[6] + renumbered(&order, *number as u32) - *number as u32;
             record
         });
         let meshes = meshes.iter().map(|number| {
@@ -108,15 +108,6 @@ impl Swap {
 fn renumbered(order: &[usize], number: u32) -> u32 {
     let at = order.iter().position(|old| *old == number as usize);
     at.unwrap_or(0) as u32
-}
-
-/// The seventh number of a record: as many records are inside as before.
-fn follow(records: &[[u32; RECORD]], order: &[usize], old: usize, record: &mut [u32; RECORD]) {
-    let inside = records[old].iter().skip(6).map(|next| next - old as u32);
-    let new = renumbered(order, old as u32);
-    for (slot, inside) in record.iter_mut().skip(6).zip(inside) {
-        *slot = new + inside;
-    }
 }
 
 impl Try {

@@ -42,9 +42,7 @@ pub fn turned<L: Boundary, R: Boundary>(
     let mut bytes = file.to_vec();
     for bit in 0..8 * file.len() {
         bytes[bit / 8] ^= 1 << (bit % 8);
-        if cfg!(feature = "rescue") {
-            pair.rescued(&bytes, &mut Random::of_case(0, 0, bit as u64))?;
-        }
+        pair.rescued(&bytes, &mut Random::of_case(0, 0, bit as u64))?;
         let counts = became(&bytes, pair, &rooms, &before)?;
         turned.all.add(counts);
         if let Some(kind) = kinds.get(bit / 8) {

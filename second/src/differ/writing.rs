@@ -8,7 +8,6 @@ use super::lent::{hex, spoken, Difference};
 use super::names;
 use super::random::Random;
 use crate::boundary::{refusal, Boundary};
-use crate::record;
 
 /// What the writer is handed.
 #[derive(Clone, Debug, Default)]
@@ -137,7 +136,7 @@ impl Writing {
         let words = self.corners.iter().flat_map(|corner| corner.to_le_bytes());
         Facts {
             records: records
-                .map(|numbers| record(numbers.map(|number| number as u32)))
+                .map(|numbers| numbers.map(|number| number as u32))
                 .to_vec(),
             counts: [36, size as u32 - 36, 0],
             meshes: vec![facts::Mesh {

@@ -1,8 +1,6 @@
 //! Bare figures for the round trips of the writer: a seed to make them from,
 //! and the faults that a writer must refuse.
 
-use second::LABELS_JUDGED;
-
 /// Bits of floats that arithmetic might change: zeros, subnormals, the largest.
 pub const EDGES: [u32; 6] = [1 << 31, 0, 1, 0x807F_FFFF, 0xFF7F_FFFF, 0x7F7F_FFFF];
 
@@ -51,12 +49,9 @@ impl Seed {
         (self.0 >> 33) as usize % bound
     }
 
-    /// A byte of a name: not zero, and where names are judged one for a label.
+    /// A byte of a name, one for a label.
     fn letter(&mut self) -> u8 {
-        match LABELS_JUDGED {
-            true => 32 + self.below(95) as u8,
-            false => 1 + self.below(255) as u8,
-        }
+        32 + self.below(95) as u8
     }
 
     fn float(&mut self) -> f32 {
@@ -89,11 +84,8 @@ pub type Fault = (fn(&mut Figure), u32, usize);
 pub const FAULTS: &[Fault] = &[
     (|figure| figure.name[0] = 0, 9, 0),
     (|figure| figure.name[49] = 0, 9, 49),
-    #[cfg(feature = "labels")]
     (|figure| figure.name[0] = 127, 24, 0),
-    #[cfg(feature = "labels")]
     (|figure| figure.name[48] = 31, 24, 48),
-    #[cfg(feature = "labels")]
     (|figure| figure.name.resize(64, b'x'), 24, 63),
     (|figure| figure.vertices.truncate(8), 13, 8),
     (|figure| figure.vertices.resize(10, 0.0), 13, 10),

@@ -8,9 +8,9 @@ mod harm;
 
 use super::compare::Pair;
 use super::drafts::{damaged, faulty, long, valid, Asks, Draft};
-use super::lent::Difference;
+use super::lent::{anywhere, Difference};
 use super::random::Random;
-use super::run::{Failure, Kind, Plan, Tally};
+use super::run::{few, share, Cases, Failure, Plan, Tally};
 use crate::boundary::C4ds;
 use grow::File;
 
@@ -19,32 +19,15 @@ const STREAM: u64 = 400;
 
 /// Runs all families of Cinema 4D figures.
 pub fn run<L: C4ds, R: C4ds>(plan: Plan, pair: &mut Pair<L, R>) -> Result<Tally, Box<Failure>> {
-    let kinds: [Kind<Pair<L, R>>; 5] = [
-        Kind(
-            "C4ds",
-            "valid Cinema 4D figures",
-            500,
-            600,
-            valid::<File, _>,
-        ),
-        Kind("C4dKinds", "objects of any sub-chunks", 500, 600, objects),
-        Kind(
-            "C4dFaults",
-            "faults put in, one or more",
-            1_200,
-            1_500,
-            faulty::<File, _>,
-        ),
-        Kind(
-            "C4dBytes",
-            "bits and bytes damaged",
-            500,
-            600,
-            damaged::<File, _>,
-        ),
-        Kind("C4dLong", "as long as they may be", 1, 9, long::<File, _>),
+    #[rustfmt::skip]
+    let families: [Cases<Pair<L, R>>; 5] = [
+        Cases("C4ds",      "valid Cinema 4D figures",    share(500, 600),     valid::<File, _>),
+        Cases("C4dKinds",  "objects of any sub-chunks",  share(500, 600),     objects),
+        Cases("C4dFaults", "faults put in, one or more", share(1_200, 1_500), faulty::<File, _>),
+        Cases("C4dBytes",  "bits and bytes damaged",     share(500, 600),     damaged::<File, _>),
+        Cases("C4dLong",   "as long as they may be",     few(1, 9),           long::<File, _>),
     ];
-    plan.all(STREAM, &kinds, pair)
+    plan.all(STREAM, &families, pair)
 }
 
 /// An object of sub-chunks as they come: each combination, right or wrong.
@@ -53,5 +36,6 @@ fn objects<L: C4ds, R: C4ds>(
     random: &mut Random,
     pair: &mut Pair<L, R>,
 ) -> Result<u64, Difference> {
-    pair.whole(&File::any_kinds(random).bytes(), random)
+    let file = File::any_kinds(random).bytes();
+    anywhere(&file, random, |file, random| pair.whole(file, random))
 }

@@ -8,7 +8,7 @@ mod harm;
 
 use super::compare::Pair;
 use super::drafts::{damaged, faulty, long, valid};
-use super::run::{Failure, Kind, Plan, Tally};
+use super::run::{few, share, Cases, Failure, Plan, Tally};
 use crate::boundary::Cobs;
 use grow::File;
 
@@ -17,23 +17,12 @@ const STREAM: u64 = 300;
 
 /// Runs all families of Caligari figures.
 pub fn run<L: Cobs, R: Cobs>(plan: Plan, pair: &mut Pair<L, R>) -> Result<Tally, Box<Failure>> {
-    let kinds: [Kind<Pair<L, R>>; 4] = [
-        Kind("Cobs", "valid Caligari figures", 500, 600, valid::<File, _>),
-        Kind(
-            "CobFaults",
-            "faults put in, one or more",
-            1_200,
-            1_500,
-            faulty::<File, _>,
-        ),
-        Kind(
-            "CobBytes",
-            "bits and bytes damaged",
-            500,
-            600,
-            damaged::<File, _>,
-        ),
-        Kind("CobLong", "as long as they may be", 1, 9, long::<File, _>),
+    #[rustfmt::skip]
+    let families: [Cases<Pair<L, R>>; 4] = [
+        Cases("Cobs",      "valid Caligari figures",     share(500, 600),     valid::<File, _>),
+        Cases("CobFaults", "faults put in, one or more", share(1_200, 1_500), faulty::<File, _>),
+        Cases("CobBytes",  "bits and bytes damaged",     share(500, 600),     damaged::<File, _>),
+        Cases("CobLong",   "as long as they may be",     few(1, 9),           long::<File, _>),
     ];
-    plan.all(STREAM, &kinds, pair)
+    plan.all(STREAM, &families, pair)
 }

@@ -8,9 +8,8 @@ listed! {
     Error, ERRORS:
     RowsNotJudged RowsPlace ZeroPlaceInAll SameNameEarlier GroupNumberOff NumberPlaceInAll
     CornerAtCount SmoothingLost FlagWords ColoursExchanged MaterialsLast LimitOff RoomOff
-    ClearsRest WritesBeforeRefusing;
-
-    feature = "labels": TextNotJudged TextPlaceInAll TextAfterSameName
+    ClearsRest WritesBeforeRefusing
+    TextNotJudged TextPlaceInAll TextAfterSameName
 }
 
 /// This library, with an error or without.

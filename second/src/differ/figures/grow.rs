@@ -7,7 +7,7 @@ use crate::differ::grow::finite;
 use crate::differ::names;
 use crate::differ::node::Node;
 use crate::differ::random::Random;
-use crate::{LABELS_JUDGED, LIMIT};
+use crate::LIMIT;
 
 /// A figure before it is rows or bytes.
 #[derive(Clone, Debug, Default)]
@@ -168,16 +168,11 @@ impl Object {
     }
 }
 
-/// An object that takes so many bytes more than a bare one: in its name, or
-/// where that may not be long in vertices and faces.
+/// An object that takes so many bytes more than a bare one: in vertices and
+/// faces, and what is left in its name, which may not be long.
 fn filling(bytes: usize) -> Object {
     let name = |length| [&b"##"[..], &vec![b'l'; length]].concat();
-    let Some(bytes) = bytes.checked_sub(2).filter(|_| LABELS_JUDGED) else {
-        return Object {
-            name: name(bytes.saturating_sub(2)),
-            ..Object::default()
-        };
-    };
+    let bytes = bytes.saturating_sub(2);
     let n = (bytes / 12).min(65_535);
     let f = if n > 0 { (bytes - 12 * n) / 8 } else { 0 };
     Object {
@@ -189,7 +184,7 @@ fn filling(bytes: usize) -> Object {
 }
 
 /// A name like no other, as its number is in it, behind a `#` that the one
-/// without a number does not begin with; any bytes but zero.
+/// without a number does not begin with.
 fn name(number: usize, random: &mut Random) -> Vec<u8> {
     let length = if random.chance(95) {
         random.below(5)

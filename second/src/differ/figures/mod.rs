@@ -8,7 +8,7 @@ mod harm;
 use super::compare::Pair;
 use super::lent::{hex, inside, spoken, Difference, Lent};
 use super::random::Random;
-use super::run::{Failure, Kind, Plan, Tally};
+use super::run::{few, share, Cases, Failure, Plan, Tally};
 use crate::boundary::{refusal, Figures, Rows};
 use crate::LIMIT;
 use grow::Draft;
@@ -21,19 +21,14 @@ pub fn run<L: Figures, R: Figures>(
     plan: Plan,
     pair: &mut Pair<L, R>,
 ) -> Result<Tally, Box<Failure>> {
-    let kinds: [Kind<Pair<L, R>>; 4] = [
-        Kind("Figures", "objects and materials written", 500, 600, valid),
-        Kind(
-            "FigFaults",
-            "faults put in, one or more",
-            1_200,
-            1_500,
-            faulty,
-        ),
-        Kind("FigRows", "rows of other lengths", 200, 300, misfits),
-        Kind("FigLong", "as long as they may be", 1, 8, long),
+    #[rustfmt::skip]
+    let families: [Cases<Pair<L, R>>; 4] = [
+        Cases("Figures",   "objects and materials written", share(500, 600),     valid),
+        Cases("FigFaults", "faults put in, one or more",    share(1_200, 1_500), faulty),
+        Cases("FigRows",   "rows of other lengths",         share(200, 300),     misfits),
+        Cases("FigLong",   "as long as they may be",        few(1, 8),           long),
     ];
-    plan.all(STREAM, &kinds, pair)
+    plan.all(STREAM, &families, pair)
 }
 
 /// A valid figure: both sides write the tree that it is.

@@ -5,7 +5,6 @@ use super::tree::accepted;
 use super::Case;
 use crate::differ::build::{faces, figure, group, meshed, named, object, pairs, points};
 use crate::differ::node::Node;
-use crate::PARTS_LISTED;
 
 /// A leaf of zeros.
 fn zeros(identifier: u16, count: usize) -> Node {
@@ -124,14 +123,7 @@ fn free() -> Figures {
     let mut flagged = faces(&[[0; 3]], vec![]);
     flagged.own[8..].fill(0xFF);
     let mut keyed = figure(vec![]);
-    // Unlisted, or as bare as it may be.
-    let inside = if PARTS_LISTED {
-        &b""[..]
-    } else {
-        b"MM\x06\0\0\0"
-    };
-    let keyframer = Node::leaf(0xB000, inside.to_vec());
-    keyed.children.insert(0, keyframer);
+    keyed.children.insert(0, zeros(0xB000, 0));
     keyed.children.push(zeros(0x0002, 4));
     // The name begins with the bytes of a 4120's header.
     let disguised = object(" A ", vec![zeros(0x4010, 0)]);

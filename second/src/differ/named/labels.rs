@@ -1,27 +1,22 @@
 //! Named figures about names: what a label takes, in each chunk that has one,
-//! and 24 against the refusals around it. Before names are judged all that only
-//! 24 refuses is accepted.
+//! and 24 against the refusals around it.
 
 use super::tree::{accepted, refused_at};
 use super::Case;
 use crate::differ::build::{faces, figure, meshed, object};
 use crate::differ::node::{Node, Path};
-use crate::{LABELS_JUDGED, PARTS_LISTED};
 
 /// A figure with a chunk that has a name, the way to it, and what stands behind
 /// the name's zero.
 type Place = (u16, fn(Node) -> Node, &'static [usize], &'static [u8]);
 
-const ALL: [Place; 5] = [
+const PLACES: [Place; 5] = [
     (0x4000, |chunk| figure(vec![chunk]), &[0, 0], &[]),
     (0xA000, material, &[0, 0, 0], &[]),
     (0x4130, grouped, &[0, 0, 0, 0, 0], &[0, 0]),
     (0x4653, spot, &[0, 0, 0, 0, 0], &[]),
     (0xB010, hung, &[1, 0, 0], &[0, 0, 0, 0, 255, 255]),
 ];
-
-/// Those that are in force.
-const PLACES: &[Place] = ALL.split_at(if PARTS_LISTED { 5 } else { 4 }).0;
 
 fn material(name: Node) -> Node {
     figure(vec![Node::holding(0xAFFF, vec![], vec![name])])
@@ -48,8 +43,7 @@ fn hung(part: Node) -> Node {
 }
 
 pub fn cases() -> Vec<Case> {
-    let places = PLACES.iter();
-    let mut cases: Vec<Case> = places.flat_map(|place| in_place(*place)).collect();
+    let mut cases: Vec<Case> = PLACES.into_iter().flat_map(in_place).collect();
     cases.extend(orders());
     cases
 }
@@ -78,20 +72,12 @@ fn in_place((identifier, around, path, behind): Place) -> Vec<Case> {
     for name in long.iter().chain(&bytes).chain(&around_63) {
         let root = around(Node::leaf(identifier, [&name[..], &[0], behind].concat()));
         let said = format!("{identifier:04X} with the name {name:?}");
-        cases.extend(text(&said, &root, path));
+        cases.extend(refused_at(&said, &root, 24, path, 0));
         // Without a zero it is no name at all.
         let root = around(Node::leaf(identifier, name.clone()));
         cases.extend(refused_at(&format!("{said}, no zero"), &root, 9, path, 0));
     }
     cases
-}
-
-/// 24 at a chunk, or accepted before names are judged.
-fn text(name: &str, root: &Node, path: &[usize]) -> [Case; 2] {
-    match LABELS_JUDGED {
-        true => refused_at(name, root, 24, path, 0),
-        false => accepted(name, root),
-    }
 }
 
 /// 24 before what comes after it, and after what comes before.
@@ -103,20 +89,16 @@ fn orders() -> Vec<Case> {
     let twice = Node::holding(0xAFFF, vec![], vec![good(), bad()]);
     let mut stray = figure(vec![leaf(0x4000, b"\x7F\0")]);
     stray.at(&[0, 0]).tail = vec![0; 3];
-    let all: [(&str, Node, u32, Path, usize); 7] = [
-        ("10 against 24: a material", material(leaf(0xA000, b"\x1F\0\0")), 10, vec![0, 0, 0], 0),
-        ("10 against 24: a spot", spot(leaf(0x4653, b"\xFF\0\0")), 10, vec![0; 5], 0),
-        ("10 against 24: a group", grouped(leaf(0x4130, b"\x1F\0\0")), 10, vec![0; 5], 0),
-        ("12 against 24", grouped(leaf(0x4130, b"\x1F\0\x01\0\x09\0")), 12, vec![0; 5], 0),
-        ("6 against 24", stray, 6, vec![0, 0], 8),
-        ("24 against 8", figure(vec![twice]), 8, vec![0, 0, 1], 0),
-        ("24 against 7", figure(vec![bad()]), 7, vec![0, 0], 0),
+    let all: [(&str, Node, u32, Path); 7] = [
+        ("10 against 24: a material", material(leaf(0xA000, b"\x1F\0\0")), 24, vec![0, 0, 0]),
+        ("10 against 24: a spot", spot(leaf(0x4653, b"\xFF\0\0")), 24, vec![0; 5]),
+        ("10 against 24: a group", grouped(leaf(0x4130, b"\x1F\0\0")), 24, vec![0; 5]),
+        ("12 against 24", grouped(leaf(0x4130, b"\x1F\0\x01\0\x09\0")), 24, vec![0; 5]),
+        ("6 against 24", stray, 24, vec![0, 0]),
+        ("24 against 8", figure(vec![twice]), 8, vec![0, 0, 1]),
+        ("24 against 7", figure(vec![bad()]), 7, vec![0, 0]),
     ];
     all.into_iter()
-        .flat_map(|(name, root, number, path, behind)| match number {
-            7 | 8 => refused_at(name, &root, number, &path, behind),
-            _ if LABELS_JUDGED => refused_at(name, &root, 24, &path, 0),
-            _ => refused_at(name, &root, number, &path, behind),
-        })
+        .flat_map(|(name, root, number, path)| refused_at(name, &root, number, &path, 0))
         .collect()
 }

@@ -1,12 +1,12 @@
 //! Named figures about parts: every kind of tree, every father that is none,
-//! and 23 against the refusals around it. Before Q-7 the keyframer is unlisted.
+//! and 23 against the refusals around it.
 
 use super::tree::{accepted, refused_at};
 use super::Case;
 use crate::differ::build::figure;
 use crate::differ::node::Node;
 use crate::differ::parts::{called, part};
-use crate::{LABELS_JUDGED, PARTS_LISTED, ROOT};
+use crate::ROOT;
 
 /// A figure with a keyframer of these blocks behind its 3D3D.
 fn keyed(blocks: Vec<Node>) -> Node {
@@ -26,10 +26,7 @@ fn block(identifier: u16) -> Node {
 }
 
 pub fn cases() -> Vec<Case> {
-    match PARTS_LISTED {
-        true => [trees(), fathers(), orders()].concat(),
-        false => accepted("an unlisted keyframer", &keyed(parts(&[7, 7]))).to_vec(),
-    }
+    [trees(), fathers(), orders()].concat()
 }
 
 #[rustfmt::skip]
@@ -115,16 +112,12 @@ fn orders() -> Vec<Case> {
 /// Own data of a B010 behind a good part, and its refusal.
 fn heads() -> Vec<(&'static str, Vec<u8>, u32)> {
     let own = |name: &[u8], rest: &[u8]| [name, rest].concat();
-    let (text, long) = match LABELS_JUDGED {
-        true => (24, 24),
-        false => (23, 10),
-    };
     vec![
         ("no bytes", vec![], 9),
         ("no zero", own(b"abcdefg", b""), 9),
         ("23 against 9", own(b"a", &[9; 6]), 9),
-        ("23 against 24", own(b"\x1F\0", &[9; 6]), text),
-        ("10 against 24", own(b"\x1F\0", &[9; 5]), long),
+        ("23 against 24", own(b"\x1F\0", &[9; 6]), 24),
+        ("10 against 24", own(b"\x1F\0", &[9; 5]), 24),
         ("23 against 10: a byte less", own(b"a\0", &[9; 5]), 10),
         ("23 against 10: a byte more", own(b"a\0", &[9; 7]), 10),
         ("a name alone", own(b"a\0", b""), 10),

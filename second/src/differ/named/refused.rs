@@ -5,7 +5,6 @@ use super::tree::refused_at;
 use super::Case;
 use crate::differ::build::{faces, figure, group, meshed, object, pairs, points, words};
 use crate::differ::node::Node;
-use crate::LABELS_JUDGED;
 
 /// A figure and its refusal: the number, the way to the chunk, and how many
 /// bytes behind the chunk's first the place is.
@@ -269,16 +268,12 @@ fn names() -> Vec<Fault> {
     let named = |own| figure(vec![leaf(0x4000, own), Node::leaf(0x1470, vec![])]);
     let material = |own| figure(vec![Node::holding(0xAFFF, vec![], vec![leaf(0xA000, own)])]);
     let grouped = |own| mesh(vec![faces(&[], vec![leaf(0x4130, own)])]);
-    // The zero is found in the child's length, and three bytes are left; such a
-    // name is none for a label.
+    // The zero is found in the child's length: no label takes such a name.
     let run_on = figure(vec![shorter(object("abc", vec![Node::leaf(0x4010, vec![])]))]);
     vec![
         at(&[0, 0], "an object of no bytes", named(b""), 9),
         at(&[0, 0], "an object whose zero stands behind it", named(b"ab"), 9),
-        match LABELS_JUDGED {
-            true => at(&[0, 0], "a name that runs on", run_on, 24),
-            false => behind(13, &[0, 0], "a name that runs on", run_on, 6),
-        },
+        at(&[0, 0], "a name that runs on", run_on, 24),
         at(&[0, 0, 0], "a material of no bytes", material(b""), 9),
         at(&[0, 0, 0], "a material without a zero", material(b"oak"), 9),
         at(&[0, 0, 0], "a byte behind a material's name", material(b"a\0b"), 10),

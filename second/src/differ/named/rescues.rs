@@ -7,7 +7,6 @@ use crate::differ::build::{faces, figure, meshed, object, pairs, points};
 use crate::differ::families::Subject;
 use crate::differ::node::Node;
 use crate::differ::rescues::Cuts;
-use crate::OLD_MAPPING;
 
 /// A damaged figure; the check's answer follows from what else is compared.
 fn case(name: &str, root: &Node, cuts: Cuts) -> Case {
@@ -189,8 +188,7 @@ fn versions() -> Vec<Case> {
         let mut root = figure(vec![mapped(1), mapped(2), mapped(3)]);
         let chunk = version.map(|version| Node::leaf(0x0002, vec![version, 0, 0, 0]));
         root.children.extend(chunk);
-        let old = OLD_MAPPING && version != Some(3);
-        let fewer = (!old).then(|| cut(&root, 0, 13));
+        let fewer = (version == Some(3)).then(|| cut(&root, 0, 13));
         let cuts = fewer.into_iter().chain([cut(&root, 2, 13)]).collect();
         cases.push(case(&format!("version {version:?}"), &root, Ok(cuts)));
     }

@@ -5,7 +5,6 @@ use super::tree::{accepted, refused_at};
 use super::Case;
 use crate::differ::build::{figure, meshed, pairs, points};
 use crate::differ::node::Node;
-use crate::OLD_MAPPING;
 
 /// A figure whose mesh has two vertices and so many pairs, or no 4110.
 fn mapped(m: usize, with_vertices: bool) -> Node {
@@ -29,7 +28,7 @@ fn version(number: u32, bytes: usize) -> Node {
 
 /// Whether so many pairs are right for two vertices, or for none.
 fn right(m: usize, n: usize, old: bool) -> bool {
-    m == n || (old && OLD_MAPPING && m < n)
+    m == n || (old && m < n)
 }
 
 pub fn cases() -> Vec<Case> {
@@ -82,10 +81,7 @@ fn hidden() -> Vec<Case> {
     let mut root = mapped(1, true);
     root.children.insert(0, Node::leaf(0x8123, bytes.clone()));
     root.children.push(Node::leaf(0xB0FF, bytes));
-    match OLD_MAPPING {
-        true => accepted("a version in unlisted chunks", &root).to_vec(),
-        false => refused_at("a version in unlisted chunks", &root, 13, &[1, 0, 0, 0], 0).to_vec(),
-    }
+    accepted("a version in unlisted chunks", &root).to_vec()
 }
 
 /// A version of a right length.
@@ -110,18 +106,12 @@ fn behind_faults() -> Vec<Case> {
     }
     for (name, behind, number, which) in old_behind() {
         let root = followed(behind);
-        cases.extend(match OLD_MAPPING {
-            true => refused_at(name, &root, number, &[which], 0),
-            false => refused_at(name, &root, 13, &[0, 0, 0, 0], 0),
-        });
+        cases.extend(refused_at(name, &root, number, &[which], 0));
     }
     // One inside the 3D3D is misplaced, and no version.
     let mut root = mapped(1, true);
     root.children[0].children.push(told(3));
-    cases.extend(match OLD_MAPPING {
-        true => refused_at("3 in the 3D3D", &root, 7, &[0, 2], 0),
-        false => refused_at("3 in the 3D3D", &root, 13, &[0, 0, 0, 0], 0),
-    });
+    cases.extend(refused_at("3 in the 3D3D", &root, 7, &[0, 2], 0));
     // A version of 3 behind which five bytes are left still is one.
     let mut root = followed(vec![told(3)]);
     root.tail = vec![2, 0, 10, 0, 0];

@@ -5,7 +5,7 @@ use super::Case;
 use crate::boundary::refused;
 use crate::differ::families::Subject;
 use crate::differ::writing::Writing;
-use crate::{LABELS_JUDGED, LIMIT};
+use crate::LIMIT;
 
 /// A writing, and the refusal it gets; without one its size is the answer.
 fn case(name: &str, writing: Writing, refusal: Option<(u32, usize)>) -> Case {
@@ -79,8 +79,7 @@ fn faults() -> Vec<Case> {
         .collect()
 }
 
-/// 24 at the first bad byte or at 63, after 9 and before 13; before names are
-/// judged such a name is written.
+/// 24 at the first bad byte or at 63, after 9 and before 13.
 fn texts() -> Vec<Case> {
     let names = [31, 127, 128, 255].map(|byte| (named(5, 3, byte), 3));
     let long = [
@@ -94,12 +93,11 @@ fn texts() -> Vec<Case> {
     let mut cases = Vec::with_capacity(32);
     for (name, place) in names.into_iter().chain(long) {
         let said = format!("a writing of the name {name:?}");
-        let refusal = LABELS_JUDGED.then_some((24, place));
+        let refusal = Some((24, place));
         cases.push(case(&said, writing(&name, &[0.5; 3], &[0; 3]), refusal));
         let said = format!("{said}, 13 against 24");
-        let refusal = if LABELS_JUDGED { (24, place) } else { (13, 4) };
         let late = writing(&name, &[f32::NAN; 4], &[]);
-        cases.push(case(&said, late, Some(refusal)));
+        cases.push(case(&said, late, refusal));
         let zero = [&name[..], b"..\0"].concat();
         let (said, place) = (format!("{said} and 9"), zero.len() - 1);
         cases.push(case(&said, writing(&zero, &[], &[]), Some((9, place))));

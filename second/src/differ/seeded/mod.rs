@@ -16,24 +16,19 @@ pub use misread::{errors as misread_rows, Misread};
 
 use crate::{row, Row};
 
-/// Names the errors once, those of a later request with when they are on, and
-/// lists them all.
+/// Names the errors once, and lists them all.
 macro_rules! errors {
-    ($($name:ident)* $(; $when:meta: $($later:ident)*)*) => {
+    ($($name:ident)*) => {
         /// The errors it can make: some were made by others, all are easily made.
         #[derive(Clone, Copy, Debug, PartialEq, Eq)]
         pub enum Error {
             $($name,)*
-            $($($later,)*)*
             /// A row of the table read wrongly.
             Row(u16, Misread),
         }
 
-        /// All of them but the misread rows, and those of requests that are off.
-        pub const ERRORS: &[Error] = &[
-            $(Error::$name,)*
-            $($(#[cfg($when)] Error::$later,)*)*
-        ];
+        /// All of them but the misread rows.
+        pub const ERRORS: &[Error] = &[$(Error::$name,)*];
     };
 }
 
@@ -43,7 +38,7 @@ errors! {
     StrayPlace StrayInLeafAllowed LengthBeforeName LengthBeforeTwice
     MisplacedBeforeOverrun MissingBeforeStray MissingNotJudged
     TwiceEachAlone TwiceAcrossParents UnlistedStepsTwo UnlistedUnjudged
-    KeyframerListed FigureInsideSkipped MappingFloatsUnjudged MatrixFloatsJudged
+    FigureInsideSkipped MappingFloatsUnjudged MatrixFloatsJudged
     SmoothingFree CountBelieved PlusTooLong NameBeyondChunk LengthWraps
     LimitOff LimitNotJudged LimitAfterFigure TrailingAllowed TrailingPlace TrailingBeforeShort
     NoVerticesNoJudging MappingAloneUnjudged TwiceBeforeOverrun IndexBeforeLength
@@ -65,35 +60,31 @@ errors! {
     TablesOfFirst BoxOfFirst MeshesReversed FewRoomOfPart TablesRoomOfPart
     SkippedWithoutHeaders CentreFromDifference
     WriterRoomOff WriterInfinityAllowed WriterMinusInfinityAllowed WriterCountPlace
-    WriterNumberPlace WriterIndexPlace WriterLimitOff WriterLimitNotJudged;
+    WriterNumberPlace WriterIndexPlace WriterLimitOff WriterLimitNotJudged
 
-    feature = "next": NextWithoutOne NextIsCount NextOfUnlistedToo NextOfChildrenOnly;
+    NextWithoutOne NextIsCount NextOfUnlistedToo NextOfChildrenOnly
 
-    feature = "labels": TextNotJudged TextOf64 TextOf62 TextSpaceRefused TextTildeRefused Text127Allowed
-    Text128Allowed Text31Allowed TextBeforeName TextAfterLength TextBeforeTwice TextLongBeforeName
-    TextOfGroupsUnjudged TextOfSpotsUnjudged TextOfMaterialsUnjudged TextOfObjectsUnjudged TextPlace
-    TextFirst63Only WriterTextNotJudged WriterTextBeforeName WriterTextAfterCount
-    WriterTextAtFirstBad WriterTextAt63 WriterTextOf64;
+    TextNotJudged TextOf64 TextOf62 TextSpaceRefused TextTildeRefused Text127Allowed Text128Allowed
+    Text31Allowed TextBeforeName TextAfterLength TextBeforeTwice TextLongBeforeName
+    TextOfGroupsUnjudged TextOfSpotsUnjudged TextOfPartsUnjudged TextOfMaterialsUnjudged TextOfObjectsUnjudged
+    TextPlace TextFirst63Only WriterTextNotJudged WriterTextBeforeName WriterTextAfterCount
+    WriterTextAtFirstBad WriterTextAt63 WriterTextOf64
 
-    feature = "mapping": VersionAbsentIsNew Version3IsOld Version2IsNew VersionSigned VersionIsAByte VersionOfLast
+    VersionAbsentIsNew Version3IsOld Version2IsNew VersionSigned VersionIsAByte VersionOfLast
     VersionOfAnyLength VersionStopsAtOther VersionBeforeEditOnly VersionInside VersionLostAtBadHeader
-    PairsWithoutList PairsNotCompleted PairsOfOnes PairsOfFirst PairsRoomInVertices PairsRoomOfPart;
+    PairsWithoutList PairsNotCompleted PairsOfOnes PairsOfFirst PairsRoomInVertices PairsRoomOfPart
 
-    feature = "parts": FatherUnjudged FatherIsOwn FatherFromOne FatherOfAllBlocks FatherIsAByte
+    FatherUnjudged FatherIsOwn FatherFromOne FatherOfAllBlocks FatherIsAByte
     FatherIsPrevious FatherIsFirstWord FatherSigned Father65534IsRoot FatherAtPart FatherBeforeLength
     PartDepthOfRootIsOne PartDepthOfPrevious PartDepthIsFather PartDepthIsAByte PartDepthIsFathers
-    PartsRoomOfPart PartsRoomInNumbers PartsRootIsNone;
+    PartsRoomOfPart PartsRoomInNumbers PartsRootIsNone
 
-    all(feature = "labels", feature = "parts"): TextOfPartsUnjudged;
+    PlacesOfChunk PlacesOfCount PlacesOfFewNone PlacesOfNameEnd PlacesTurned
+    PlacesOfAbsent PlacesInNumbers PlacesRoomOfPart PlacesRoomInNumbers PlacesOfFirst PlacesOfPairsLast
 
-    feature = "meshes": PlacesOfChunk PlacesOfCount PlacesOfFewNone PlacesOfNameEnd PlacesTurned
-    PlacesOfAbsent PlacesInNumbers PlacesRoomOfPart PlacesRoomInNumbers PlacesOfFirst PlacesOfPairsLast;
-
-    feature = "rescue": CutFirstOnly CutBytesOfBody CutFigureLengthKept CutEditLengthKept CutInsideFirst
+    CutFirstOnly CutBytesOfBody CutFigureLengthKept CutEditLengthKept CutInsideFirst
     CutBehindUnjudged CutOutsidePlace CutOfHeaderOnly CutUnlisted CutAtInner CutOfDeepHeader CutNumber
-    CutRoomOfPart CutRoomOfOutputFirst CutWritesBeforeRefusing CutRestCleared;
-
-    all(feature = "rescue", feature = "mapping"): CutWithoutVersion
+    CutRoomOfPart CutRoomOfOutputFirst CutWritesBeforeRefusing CutRestCleared CutWithoutVersion
 }
 
 /// The plain reader, with an error or without.

@@ -3,7 +3,7 @@
 
 use super::{Error, Seeded};
 use crate::differ::facts::Mesh;
-use crate::{place, record, row, Number, Own, Refusal, Row, LIMIT, RECORD};
+use crate::{place, row, Number, Own, Refusal, Row, LIMIT, RECORD};
 
 /// What the plain reader makes of a file.
 #[derive(Debug, Default)]
@@ -142,7 +142,6 @@ impl Reader<'_> {
     /// The row of the chunk at an offset, or of another by mistake.
     fn row(&self, at: usize) -> Option<Row> {
         match self.word(at) as u16 {
-            0xB000 if self.makes(Error::KeyframerListed) => Some(*FIGURE),
             0x4D4D if self.makes(Error::FigureInsideSkipped) => None,
             identifier => self.seeded.row(identifier),
         }
@@ -297,10 +296,7 @@ impl Reader<'_> {
             }
             _ => number + 1 + behind.len(),
         };
-        let mut slot = self.read.records[number].iter_mut().skip(6);
-        if let Some(slot) = slot.next() {
-            *slot = next as u32;
-        }
+        self.read.records[number][6] = next as u32;
     }
 
     /// Lists a chunk, and answers the number of its record.
@@ -328,8 +324,7 @@ impl Reader<'_> {
             at
         };
         let numbers = [self.word(at), offset, length, depth, parent, said, 0];
-        let numbers = numbers.map(|number| number as u32);
-        self.read.records.push(record(numbers));
+        self.read.records.push(numbers.map(|number| number as u32));
         self.read.own += own;
         number
     }

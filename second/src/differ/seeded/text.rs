@@ -3,7 +3,7 @@
 
 use super::reader::Reader;
 use super::Error;
-use crate::{Number, Refusal, LABELS_JUDGED};
+use crate::{Number, Refusal};
 
 impl Reader<'_> {
     /// 24 for the name of the chunk at an offset.
@@ -29,7 +29,7 @@ impl Reader<'_> {
         };
         let good = name.len() <= most && looked_at.iter().all(|byte| self.printable(*byte));
         let behind = if self.makes(Error::TextPlace) { 6 } else { 0 };
-        Number::Text.unless(!LABELS_JUDGED || unjudged || good, at + behind)
+        Number::Text.unless(unjudged || good, at + behind)
     }
 
     fn printable(&self, byte: u8) -> bool {
@@ -48,7 +48,7 @@ impl Reader<'_> {
     pub fn nameless(&self, body: &[u8], at: usize) -> Refusal {
         let text = match self.seeded.error {
             Some(Error::TextBeforeName) => self.text(body, at).is_err(),
-            Some(Error::TextLongBeforeName) => LABELS_JUDGED && body.len() > 63,
+            Some(Error::TextLongBeforeName) => body.len() > 63,
             _ => false,
         };
         if text {

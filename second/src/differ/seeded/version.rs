@@ -3,7 +3,7 @@
 
 use super::reader::Reader;
 use super::Error;
-use crate::{Number, Refusal, OLD_MAPPING};
+use crate::{Number, Refusal};
 
 impl Reader<'_> {
     /// 13 for the count of a 4140.
@@ -23,8 +23,7 @@ impl Reader<'_> {
 
     /// Whether the file is one that may have fewer pairs than vertices.
     fn old(&self) -> bool {
-        let version = self.version();
-        let old = match (self.seeded.error, version) {
+        match (self.seeded.error, self.version()) {
             (Some(Error::VersionAbsentIsNew), None) => false,
             (_, None) => true,
             (Some(Error::Version3IsOld), Some(version)) => version <= 3,
@@ -32,8 +31,7 @@ impl Reader<'_> {
             (Some(Error::VersionSigned), Some(version)) => (version as i32) < 3,
             (Some(Error::VersionIsAByte), Some(version)) => version as u8 <= 2,
             (_, Some(version)) => version < 3,
-        };
-        old && OLD_MAPPING
+        }
     }
 
     /// That of the first 0002 of length 10 among the children of the figure.

@@ -4,7 +4,7 @@
 use super::{Error, Seeded};
 use crate::differ::build::{figure, meshed};
 use crate::differ::node::Node;
-use crate::{Number, Refusal, LABELS_JUDGED, LIMIT};
+use crate::{Number, Refusal, LIMIT};
 
 /// Writes a figure into lent bytes.
 pub fn write(
@@ -113,8 +113,8 @@ fn text(seeded: Seeded, name: &[u8]) -> Result<(), Refusal> {
         _ => bad.into_iter().chain(long).min(),
     };
     match first {
-        Some(first) if LABELS_JUDGED => Err(Number::Text.at(first)),
-        _ => Ok(()),
+        Some(first) => Err(Number::Text.at(first)),
+        None => Ok(()),
     }
 }
 

@@ -8,9 +8,8 @@ listed! {
     Error, ERRORS:
     SumOf255Read RepeatsRead EmptyNameRead CountMissingAtHead LeftOverAtHead CountUnlimited
     NameOffsetOfEntry RoomOfPart RoomFirst PartOfEntryLost RepeatsWritten ThousandthRefused
-    BadEntryAfterMany WritesBeforeRefusing;
-
-    feature = "labels": TextNotJudged LongNotJudged TextBeforeSlip TextAtName TextWritten TextWrittenPlace
+    BadEntryAfterMany WritesBeforeRefusing
+    TextNotJudged LongNotJudged TextBeforeSlip TextAtName TextWritten TextWrittenPlace
 }
 
 /// This library, with an error or without.

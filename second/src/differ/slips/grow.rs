@@ -2,7 +2,6 @@
 
 use crate::differ::names;
 use crate::differ::random::Random;
-use crate::LABELS_JUDGED;
 
 /// A slip before it is bytes.
 #[derive(Clone, Debug)]
@@ -101,16 +100,13 @@ impl Draft {
 impl Entry {
     /// An entry whose name is like no other's, as its number is in it.
     fn any(number: usize, random: &mut Random) -> Entry {
-        let most = if LABELS_JUDGED { names::MOST } else { 255 } - 2;
+        let most = names::MOST - 2;
         let length = match random.below(30) {
             0 => most,
             1 => random.below(most),
             _ => random.below(4),
         };
-        let rest = match LABELS_JUDGED {
-            true => names::name(length, random),
-            false => random.bytes(length),
-        };
+        let rest = names::name(length, random);
         let number = [number / 64, number % 64].map(|digit| 32 + digit as u8);
         let name = [&number[..], &rest].concat();
         let sums = [0, 1].map(|_| match random.below(5) {

@@ -6,9 +6,9 @@ pub mod erring;
 mod grow;
 
 use super::compare::Pair;
-use super::lent::Difference;
+use super::lent::{anywhere, Difference};
 use super::random::Random;
-use super::run::{Failure, Kind, Plan, Tally};
+use super::run::{few, share, Cases, Failure, Plan, Tally};
 use crate::boundary::{refusal, Slips};
 use grow::Draft;
 
@@ -17,19 +17,14 @@ const STREAM: u64 = 200;
 
 /// Runs all families of slips.
 pub fn run<L: Slips, R: Slips>(plan: Plan, pair: &mut Pair<L, R>) -> Result<Tally, Box<Failure>> {
-    let kinds: [Kind<Pair<L, R>>; 4] = [
-        Kind("Slips", "slips, right and wrong", 500, 600, any),
-        Kind(
-            "SlipBits",
-            "every bit of a small slip turned",
-            10,
-            20,
-            turned,
-        ),
-        Kind("SlipsLong", "1,000 entries and one more", 2, 24, long),
-        Kind("Entries", "entries written", 500, 600, asked::entries),
+    #[rustfmt::skip]
+    let families: [Cases<Pair<L, R>>; 4] = [
+        Cases("Slips",     "slips, right and wrong",           share(500, 600), any),
+        Cases("SlipBits",  "every bit of a small slip turned", share(10, 20),   turned),
+        Cases("SlipsLong", "1,000 entries and one more",       few(2, 24),      long),
+        Cases("Entries",   "entries written",                  share(500, 600), asked::entries),
     ];
-    plan.all(STREAM, &kinds, pair)
+    plan.all(STREAM, &families, pair)
 }
 
 /// A slip with or without faults.
@@ -57,7 +52,9 @@ fn slip<L: Slips, R: Slips>(
     pair: &mut Pair<L, R>,
 ) -> Result<u64, Difference> {
     let slip = draft.bytes();
-    let answer = asked::read(&slip, random, pair)?;
+    let answer = anywhere(&slip, random, |slip, random| {
+        asked::read(slip, random, pair)
+    })?;
     if refusal(answer).is_none() {
         asked::again(&slip, answer as usize, pair)?;
     }

@@ -5,7 +5,7 @@ pub mod erring;
 mod parts;
 
 use super::compare::Pair;
-use super::run::{Failure, Kind, Plan, Tally};
+use super::run::{share, Cases, Failure, Plan, Tally};
 use crate::boundary::Summing;
 
 /// The first stream of numbers of these families.
@@ -16,16 +16,11 @@ pub fn run<L: Summing, R: Summing>(
     plan: Plan,
     pair: &mut Pair<L, R>,
 ) -> Result<Tally, Box<Failure>> {
-    let kinds: [Kind<Pair<L, R>>; 3] = [
-        Kind("Sums", "files against entries", 300, 300, parts::entry),
-        Kind("Parts", "files cut into parts", 300, 300, parts::cuts),
-        Kind(
-            "States",
-            "states of any kind joined",
-            500,
-            300,
-            parts::states,
-        ),
+    #[rustfmt::skip]
+    let families: [Cases<Pair<L, R>>; 3] = [
+        Cases("Sums",     "files against entries",     share(300, 300), parts::entry),
+        Cases("SumParts", "files cut into parts",      share(300, 300), parts::cuts),
+        Cases("States",   "states of any kind joined", share(500, 300), parts::states),
     ];
-    plan.all(STREAM, &kinds, pair)
+    plan.all(STREAM, &families, pair)
 }
