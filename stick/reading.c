@@ -22,7 +22,11 @@ static bool begin(struct reading *reading, enum source source, struct trouble *t
         return false;
     }
     if (!S_ISREG(status.st_mode)) {
-        trouble_of_words(trouble, "it is not a file any more", "check again");
+        if (source == FROM_STICK) { /* it was one when the folder was read */
+            trouble_of_words(trouble, "it is not a file any more", "check again");
+        } else {
+            trouble_of_words(trouble, "it is not a file", "see that the name is right");
+        }
         return false;
     }
     error = source == FROM_STICK ? settle(reading->file) : 0;

@@ -111,6 +111,13 @@ static void check_and_write_slip(const struct session *session, const char *fold
     manifest_free(&files);
 }
 
+/* A folder compared with itself would pass whatever is in it. */
+static bool is_master(const char *master, const char *folder) {
+    struct stat one, other;
+    return master != NULL && long_stat(master, 0, &one) == 0 && long_stat(folder, 0, &other) == 0 &&
+           one.st_dev == other.st_dev && one.st_ino == other.st_ino;
+}
+
 static void work_on(struct round *round, size_t job) {
     const struct session *session = round->session;
     const char *folder = round->folders[job];
@@ -120,6 +127,11 @@ static void work_on(struct round *round, size_t job) {
     if (!good) {
         trouble_of_words(&trouble, "the name is empty", "give a folder, for example /media/stick");
         report_trouble(report, "''", NULL, &trouble);
+    }
+    if (good && is_master(session->options->against, folder)) {
+        trouble_of_words(&trouble, "it is the master itself", "give the folder of the stick");
+        report_trouble(report, folder, NULL, &trouble);
+        good = false;
     }
     if (good && session->options->edition != NULL) {
         good = copy_edition(session->options->edition, &session->manifest, folder, report);
