@@ -22,11 +22,7 @@ static bool begin(struct reading *reading, enum source source, struct trouble *t
         return false;
     }
     if (!S_ISREG(status.st_mode)) {
-        if (source == FROM_STICK) { /* it was one when the folder was read */
-            trouble_of_words(trouble, "it is not a file any more", "check again");
-        } else {
-            trouble_of_words(trouble, "it is not a file", "see that the name is right");
-        }
+        trouble_of_words(trouble, "it is not a file", "see what stands there, and check again");
         return false;
     }
     error = source == FROM_STICK ? settle(reading->file) : 0;

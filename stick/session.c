@@ -111,11 +111,35 @@ static void check_and_write_slip(const struct session *session, const char *fold
     manifest_free(&files);
 }
 
-/* A folder compared with itself would pass whatever is in it. */
-static bool is_master(const char *master, const char *folder) {
-    struct stat one, other;
-    return master != NULL && long_stat(master, 0, &one) == 0 && long_stat(folder, 0, &other) == 0 &&
-           one.st_dev == other.st_dev && one.st_ino == other.st_ino;
+static bool same_folder(const char *one, const char *other) {
+    struct stat first, second;
+    return long_stat(one, 0, &first) == 0 && long_stat(other, 0, &second) == 0 &&
+           S_ISDIR(first.st_mode) && first.st_dev == second.st_dev && first.st_ino == second.st_ino;
+}
+
+/* One stick that is named twice would be counted as two, and be written to by two. */
+static bool named_before(const struct round *round, size_t job) {
+    for (size_t i = 0; i < job; i++) {
+        if (same_folder(round->folders[i], round->folders[job])) {
+            return true;
+        }
+    }
+    return false;
+}
+
+/* Whether nothing can be done with a folder, and why. */
+static bool is_unfit(const struct round *round, size_t job, struct trouble *trouble) {
+    const char *folder = round->folders[job], *master = round->session->options->against;
+    if (*folder == '\0') {
+        trouble_of_words(trouble, "the name is empty", "give a folder, for example /media/stick");
+    } else if (master != NULL && same_folder(master, folder)) { /* it would pass in any case */
+        trouble_of_words(trouble, "it is the master itself", "give the folder of the stick");
+    } else if (named_before(round, job)) {
+        trouble_of_words(trouble, "it is a folder that was named before", "name each stick once");
+    } else {
+        return false;
+    }
+    return true;
 }
 
 static void work_on(struct round *round, size_t job) {
@@ -123,15 +147,9 @@ static void work_on(struct round *round, size_t job) {
     const char *folder = round->folders[job];
     struct report *report = &round->reports[job];
     struct trouble trouble;
-    bool good = *folder != '\0';
+    bool good = !is_unfit(round, job, &trouble);
     if (!good) {
-        trouble_of_words(&trouble, "the name is empty", "give a folder, for example /media/stick");
-        report_trouble(report, "''", NULL, &trouble);
-    }
-    if (good && is_master(session->options->against, folder)) {
-        trouble_of_words(&trouble, "it is the master itself", "give the folder of the stick");
-        report_trouble(report, folder, NULL, &trouble);
-        good = false;
+        report_trouble(report, *folder == '\0' ? "''" : folder, NULL, &trouble);
     }
     if (good && session->options->edition != NULL) {
         good = copy_edition(session->options->edition, &session->manifest, folder, report);

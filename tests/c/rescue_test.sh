@@ -99,7 +99,7 @@ lines err 1
 nothing
 stick --rescue "$T" "$L"
 status_is 2
-has err "$T: it is not a file: see that the name is right"
+has err "$T: it is not a file: see what stands there, and check again"
 nothing
 stick --rescue "$D/name-zero-byte-lost.3ds" "$T/no/folder.3ds"
 status_is 2
