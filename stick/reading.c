@@ -10,7 +10,7 @@
 #include "longpath.h"
 #include "settle.h"
 
-/* Asked for at a time: the system fetches the next bytes while these are taken over. */
+/* Asked for at a time: faster than all at once, as measured (docs/BENCH.md). */
 enum { AT_ONCE = 128 * 1024 };
 
 /* Takes an open file into account. Answers false and says why where it cannot be read. */
