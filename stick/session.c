@@ -117,16 +117,6 @@ static bool same_folder(const char *one, const char *other) {
            S_ISDIR(first.st_mode) && first.st_dev == second.st_dev && first.st_ino == second.st_ino;
 }
 
-/* One stick that is named twice would be counted as two, and be written to by two. */
-static bool named_before(const struct round *round, size_t job) {
-    for (size_t i = 0; i < job; i++) {
-        if (same_folder(round->folders[i], round->folders[job])) {
-            return true;
-        }
-    }
-    return false;
-}
-
 /* Whether nothing can be done with a folder, and why. */
 static bool is_unfit(const struct round *round, size_t job, struct trouble *trouble) {
     const char *folder = round->folders[job], *master = round->session->options->against;
@@ -134,8 +124,6 @@ static bool is_unfit(const struct round *round, size_t job, struct trouble *trou
         trouble_of_words(trouble, "the name is empty", "give a folder, for example /media/stick");
     } else if (master != NULL && same_folder(master, folder)) { /* it would pass in any case */
         trouble_of_words(trouble, "it is the master itself", "give the folder of the stick");
-    } else if (named_before(round, job)) {
-        trouble_of_words(trouble, "it is a folder that was named before", "name each stick once");
     } else {
         return false;
     }

@@ -40,15 +40,6 @@ status_is 0
 passes 60
 lines out 1
 
-try 'a stick that is named twice is not two sticks'
-edition twice
-stick "$F" "$T/./twice/"
-status_is 2
-has err "$T/./twice/: not checked: it is a folder that was named before: name each stick once"
-matches out "$F: PASS: 6 figures checked, 0 refused; .*"
-matches out "$T/./twice/: DO NOT SEAL: 0 figures checked, 0 refused, 1 could not be checked"
-rm -r "$F"
-
 try 'one bad stick among good ones'
 edition good
 edition bad

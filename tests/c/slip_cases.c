@@ -236,6 +236,7 @@ static void try_again(const uint8_t *bytes, size_t length, size_t entries) {
     expect(memcmp(bytes, again, length) == 0, "written again it is another slip");
     judge_answer(tds_slip_write(bytes, length, row, 16 * entries, again, length - 1),
                  REFUSAL(15, length));
+    expect(memcmp(bytes, again, length) == 0, "a refusal changed what was there");
     free(row);
     free(again);
 }
