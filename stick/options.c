@@ -174,13 +174,28 @@ static void take_with_word(struct options *options, int option) {
     }
 }
 
+/* Whoever names a folder, too, may take the good end of the explaining for that of a check. */
+static void judge_explain(struct options *options) {
+    if (options->count > 0) {
+        mistake(options, "nothing is checked while a refusal is explained: leave ",
+                options->arguments[0], " away");
+    }
+}
+
+static bool has_style(const struct style *style) {
+    return style->quiet || style->verbose || style->list || style->json;
+}
+
 /* A rescue is of one figure, and nothing else is done with it. */
 static void judge_rescue(struct options *options) {
     if (options->against != NULL || options->edition != NULL || options->write_slip ||
-        options->batch > 0) {
+        options->batch > 0 || options->log != NULL || has_style(&options->style)) {
         mistake(options, "one figure is mended, and nothing else done: leave all but ", "--rescue",
                 " away");
-    } else if (options->count != 1) {
+    } else if (options->count > 1) {
+        mistake(options, "one figure is mended, into one new file: leave ", options->arguments[1],
+                " away");
+    } else if (options->count == 0) {
         mistake(options, "which new file is what is left of ", options->rescue,
                 " to go to? For example: stick --rescue adze.3ds what-is-left.3ds");
     } else {
@@ -188,9 +203,11 @@ static void judge_rescue(struct options *options) {
     }
 }
 
-/* What only the whole command line can tell. */
+/* What only the whole command line can tell. An option that would do nothing may be a mistake. */
 static void judge(struct options *options) {
-    if (options->rescue != NULL) {
+    if (options->task == TASK_EXPLAIN) {
+        judge_explain(options);
+    } else if (options->rescue != NULL) {
         judge_rescue(options);
     } else if (options->count == 0) {
         fprintf(stderr, "stick: which folder is to be checked? For example: stick /media/stick\n"
@@ -203,12 +220,14 @@ static void judge(struct options *options) {
                 options->edition != NULL ? "--copy" : "--against", " away");
     } else if (options->batch > 0 && options->count > 1) {
         mistake(options, "a batch has one folder: leave ", options->arguments[1], " away");
+    } else if (options->batch == 0 && options->log != NULL) {
+        mistake(options, "only a batch is logged: give --batch N too, or leave ", "--log", " away");
     }
 }
 
 struct options options_read(int argc, char **argv) {
     struct options options = {.task = TASK_WORK};
-    while (options.task == TASK_WORK) {
+    while (options.task == TASK_WORK || options.task == TASK_EXPLAIN) {
         int option = getopt_long(argc, argv, "hVqvle:", names, NULL);
         if (option == -1) {
             break;
@@ -217,7 +236,7 @@ struct options options_read(int argc, char **argv) {
     }
     options.arguments = argv + optind;
     options.count = (size_t)(argc - optind);
-    if (options.task == TASK_WORK) {
+    if (options.task == TASK_WORK || options.task == TASK_EXPLAIN) {
         judge(&options);
     }
     return options;

@@ -2,21 +2,29 @@
  * Reading the medium, not the memory: just after copying, this computer has all figures in its own
  * memory, and a bit that was turned on the way to the stick would not be seen.
  */
-#define _DEFAULT_SOURCE /* mincore */
+#define _DEFAULT_SOURCE /* mincore, syscall */
 #include "settle.h"
 
 #include <errno.h>
 #include <fcntl.h>
 #include <stdbool.h>
 #include <stddef.h>
+#include <stdint.h>
 #include <sys/mman.h>
 #include <sys/stat.h>
+#include <sys/syscall.h>
 #include <sys/sysmacros.h>
+#include <sys/vfs.h>
 #include <time.h>
 #include <unistd.h>
 
-enum { PAGES = 4096 };   /* asked about at a time */
-enum { MORE_TRIES = 9 }; /* one that only reads the file is soon done with it */
+#ifndef SYS_cachestat
+#define SYS_cachestat 451 /* Linux 6.5; older headers do not have it */
+#endif
+
+enum { PAGES = 4096 };      /* asked about at a time */
+enum { MORE_TRIES = 9 };    /* one that only reads the file is soon done with it */
+enum { FUSE = 0x65735546 }; /* the kind of a file system that is a program */
 
 /*
  * The system tells of its memory only to the owner of a file, and to others that all of it is in
@@ -24,6 +32,24 @@ enum { MORE_TRIES = 9 }; /* one that only reads the file is soon done with it */
  */
 static bool can_be_asked(const struct stat *status) {
     return major(status->st_dev) != 0 && (geteuid() == 0 || geteuid() == status->st_uid);
+}
+
+/*
+ * Whether the system says that no page of the file is in memory. What waits to be written is in
+ * memory too: so then there is nothing to write out and nothing to drop.
+ *
+ * mincore cannot be asked this: it leaves out pages that are known in part, and of a file just
+ * copied that is the last one, wherever blocks are smaller than pages; a small file has no other.
+ * A file system that is a program may hold what waits where the file's pages do not show it.
+ */
+static bool none_is_held(int file) {
+    const uint64_t all_of_it[2] = {0, 0};
+    uint64_t pages[5] = {0}; /* in memory, to be written, being written, and two that were */
+    struct stat status;
+    struct statfs system;
+    return fstat(file, &status) == 0 && major(status.st_dev) != 0 && fstatfs(file, &system) == 0 &&
+           system.f_type != FUSE && syscall(SYS_cachestat, file, all_of_it, pages, 0) == 0 &&
+           pages[0] + pages[1] + pages[2] == 0;
 }
 
 /* Whether any of these pages is in memory. (PROT_NONE: nothing is to be read by asking.) */
@@ -75,7 +101,11 @@ static int drop(int file) {
 }
 
 int settle(int file) {
-    int error = write_out(file);
+    int error;
+    if (none_is_held(file)) {
+        return 0;
+    }
+    error = write_out(file);
     if (error == 0) {
         error = drop(file);
     }

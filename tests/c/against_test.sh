@@ -123,6 +123,12 @@ cp "$F/t.3ds" "$T/copy/T.3DS"
 stick --against "$F" "$T/copy"
 status_is 0
 
+try 'the master itself is no stick: compared with itself all would pass'
+stick --against "$F" "$F/." "$T/copy"
+status_is 2
+has err "$F/.: not checked: it is the master itself: give the folder of the stick"
+has out "$T/copy: "
+
 try 'a figure that is refused on the master too'
 cp samples/damaged/short-length-of-five.3ds "$F/t.3ds"
 cp samples/damaged/short-length-of-five.3ds "$T/copy/T.3DS"

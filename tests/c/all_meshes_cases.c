@@ -10,22 +10,19 @@
 #include <stdlib.h>
 #include <string.h>
 
+#include "answers.h"
 #include "slices.h"
 #include "tds.h"
 
-#define REFUSAL(number, place) ((uint64_t)(number) << 32 | (uint64_t)(place))
-#define EACH(index, row) for (size_t index = 0; index < sizeof(row) / sizeof((row)[0]); index++)
-
-/* A chunk's header, a word, and so many bytes of a float 1, of a face of the first vertex. */
-#define CHUNK(id, length) (id) % 256, (id) / 256, (length), 0, 0, 0
-#define WORD(n) (n) % 256, (n) / 256
+/* The bytes of a float 1, and of a face of the first vertex. */
 #define ONE 0, 0, 0x80, 0x3F
 #define FACE 0, 0, 0, 0, 0, 0, 7, 7
 
 /* A figure with these bytes in its 3D3D; they begin at 12. */
 #define FIGURE(length) CHUNK(0x4D4D, 12 + (length)), CHUNK(0x3D3D, 6 + (length))
 
-enum { MOST_MESHES = 3, EMPTY_LENGTH = 13 };
+/* AMPLE: room for more than any case has, so that a refusal has something to spoil. */
+enum { MOST_MESHES = 3, EMPTY_LENGTH = 13, AMPLE = (MOST_MESHES + 1) * TDS_MESH_BYTES };
 
 static struct arena file_arena, meshes_arena;
 
@@ -156,11 +153,6 @@ static const struct {
      {{0}}},
 };
 
-static void judge_answer(uint64_t answer, uint64_t right) {
-    expect(answer == right, "answered %d, %lu instead of %d, %lu", TDS_REFUSAL(answer),
-           (unsigned long)TDS_PLACE(answer), TDS_REFUSAL(right), (unsigned long)TDS_PLACE(right));
-}
-
 static void judge_mesh(const uint8_t *meshes, size_t mesh, const uint32_t *right) {
     for (int number = 0; number < TDS_MESH_NUMBERS; number++) {
         uint32_t is = tds_get_mesh(meshes, mesh, (enum tds_mesh)number);
@@ -189,28 +181,18 @@ static void try_room(size_t number, const uint8_t *file, size_t room, enum where
 
 static void try_one(size_t number, enum where where) {
     size_t all = cases[number].meshes * TDS_MESH_BYTES;
-    const size_t rooms[] = {all, all - (all > 0), all + TDS_MESH_BYTES - 1, all / 2, 0};
+    const size_t rooms[] = {all, all - (all > 0), all + TDS_MESH_BYTES - 1, all / 2, 0, AMPLE};
     const uint8_t *file = arena_hold(&file_arena, cases[number].file, cases[number].length, where);
     EACH(i, rooms) {
         try_room(number, file, rooms[i], where);
     }
 }
 
-/* Sets the length of a chunk. */
-static void set_length(uint8_t *at, size_t length) {
-    at[2] = (uint8_t)length;
-    at[3] = (uint8_t)(length / 256);
-    at[4] = (uint8_t)(length / 65536);
-}
-
 /* A figure of so many objects with empty names and empty meshes. */
 static uint8_t *empty_meshes(size_t count) {
     static const uint8_t front[] = {FIGURE(0)};
     static const uint8_t object[] = {CHUNK(0x4000, EMPTY_LENGTH), 0, CHUNK(0x4100, 6)};
-    uint8_t *file = malloc(sizeof front + EMPTY_LENGTH * count);
-    if (file == NULL) {
-        abort();
-    }
+    uint8_t *file = need_bytes(sizeof front + EMPTY_LENGTH * count);
     memcpy(file, front, sizeof front);
     set_length(file, sizeof front + EMPTY_LENGTH * count);
     set_length(file + 6, sizeof front - 6 + EMPTY_LENGTH * count);
@@ -221,20 +203,19 @@ static uint8_t *empty_meshes(size_t count) {
 }
 
 static void try_most(size_t count) {
-    size_t length = 12 + EMPTY_LENGTH * count;
-    uint8_t *file = empty_meshes(count), *meshes = malloc(TDS_MESH_BYTES * count);
-    if (meshes == NULL) {
-        abort();
-    }
+    size_t length = 12 + EMPTY_LENGTH * count, all = TDS_MESH_BYTES * count;
+    struct arena arena = arena_make(all + 2);
+    uint8_t *file = empty_meshes(count), *meshes = arena_lend(&arena, all - 1, AT_END);
     trying("%zu empty meshes", count);
-    judge_answer(tds_meshes(file, length, meshes, TDS_MESH_BYTES * count - 1), REFUSAL(15, count));
-    judge_answer(tds_meshes(file, length, meshes, TDS_MESH_BYTES * count), count);
+    judge_answer(tds_meshes(file, length, meshes, all - 1), REFUSAL(15, count));
+    expect(arena_alive(&arena, meshes, 0), "a refusal changed something");
+    meshes = arena_lend(&arena, all, AT_END);
+    judge_answer(tds_meshes(file, length, meshes, all), count);
     for (size_t i = 0; i < count; i++) {
         const uint32_t right[TDS_MESH_NUMBERS] = {(uint32_t)(18 + EMPTY_LENGTH * i)};
         judge_mesh(meshes, i, right);
     }
     free(file);
-    free(meshes);
 }
 
 void try_all_meshes(void) {

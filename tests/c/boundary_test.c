@@ -8,6 +8,7 @@
 #include <sys/mman.h>
 
 #include "all_meshes_cases.h"
+#include "answers.h"
 #include "c4d_cases.h"
 #include "cases.h"
 #include "cob_cases.h"
@@ -20,9 +21,6 @@
 #include "slip_cases.h"
 #include "tds.h"
 #include "writer_cases.h"
-
-#define REFUSAL(number, place) ((uint64_t)(number) << 32 | (uint64_t)(place))
-#define EACH(index, row) for (size_t index = 0; index < sizeof(row) / sizeof((row)[0]); index++)
 
 static struct arena file_arena, big_file_arena, first_arena, second_arena;
 
@@ -60,11 +58,6 @@ static void judge_slice(struct lent *lent, uint64_t right_answer) {
     size_t filled = TDS_REFUSED(right_answer) ? 0 : lent->filled;
     expect(arena_alive(lent->arena, lent->at, filled), "something outside was changed");
     expect(memcmp(lent->at, lent->right, filled) == 0, "filled wrongly");
-}
-
-static void judge_answer(uint64_t answer, uint64_t right) {
-    expect(answer == right, "answered %d, %lu instead of %d, %lu", TDS_REFUSAL(answer),
-           (unsigned long)TDS_PLACE(answer), TDS_REFUSAL(right), (unsigned long)TDS_PLACE(right));
 }
 
 static void try_version(void) {

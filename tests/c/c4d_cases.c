@@ -10,18 +10,11 @@
 #include <string.h>
 #include <sys/mman.h>
 
+#include "answers.h"
 #include "slices.h"
 #include "tds.h"
 
-#define REFUSAL(number, place) ((uint64_t)(number) << 32 | (uint64_t)(place))
-#define EACH(index, row) for (size_t index = 0; index < sizeof(row) / sizeof((row)[0]); index++)
-
 static struct arena file_arena, objects_arena, materials_arena;
-
-static void judge_answer(uint64_t answer, uint64_t right) {
-    expect(answer == right, "answered %d, %lu instead of %d, %lu", TDS_REFUSAL(answer),
-           (unsigned long)TDS_PLACE(answer), TDS_REFUSAL(right), (unsigned long)TDS_PLACE(right));
-}
 
 /* ---- files, from words */
 
@@ -213,7 +206,7 @@ static void try_case(const struct c4d_case *this, enum where where) {
     struct bytes made;
     const uint8_t *file;
     size_t need = TDS_REFUSED(this->answer) ? 24 : TDS_OBJECT_BYTES * (size_t)this->answer;
-    size_t numbers = 4 * this->materials_count;
+    size_t numbers = TDS_REFUSED(this->answer) ? 16 : 4 * this->materials_count;
     size_t objects_rooms[] = {0, need > 0 ? need - 1 : 0, need, need + 7};
     size_t materials_rooms[] = {0, numbers > 0 ? numbers - 1 : 0, numbers, numbers + 3};
     make(&made, this->words);

@@ -7,7 +7,7 @@
 #include <stdlib.h>
 #include <string.h>
 
-#define REFUSAL(number, place) ((uint64_t)(number) << 32 | (place))
+#include "answers.h"
 
 /* The triangle of docs/FORMAT.md, 86 bytes. */
 static const uint8_t triangle[] = {

@@ -10,15 +10,16 @@
 #include <string.h>
 #include <time.h>
 
+#include "answers.h"
 #include "slices.h"
 #include "tds.h"
 
-#define REFUSAL(number, place) ((uint64_t)(number) << 32 | (uint64_t)(place))
-#define ROOM (2 * TDS_LONGEST_FILE)
+/* No row that is lent is longer, and every byte of an arena is looked at after each call. */
+enum { ROWS = 8192 };
 
 static struct arena file_arena, row_arena, second_arena;
 
-static void judge_answer(const char *call, uint64_t answer, uint64_t right) {
+static void judge_call(const char *call, uint64_t answer, uint64_t right) {
     expect(answer == right, "%s answered %d, %lu instead of %d, %lu", call, TDS_REFUSAL(answer),
            (unsigned long)TDS_PLACE(answer), TDS_REFUSAL(right), (unsigned long)TDS_PLACE(right));
 }
@@ -29,12 +30,12 @@ static void untouched(const char *call, const struct arena *arena, const uint8_t
 
 /* All calls refuse alike, and change nothing. */
 static void try_refused(const uint8_t *file, size_t length, uint64_t right) {
-    judge_answer("tds_cob_check", tds_cob_check(file, length), right);
+    judge_call("tds_cob_check", tds_cob_check(file, length), right);
     uint8_t *row = arena_lend(&row_arena, 4096, IN_MIDDLE);
     uint8_t *second = arena_lend(&second_arena, 4096, IN_MIDDLE);
-    judge_answer("tds_cob_list", tds_cob_list(file, length, row, 4096), right);
-    judge_answer("tds_cob_sizes", tds_cob_sizes(file, length, 0, row, 4096), right);
-    judge_answer("tds_cob_tables", tds_cob_tables(file, length, 0, row, 4096, second, 4096), right);
+    judge_call("tds_cob_list", tds_cob_list(file, length, row, 4096), right);
+    judge_call("tds_cob_sizes", tds_cob_sizes(file, length, 0, row, 4096), right);
+    judge_call("tds_cob_tables", tds_cob_tables(file, length, 0, row, 4096, second, 4096), right);
     untouched("a call", &row_arena, row);
     untouched("tds_cob_tables", &second_arena, second);
 }
@@ -89,11 +90,11 @@ static void try_list(const uint8_t *file, size_t length, size_t room) {
     uint8_t *row = arena_lend(&row_arena, room, AT_END);
     uint64_t answer = tds_cob_list(file, length, row, room);
     if (room / TDS_COB_RECORD_BYTES < 5) {
-        judge_answer("tds_cob_list", answer, REFUSAL(15, 5));
+        judge_call("tds_cob_list", answer, REFUSAL(15, 5));
         untouched("tds_cob_list", &row_arena, row);
         return;
     }
-    judge_answer("tds_cob_list", answer, 5);
+    judge_call("tds_cob_list", answer, 5);
     for (size_t record = 0; record < 5; record++) {
         for (int number = 0; number < 6; number++) {
             uint32_t found = tds_get_cob_record(row, record, (enum tds_cob_record)number);
@@ -114,7 +115,7 @@ static void try_tables(const uint8_t *file, size_t length, uint32_t mesh, const 
     uint64_t right = vertex_room / 4 < 12      ? REFUSAL(15, 12)
                      : corner_room / 4 < count ? REFUSAL(15, count)
                                                : 4;
-    judge_answer("tds_cob_tables", answer, right);
+    judge_call("tds_cob_tables", answer, right);
     if (TDS_REFUSED(right)) {
         untouched("tds_cob_tables", &row_arena, first);
         untouched("tds_cob_tables", &second_arena, second);
@@ -133,10 +134,10 @@ static void try_sizes(const uint8_t *file, size_t length, uint32_t mesh, uint32_
         uint8_t *row = arena_lend(&row_arena, room, AT_END);
         uint64_t answer = tds_cob_sizes(file, length, mesh, row, room);
         if (room < 8) {
-            judge_answer("tds_cob_sizes", answer, REFUSAL(15, 2));
+            judge_call("tds_cob_sizes", answer, REFUSAL(15, 2));
             untouched("tds_cob_sizes", &row_arena, row);
         } else {
-            judge_answer("tds_cob_sizes", answer, 2);
+            judge_call("tds_cob_sizes", answer, 2);
             expect(tds_get4(row) == 4 && tds_get4(row + 4) == faces, "other sizes");
             expect(arena_alive(&row_arena, row, 8), "the sizes are written elsewhere too");
         }
@@ -146,9 +147,9 @@ static void try_sizes(const uint8_t *file, size_t length, uint32_t mesh, uint32_
 static void try_no_mesh(const uint8_t *file, size_t length, uint32_t mesh, uint32_t meshes) {
     uint8_t *row = arena_lend(&row_arena, 100, IN_MIDDLE);
     uint8_t *second = arena_lend(&second_arena, 0, AT_END);
-    judge_answer("tds_cob_sizes", tds_cob_sizes(file, length, mesh, row, 0), REFUSAL(16, meshes));
-    judge_answer("tds_cob_tables", tds_cob_tables(file, length, mesh, row, 100, second, 0),
-                 REFUSAL(16, meshes));
+    judge_call("tds_cob_sizes", tds_cob_sizes(file, length, mesh, row, 0), REFUSAL(16, meshes));
+    judge_call("tds_cob_tables", tds_cob_tables(file, length, mesh, row, 100, second, 0),
+               REFUSAL(16, meshes));
     untouched("a call", &row_arena, row);
 }
 
@@ -158,7 +159,7 @@ static void try_square(void) {
     size_t length = read_sample("try-square.cob", bytes, sizeof bytes);
     const uint8_t *file = arena_hold(&file_arena, bytes, length, AT_START);
     trying("the try square");
-    judge_answer("tds_cob_check", tds_cob_check(file, length), 5);
+    judge_call("tds_cob_check", tds_cob_check(file, length), 5);
     for (size_t room = 0; room < 6 * TDS_COB_RECORD_BYTES; room++) {
         try_list(file, length, room);
     }
@@ -181,7 +182,7 @@ static void try_gauge(void) {
     const uint8_t *file = arena_hold(&file_arena, bytes, length, AT_END);
     trying("the marking gauge");
     uint8_t *row = arena_lend(&row_arena, 2 * TDS_COB_RECORD_BYTES, AT_START);
-    judge_answer("tds_cob_list", tds_cob_list(file, length, row, 2 * TDS_COB_RECORD_BYTES), 2);
+    judge_call("tds_cob_list", tds_cob_list(file, length, row, 2 * TDS_COB_RECORD_BYTES), 2);
     expect(tds_get_cob_record(row, 0, TDS_COB_OFFSET) == 65, "the mesh stands elsewhere");
     expect(tds_get_cob_record(row, 0, TDS_COB_OWNER) == 7, "a private chunk owns the mesh");
     try_sizes(file, length, 0, 1);
@@ -212,7 +213,7 @@ static void try_turned(void) {
         trying("the gauge cut off at %zu", cut);
         expect(TDS_REFUSED(tds_cob_check(file, cut)), "a part is accepted");
     }
-    judge_answer("tds_cob_check", tds_cob_check(NULL, 0), REFUSAL(20, 0));
+    judge_call("tds_cob_check", tds_cob_check(NULL, 0), REFUSAL(20, 0));
 }
 
 /* ---- the longest chain: each chunk names the one before it as parent */
@@ -253,21 +254,21 @@ static void try_chain(uint32_t step) {
     trying("a chain of parents, by %lu", (unsigned long)step);
     uint8_t *row = arena_lend(&row_arena, 100, AT_END);
     clock_t start = clock();
-    judge_answer("tds_cob_check", tds_cob_check(file, length), 1);
-    judge_answer("tds_cob_list", tds_cob_list(file, length, row, 100), 1);
+    judge_call("tds_cob_check", tds_cob_check(file, length), 1);
+    judge_call("tds_cob_list", tds_cob_list(file, length, row, 100), 1);
     double seconds = (double)(clock() - start) / CLOCKS_PER_SEC;
     expect(seconds < 5, "the longest chain took %.1f seconds", seconds);
     /* the last chunk but one twice */
     put4(bytes + length - 40 + 8, chain_identifier(0, step));
     file = arena_hold(&file_arena, bytes, length, AT_END);
-    judge_answer("tds_cob_check", tds_cob_check(file, length), REFUSAL(21, length - 40));
+    judge_call("tds_cob_check", tds_cob_check(file, length), REFUSAL(21, length - 40));
     free(bytes);
 }
 
 void try_cobs(void) {
-    file_arena = arena_make(ROOM);
-    row_arena = arena_make(ROOM);
-    second_arena = arena_make(ROOM);
+    file_arena = arena_make(TDS_LONGEST_FILE + 2);
+    row_arena = arena_make(ROWS);
+    second_arena = arena_make(ROWS);
     try_samples();
     try_square();
     try_gauge();

@@ -1,6 +1,6 @@
 /*
- * tds_write_figure: a painted triangle and a bare object beside it, byte counts and list; then one
- * thing changed at a time: each refusal with its place; rooms; nothing else is touched.
+ * tds_write_figure: a painted triangle and a bare object beside it, byte for byte, and its list;
+ * then one thing changed at a time: each refusal with its place; rooms; nothing else is touched.
  */
 #include "figure_cases.h"
 
@@ -8,13 +8,11 @@
 #include <stdio.h>
 #include <string.h>
 
+#include "answers.h"
 #include "slices.h"
 #include "tds.h"
 
-#define REFUSAL(number, place) ((uint64_t)(number) << 32 | (uint64_t)(place))
-#define EACH(index, row) for (size_t index = 0; index < sizeof(row) / sizeof((row)[0]); index++)
-
-enum { SIZE = 258, RECORDS = 24 };
+enum { SIZE = 258, RECORDS = 28 };
 
 static struct arena out_arena;
 
@@ -45,6 +43,29 @@ static const struct rows right = {
     {7, 10, 9, 3, 1, 2, 1, 2, 18},
 };
 
+/* Its bytes, by the rules of the format. */
+#define COLOUR(id, r, g, b) CHUNK(id, 15), CHUNK(0x0011, 9), r, g, b
+#define ZERO 0, 0, 0, 0
+#define ONE 0, 0, 0x80, 0x3F
+#define MATERIAL_A                                                                                 \
+    CHUNK(0xAFFF, 59), CHUNK(0xA000, 8), 'A', 0, COLOUR(0xA010, 1, 2, 3), COLOUR(0xA020, 4, 5, 6), \
+        COLOUR(0xA030, 7, 8, 9)
+#define MATERIAL_CC                                                                                \
+    CHUNK(0xAFFF, 60), CHUNK(0xA000, 9), 'C', 'C', 0, COLOUR(0xA010, 11, 12, 13),                  \
+        COLOUR(0xA020, 14, 15, 16), COLOUR(0xA030, 17, 18, 19)
+#define VERTICES_A CHUNK(0x4110, 44), WORD(3), ZERO, ZERO, ZERO, ONE, ZERO, ZERO, ZERO, ONE, ZERO
+#define GROUP_CC CHUNK(0x4130, 13), 'C', 'C', 0, WORD(1), WORD(0)
+#define FACES_A                                                                                    \
+    CHUNK(0x4120, 39), WORD(1), WORD(0), WORD(1), WORD(2), WORD(0), GROUP_CC, CHUNK(0x4150, 10),   \
+        7, 0, 0, 0
+#define OBJECT_A CHUNK(0x4000, 97), 'A', 0, CHUNK(0x4100, 89), VERTICES_A, FACES_A
+#define LISTS_B CHUNK(0x4110, 8), WORD(0), CHUNK(0x4120, 8), WORD(0)
+#define OBJECT_B CHUNK(0x4000, 30), 'B', 0, CHUNK(0x4100, 22), LISTS_B
+#define HEADS WORD(0x4D4D), WORD(SIZE), WORD(0), CHUNK(0x3D3D, SIZE - 6)
+
+static const uint8_t figure[SIZE] = {HEADS, MATERIAL_A, MATERIAL_CC, OBJECT_A, OBJECT_B};
+static const uint8_t empty[] = {CHUNK(0x4D4D, 12), CHUNK(0x3D3D, 6)};
+
 static uint64_t call(const struct rows *r, uint8_t *out, size_t room) {
     const size_t *n = r->length;
     return tds_write_figure(r->names, n[0], r->objects, n[1], r->vertices, n[2], r->corners, n[3],
@@ -63,31 +84,46 @@ static void judge(const char *what, const struct rows *r, size_t room, uint64_t 
                (unsigned long long)answer);
         expect(arena_alive(&out_arena, out, TDS_REFUSED(answer) ? 0 : (size_t)answer),
                "%s: something was changed", what);
+        if (!TDS_REFUSED(answer)) {
+            expect(memcmp(out, answer == SIZE ? figure : empty, (size_t)answer) == 0,
+                   "%s: other bytes are written", what);
+        }
     }
 }
 
 /* What is written is accepted, and has these chunks. */
 static void judge_list(void) {
-    static const uint16_t chunks[RECORDS] = {0x4D4D, 0x3D3D, 0xAFFF, 0xA000, 0xA010, 0x0011,
-                                             0xA020, 0x0011, 0xA030, 0x0011, 0xAFFF, 0xA000,
-                                             0xA010, 0x0011, 0xA020, 0x0011, 0xA030, 0x0011,
-                                             0x4000, 0x4100, 0x4110, 0x4120, 0x4130, 0x4150};
-    uint8_t out[SIZE], list[(RECORDS + 4) * TDS_RECORD_BYTES];
+    static const uint16_t chunks[RECORDS] = {
+        0x4D4D, 0x3D3D, 0xAFFF, 0xA000, 0xA010, 0x0011, 0xA020, 0x0011, 0xA030, 0x0011,
+        0xAFFF, 0xA000, 0xA010, 0x0011, 0xA020, 0x0011, 0xA030, 0x0011, 0x4000, 0x4100,
+        0x4110, 0x4120, 0x4130, 0x4150, 0x4000, 0x4100, 0x4110, 0x4120};
+    uint8_t out[SIZE], list[RECORDS * TDS_RECORD_BYTES];
     trying("what tds_write_figure wrote");
     expect(call(&right, out, sizeof out) == SIZE, "the size differs");
-    expect(tds_list(out, SIZE, list, sizeof list) == RECORDS + 4, "the count of records differs");
+    expect(tds_list(out, SIZE, list, sizeof list) == RECORDS, "the count of records differs");
     EACH(i, chunks) {
         expect(tds_get4(list + i * TDS_RECORD_BYTES) == chunks[i], "chunk %zu differs", i);
     }
 }
 
-/* One row too short or too long, in the order in which they are asked. */
-static void judge_lengths(void) {
-    static const size_t order[] = {1, 5, 0, 2, 3, 4, 6, 8};
-    EACH(i, order) {
-        struct rows r = right;
+/* The order in which the lengths of rows are asked. */
+static const size_t order[] = {1, 5, 0, 2, 3, 4, 6, 8};
+
+/* This row, and all that are asked later, are too short. */
+static struct rows shorter_from(size_t first) {
+    struct rows r = right;
+    for (size_t i = first; i < sizeof order / sizeof order[0]; i++) {
         r.length[order[i]]--;
-        judge("a row too short", &r, SIZE, REFUSAL(13, r.length[order[i]]));
+    }
+    return r;
+}
+
+static void judge_lengths(void) {
+    EACH(i, order) {
+        struct rows r = shorter_from(i);
+        judge("this row and later ones too short", &r, SIZE, REFUSAL(13, r.length[order[i]]));
+        r = right, r.length[order[i]]++;
+        judge("a row too long", &r, SIZE, REFUSAL(13, r.length[order[i]]));
     }
 }
 

@@ -7,11 +7,9 @@
 
 #include <string.h>
 
+#include "answers.h"
 #include "slices.h"
 #include "tds.h"
-
-#define REFUSAL(number, place) ((uint64_t)(number) << 32 | (uint64_t)(place))
-#define EACH(index, row) for (size_t index = 0; index < sizeof(row) / sizeof((row)[0]); index++)
 
 enum { NONE = -1 };
 
@@ -129,11 +127,6 @@ static struct made make(const struct mapped *this) {
     return file;
 }
 
-static void judge_answer(uint64_t answer, uint64_t right) {
-    expect(answer == right, "answered %d, %lu instead of %d, %lu", TDS_REFUSAL(answer),
-           (unsigned long)TDS_PLACE(answer), TDS_REFUSAL(right), (unsigned long)TDS_PLACE(right));
-}
-
 static void try_mapping(const struct mapped *this, const uint8_t *file, size_t length, size_t room,
                         enum where where) {
     size_t pairs = this->pairs == NONE || this->vertices == NONE ? 0 : (size_t)this->vertices;
@@ -158,16 +151,19 @@ static void try_case(const struct mapped *this, enum where where) {
     static const size_t rooms[] = {0, 15, 16, 19, 100};
     struct made made = make(this);
     const uint8_t *file = arena_hold(&file_arena, made.bytes, made.length, where);
-    uint8_t *vertices = arena_lend(&mapping_arena, 24, where);
-    uint64_t vertex_count = this->vertices == NONE ? 0 : (uint64_t)this->vertices;
+    uint8_t *vertices;
+    size_t vertex_count = this->vertices == NONE ? 0 : (size_t)this->vertices;
     EACH(i, rooms) {
         try_mapping(this, file, made.length, rooms[i], where);
     }
     trying("the other calls of %s (%d)", this->what, where);
     judge_answer(tds_mapping(file, made.length, 1, NULL, 0),
                  this->refusal != 0 ? this->refusal : REFUSAL(16, 1));
+    vertices = arena_lend(&mapping_arena, 24, where);
     judge_answer(tds_tables(file, made.length, 0, vertices, 24, NULL, 0),
                  this->refusal != 0 ? this->refusal : vertex_count);
+    expect(arena_alive(&mapping_arena, vertices, this->refusal != 0 ? 0 : 12 * vertex_count),
+           "something else was changed");
     if (this->refusal != 0) {
         judge_answer(tds_check(file, made.length), this->refusal);
     }

@@ -9,18 +9,15 @@
 #include <stdlib.h>
 #include <string.h>
 
+#include "answers.h"
 #include "slices.h"
 #include "tds.h"
 
-#define REFUSAL(number, place) ((uint64_t)(number) << 32 | (uint64_t)(place))
 #define SIZES(vertices, faces) ((uint64_t)(vertices) + 65536 * (uint64_t)(faces))
-#define EACH(index, row) for (size_t index = 0; index < sizeof(row) / sizeof((row)[0]); index++)
 
 static struct arena file_arena, vertices_arena, corners_arena, out_arena;
 
-/* A chunk's header, a word, a vertex by the bits of its floats, a face with flag word 0. */
-#define CHUNK(id, length) (id) % 256, (id) / 256, (length), 0, 0, 0
-#define WORD(n) (n) % 256, (n) / 256
+/* A vertex by the bits of its floats, a face with flag word 0. */
 #define FLOAT(bits) (bits) & 255, (bits) >> 8 & 255, (bits) >> 16 & 255, (bits) >> 24 & 255
 #define VERTEX(x, y, z) FLOAT(x), FLOAT(y), FLOAT(z)
 #define FACE(a, b, c) WORD(a), WORD(b), WORD(c), WORD(0)
@@ -174,11 +171,6 @@ static const struct mesh {
      .box = {0, 0, 0, 0x3F800000, 0x3F800000, 0, 0x3F000000, 0x3F000000, 0}},
 };
 
-static void judge_answer(uint64_t answer, uint64_t right) {
-    expect(answer == right, "answered %d, %lu instead of %d, %lu", TDS_REFUSAL(answer),
-           (unsigned long)TDS_PLACE(answer), TDS_REFUSAL(right), (unsigned long)TDS_PLACE(right));
-}
-
 /* Whether these numbers, and nothing else, were put into a slice. */
 static void judge_numbers(const struct arena *arena, const uint8_t *slice, const uint32_t *numbers,
                           size_t count) {
@@ -231,8 +223,9 @@ static void try_box(const struct mesh *this, const uint8_t *file, enum where whe
 /* Each room below, at and above what is needed, in numbers and in bytes. */
 static void try_mesh(const struct mesh *this, enum where where) {
     size_t vertices = 12 * this->vertices, corners = 6 * this->faces;
-    const size_t vertices_rooms[] = {vertices, vertices - (vertices > 0), vertices + 7, 0};
-    const size_t corners_rooms[] = {corners, corners - (corners > 0), corners + 5, 0};
+    const size_t vertices_rooms[] = {vertices, vertices - (vertices > 0), vertices + 7, 0,
+                                     vertices + 99};
+    const size_t corners_rooms[] = {corners, corners - (corners > 0), corners + 5, 0, corners + 99};
     const uint8_t *file = arena_hold(&file_arena, this->file, this->file_length, where);
     EACH(i, vertices_rooms) {
         EACH(j, corners_rooms) {
@@ -255,10 +248,7 @@ static uint8_t *long_figure(void) {
     };
     static const uint8_t face[] = {0x20, 0x41, 16,   0,    0,    0,    1, 0,
                                    0,    0,    0xFE, 0xFF, 0xFD, 0xFF, 0, 0};
-    uint8_t *file = malloc(LONG_FILE);
-    if (file == NULL) {
-        abort();
-    }
+    uint8_t *file = need_bytes(LONG_FILE);
     memcpy(file, front, sizeof front);
     for (size_t j = 0; j < 3 * MOST; j++) {
         uint8_t *at = file + sizeof front + 4 * j;
@@ -274,11 +264,8 @@ static uint8_t *long_figure(void) {
 static void try_long(void) {
     static const uint32_t box[9] = {0xFCFFFEFD, 0xFCFFBAFE, 0xFCFFF9FF, 0x7EFF9DFD, 0x7EFFDCFE,
                                     0x7EFF9EFF, 0x7E6F9E0D, 0x7E6FE14E, 0x7E6F9F5F};
-    uint8_t *file = long_figure(), *vertices = malloc(12 * MOST), corners[6];
+    uint8_t *file = long_figure(), *vertices = need_bytes(12 * MOST), corners[6];
     uint8_t *out = arena_lend(&out_arena, 36, AT_END);
-    if (vertices == NULL) {
-        abort();
-    }
     trying("the calls about a mesh of 65,535 vertices");
     judge_answer(tds_tables(file, LONG_FILE, 0, vertices, 12 * MOST, corners, sizeof corners),
                  SIZES(MOST, 1));

@@ -9,14 +9,11 @@
 #include <stdlib.h>
 #include <string.h>
 
+#include "answers.h"
 #include "slices.h"
 #include "tds.h"
 
-#define REFUSAL(number, place) ((uint64_t)(number) << 32 | (uint64_t)(place))
-#define EACH(index, row) for (size_t index = 0; index < sizeof(row) / sizeof((row)[0]); index++)
-
 /* A figure of an empty 3D3D and a B000 with these bytes in it; they begin at 18. */
-#define CHUNK(id, length) (id) % 256, (id) / 256, (length), 0, 0, 0
 #define FIGURE(length) CHUNK(0x4D4D, 18 + (length)), CHUNK(0x3D3D, 6), CHUNK(0xB000, 6 + (length))
 
 /* A part named p, 20 bytes; its B010 begins 6 bytes behind it. */
@@ -24,7 +21,8 @@
 #define PART(father) CHUNK(0xB002, 20), HEAD(father)
 #define NONE 65535
 
-enum { MOST_PARTS = 5, PART_LENGTH = 19 };
+/* AMPLE: room for more than any case has, so that a refusal has something to spoil. */
+enum { MOST_PARTS = 5, PART_LENGTH = 19, AMPLE = (MOST_PARTS + 1) * TDS_PART_BYTES };
 
 static struct arena file_arena, parts_arena;
 
@@ -32,30 +30,30 @@ static const struct {
     const char *what;
     uint8_t file[160];
     size_t length;
-    uint64_t refusal; /* 0 if the file is to be accepted; then the rest counts */
+    uint64_t checked; /* what tds_check answers; where that is no refusal the rest counts */
     size_t parts;
     uint32_t right[MOST_PARTS][2]; /* father and depth */
 } cases[] = {
-    {"no keyframer", {CHUNK(0x4D4D, 12), CHUNK(0x3D3D, 6)}, 12, 0, 0, {{0}}},
-    {"an empty keyframer", {FIGURE(0)}, 18, 0, 0, {{0}}},
-    {"one part", {FIGURE(20), PART(NONE)}, 38, 0, 1, {{NONE, 0}}},
+    {"no keyframer", {CHUNK(0x4D4D, 12), CHUNK(0x3D3D, 6)}, 12, 2, 0, {{0}}},
+    {"an empty keyframer", {FIGURE(0)}, 18, 3, 0, {{0}}},
+    {"one part", {FIGURE(20), PART(NONE)}, 38, 5, 1, {{NONE, 0}}},
     {"a tree",
      {FIGURE(100), PART(NONE), PART(0), PART(1), PART(0), PART(NONE)},
      118,
-     0,
+     13,
      5,
      {{NONE, 0}, {0, 1}, {1, 2}, {0, 1}, {NONE, 0}}},
     {"frames, other blocks, and other chunks around a head",
      {FIGURE(80), CHUNK(0xB001, 6), PART(NONE), CHUNK(0xB008, 14), 1, 2, 3, 4, 5, 6, 7, 8,
       CHUNK(0xB003, 8), 0xB0, 0x10, CHUNK(0xB002, 32), CHUNK(0xB009, 6), HEAD(0), CHUNK(0xB020, 6)},
      98,
-     0,
+     8,
      2,
      {{NONE, 0}, {0, 1}}},
     {"an empty name",
      {FIGURE(19), CHUNK(0xB002, 19), CHUNK(0xB010, 13), 0, 0, 0, 0, 0, 255, 255},
      37,
-     0,
+     5,
      1,
      {{NONE, 0}}},
     {"a part on itself", {FIGURE(20), PART(0)}, 38, REFUSAL(23, 24), 0, {{0}}},
@@ -137,13 +135,8 @@ static const struct {
      {{0}}},
 };
 
-static void judge_answer(uint64_t answer, uint64_t right) {
-    expect(answer == right, "answered %d, %lu instead of %d, %lu", TDS_REFUSAL(answer),
-           (unsigned long)TDS_PLACE(answer), TDS_REFUSAL(right), (unsigned long)TDS_PLACE(right));
-}
-
 static void try_room(size_t number, const uint8_t *file, size_t room, enum where where) {
-    uint64_t right = cases[number].refusal != 0 ? cases[number].refusal
+    uint64_t right = TDS_REFUSED(cases[number].checked) ? cases[number].checked
                      : room / TDS_PART_BYTES < cases[number].parts
                          ? REFUSAL(15, cases[number].parts)
                          : cases[number].parts;
@@ -161,32 +154,20 @@ static void try_room(size_t number, const uint8_t *file, size_t room, enum where
 
 static void try_one(size_t number, enum where where) {
     size_t all = cases[number].parts * TDS_PART_BYTES;
-    const size_t rooms[] = {all, all - (all > 0), all + 7, 0};
+    const size_t rooms[] = {all, all - (all > 0), all + 7, 0, AMPLE};
     const uint8_t *file = arena_hold(&file_arena, cases[number].file, cases[number].length, where);
-    uint64_t checked = tds_check(file, cases[number].length);
     trying("tds_check of %s", cases[number].what);
-    expect(cases[number].refusal != 0 ? checked == cases[number].refusal : !TDS_REFUSED(checked),
-           "the check says something else");
+    judge_answer(tds_check(file, cases[number].length), cases[number].checked);
     EACH(i, rooms) {
         try_room(number, file, rooms[i], where);
     }
-}
-
-/* Sets the length of a chunk. */
-static void set_length(uint8_t *at, size_t length) {
-    at[2] = (uint8_t)length;
-    at[3] = (uint8_t)(length / 256);
-    at[4] = (uint8_t)(length / 65536);
 }
 
 /* A chain of so many parts with empty names: each hangs on the one before it. */
 static uint8_t *chain(size_t count) {
     static const uint8_t front[] = {FIGURE(0)};
     static const uint8_t part[] = {CHUNK(0xB002, PART_LENGTH), CHUNK(0xB010, 13), 0, 0, 0, 0, 0};
-    uint8_t *file = malloc(sizeof front + PART_LENGTH * count);
-    if (file == NULL) {
-        abort();
-    }
+    uint8_t *file = need_bytes(sizeof front + PART_LENGTH * count);
     memcpy(file, front, sizeof front);
     set_length(file, sizeof front + PART_LENGTH * count);
     set_length(file + 12, 6 + PART_LENGTH * count);
@@ -201,15 +182,15 @@ static uint8_t *chain(size_t count) {
 }
 
 static void try_chain(size_t count) {
-    size_t length = 18 + PART_LENGTH * count;
-    uint8_t *file = chain(count), *parts = malloc(TDS_PART_BYTES * count);
-    if (parts == NULL) {
-        abort();
-    }
+    size_t length = 18 + PART_LENGTH * count, all = TDS_PART_BYTES * count;
+    struct arena arena = arena_make(all + 2);
+    uint8_t *file = chain(count), *parts = arena_lend(&arena, all - 1, AT_END);
     trying("a chain of %zu parts", count);
     judge_answer(tds_check(file, length), 3 + 2 * count);
-    judge_answer(tds_parts(file, length, parts, TDS_PART_BYTES * count - 1), REFUSAL(15, count));
-    judge_answer(tds_parts(file, length, parts, TDS_PART_BYTES * count), count);
+    judge_answer(tds_parts(file, length, parts, all - 1), REFUSAL(15, count));
+    expect(arena_alive(&arena, parts, 0), "a refusal changed something");
+    parts = arena_lend(&arena, all, AT_END);
+    judge_answer(tds_parts(file, length, parts, all), count);
     for (size_t i = 0; i < count; i++) {
         if (tds_get_part(parts, i, TDS_PART_FATHER) != (i == 0 ? NONE : i - 1) ||
             tds_get_part(parts, i, TDS_PART_DEPTH) != i) {
@@ -218,9 +199,10 @@ static void try_chain(size_t count) {
     }
     file[length - 2] = (uint8_t)(count - 1); /* the last on itself */
     file[length - 1] = (uint8_t)((count - 1) / 256);
-    judge_answer(tds_parts(file, length, parts, 0), REFUSAL(23, length - 13));
+    parts = arena_lend(&arena, all, AT_END);
+    judge_answer(tds_parts(file, length, parts, all), REFUSAL(23, length - 13));
+    expect(arena_alive(&arena, parts, 0), "a refusal changed something");
     free(file);
-    free(parts);
 }
 
 void try_parts(void) {

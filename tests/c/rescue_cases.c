@@ -8,13 +8,9 @@
 #include <stdlib.h>
 #include <string.h>
 
+#include "answers.h"
 #include "slices.h"
 #include "tds.h"
-
-#define REFUSAL(number, place) ((uint64_t)(number) << 32 | (uint64_t)(place))
-#define EACH(index, row) for (size_t index = 0; index < sizeof(row) / sizeof((row)[0]); index++)
-
-#define CHUNK(id, length) (id) % 256, (id) / 256, (length), 0, 0, 0
 
 /* A figure whose 3D3D has so many bytes in it, which begin at 12, and so many behind it. */
 #define FIGURE(inside, behind) CHUNK(0x4D4D, 12 + (inside) + (behind)), CHUNK(0x3D3D, 6 + (inside))
@@ -34,7 +30,8 @@
 #define NOTE CHUNK(0x8123, 8), 1, 2
 #define VERSION(number) CHUNK(0x0002, 10), number, 0, 0, 0
 
-enum { MOST_CUTS = 3 };
+/* Room for more than any case has, so that a refusal has something to spoil. */
+enum { MOST_CUTS = 3, AMPLE_CUTS = (MOST_CUTS + 1) * TDS_CUT_BYTES, AMPLE = 200 };
 
 static struct arena file_arena, cuts_arena, out_arena;
 
@@ -166,11 +163,6 @@ static const struct {
     {"nothing", {0}, 0, REFUSAL(2, 0), 0, {{0}}, {0}, 0},
 };
 
-static void judge_answer(uint64_t answer, uint64_t right) {
-    expect(answer == right, "answered %d, %lu instead of %d, %lu", TDS_REFUSAL(answer),
-           (unsigned long)TDS_PLACE(answer), TDS_REFUSAL(right), (unsigned long)TDS_PLACE(right));
-}
-
 static uint64_t right_answer(size_t number, size_t cuts_room, size_t out_room) {
     if (cases[number].refusal != 0) {
         return cases[number].refusal;
@@ -207,8 +199,8 @@ static void try_rooms(size_t number, const uint8_t *file, size_t cuts_room, size
 
 static void try_one(size_t number, enum where where) {
     size_t all = cases[number].cuts * TDS_CUT_BYTES, size = cases[number].size;
-    const size_t rooms[] = {all, all - (all > 0), all + TDS_CUT_BYTES - 1, 0};
-    const size_t out_rooms[] = {size, size - (size > 0), size + 5, 0};
+    const size_t rooms[] = {all, all - (all > 0), all + TDS_CUT_BYTES - 1, 0, AMPLE_CUTS};
+    const size_t out_rooms[] = {size, size - (size > 0), size + 5, 0, AMPLE};
     const uint8_t *file = arena_hold(&file_arena, cases[number].file, cases[number].length, where);
     EACH(i, rooms) {
         EACH(j, out_rooms) {
@@ -221,28 +213,48 @@ static void try_one(size_t number, enum where where) {
     }
 }
 
-/* A figure of the greatest length, all of whose children are misplaced, and four stray bytes. */
-static void try_most(void) {
-    enum { CHILD = 6, MOST = (TDS_LONGEST_FILE - 12) / CHILD };
-    static const uint8_t front[] = {FIGURE(0, 0)}, child[] = {CHUNK(0x4100, CHILD)};
-    static uint8_t file[TDS_LONGEST_FILE], cuts[(MOST + 1) * TDS_CUT_BYTES], out[sizeof front];
-    memcpy(file, front, sizeof front);
-    for (int i = 0; i < 3; i++) {
-        file[2 + i] = (uint8_t)(TDS_LONGEST_FILE >> 8 * i);
-        file[8 + i] = (uint8_t)((TDS_LONGEST_FILE - 6) >> 8 * i);
+/* Whether a cut is this one, without counting each of very many. */
+static void judge_cut(const uint8_t *cuts, size_t cut, uint32_t offset, int number,
+                      uint32_t removed) {
+    if (tds_get_cut(cuts, cut, TDS_CUT_OFFSET) != offset ||
+        tds_get_cut(cuts, cut, TDS_CUT_NUMBER) != (uint32_t)number ||
+        tds_get_cut(cuts, cut, TDS_CUT_REMOVED) != removed) {
+        expect(0, "cut %zu differs", cut);
     }
+}
+
+enum { CHILD = 6, MOST = (TDS_LONGEST_FILE - 12) / CHILD, ALL = (MOST + 1) * TDS_CUT_BYTES };
+
+/* A figure of the greatest length, all of whose children are misplaced, and four stray bytes. */
+static uint8_t *misplaced(void) {
+    static const uint8_t front[] = {FIGURE(0, 0)}, child[] = {CHUNK(0x4100, CHILD)};
+    uint8_t *file = need_bytes(TDS_LONGEST_FILE);
+    memset(file, 0, TDS_LONGEST_FILE);
+    memcpy(file, front, sizeof front);
+    set_length(file, TDS_LONGEST_FILE);
+    set_length(file + 6, TDS_LONGEST_FILE - 6);
     for (size_t i = 0; i < MOST; i++) {
         memcpy(file + sizeof front + CHILD * i, child, sizeof child);
     }
+    return file;
+}
+
+static void try_most(void) {
+    static const uint8_t left[] = {FIGURE(0, 0)};
+    struct arena arena = arena_make(ALL + 2);
+    uint8_t *file = misplaced(), *cuts = arena_lend(&arena, ALL - 1, AT_END), out[sizeof left];
     trying("the most cuts");
-    judge_answer(tds_rescue(file, sizeof file, cuts, sizeof cuts - 1, out, sizeof out),
+    judge_answer(tds_rescue(file, TDS_LONGEST_FILE, cuts, ALL - 1, out, sizeof out),
                  REFUSAL(15, MOST + 1));
-    judge_answer(tds_rescue(file, sizeof file, cuts, sizeof cuts, out, sizeof out), MOST + 1);
-    expect(memcmp(out, front, sizeof front) == 0, "something is left");
-    expect(tds_get_cut(cuts, MOST, TDS_CUT_OFFSET) == TDS_LONGEST_FILE - 4 &&
-               tds_get_cut(cuts, MOST, TDS_CUT_NUMBER) == TDS_STRAY &&
-               tds_get_cut(cuts, MOST, TDS_CUT_REMOVED) == 4,
-           "the last cut differs");
+    expect(arena_alive(&arena, cuts, 0), "a refusal changed something");
+    cuts = arena_lend(&arena, ALL, AT_END);
+    judge_answer(tds_rescue(file, TDS_LONGEST_FILE, cuts, ALL, out, sizeof out), MOST + 1);
+    expect(memcmp(out, left, sizeof left) == 0, "something is left");
+    for (uint32_t i = 0; i < MOST; i++) {
+        judge_cut(cuts, i, 12 + CHILD * i, TDS_MISPLACED, CHILD);
+    }
+    judge_cut(cuts, MOST, TDS_LONGEST_FILE - 4, TDS_STRAY, 4);
+    free(file);
 }
 
 void try_rescue(void) {

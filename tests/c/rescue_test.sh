@@ -99,6 +99,7 @@ lines err 1
 nothing
 stick --rescue "$T" "$L"
 status_is 2
+has err "$T: it is not a file: see what stands there, and check again"
 nothing
 stick --rescue "$D/name-zero-byte-lost.3ds" "$T/no/folder.3ds"
 status_is 2
@@ -108,9 +109,16 @@ try 'mistakes in the command line'
 stick --rescue "$D/name-zero-byte-lost.3ds"
 status_is 2
 has err 'which new file'
-stick --rescue "$D/name-zero-byte-lost.3ds" "$L" "$L"
+stick --rescue "$D/name-zero-byte-lost.3ds" "$L" "$L.more"
 status_is 2
+has err "leave $L.more away"
 nothing
+for option in --json --quiet --list --verbose; do
+    stick --rescue "$D/name-zero-byte-lost.3ds" "$L" "$option"
+    status_is 2
+    has err 'leave all but --rescue away'
+    nothing
+done
 stick --write-slip --rescue "$D/name-zero-byte-lost.3ds" "$L"
 status_is 2
 nothing

@@ -11,18 +11,11 @@
 #include <string.h>
 #include <sys/mman.h>
 
+#include "answers.h"
 #include "slices.h"
 #include "tds.h"
 
-#define REFUSAL(number, place) ((uint64_t)(number) << 32 | (uint64_t)(place))
-#define EACH(index, row) for (size_t index = 0; index < sizeof(row) / sizeof((row)[0]); index++)
-
 static struct arena slip_arena, names_arena, entries_arena, out_arena;
-
-static void judge_answer(uint64_t answer, uint64_t right) {
-    expect(answer == right, "answered %d, %lu instead of %d, %lu", TDS_REFUSAL(answer),
-           (unsigned long)TDS_PLACE(answer), TDS_REFUSAL(right), (unsigned long)TDS_PLACE(right));
-}
 
 /* The same numbers at every run. */
 static uint32_t any(uint32_t below) {
@@ -108,11 +101,8 @@ static void try_sums(void) {
 /* Blocks of the sums are 128 bytes long: lengths around them, then one long file. */
 static void try_long_sums(void) {
     size_t longest = TDS_LONGEST_FILE + 1;
-    uint8_t *file = malloc(longest);
+    uint8_t *file = need_bytes(longest);
     uint64_t sum = 0;
-    if (file == NULL) {
-        abort();
-    }
     for (size_t i = 0; i < longest; i++) {
         file[i] = (uint8_t)any(256);
     }
@@ -240,15 +230,13 @@ static void try_slip(const uint8_t *bytes, size_t length, uint64_t right) {
 
 /* An accepted slip, read and written again with itself as the names, is the same bytes. */
 static void try_again(const uint8_t *bytes, size_t length, size_t entries) {
-    uint8_t *row = malloc(16 * entries + 1), *again = malloc(length);
-    if (row == NULL || again == NULL) {
-        abort();
-    }
+    uint8_t *row = need_bytes(16 * entries), *again = need_bytes(length);
     judge_answer(tds_slip_read(bytes, length, row, 16 * entries), entries);
     judge_answer(tds_slip_write(bytes, length, row, 16 * entries, again, length), length);
     expect(memcmp(bytes, again, length) == 0, "written again it is another slip");
     judge_answer(tds_slip_write(bytes, length, row, 16 * entries, again, length - 1),
                  REFUSAL(15, length));
+    expect(memcmp(bytes, again, length) == 0, "a refusal changed what was there");
     free(row);
     free(again);
 }

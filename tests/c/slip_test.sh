@@ -114,6 +114,13 @@ stick "$F"
 status_is 2
 has err "$F/stick.slip: not checked: it is a link"
 
+try 'a folder in the place of the slip'
+edition folder_for_slip
+mkdir "$F/stick.slip"
+stick "$F"
+status_is 2
+has err "$F/stick.slip: not checked: it is not a file: see what stands there, and check again"
+
 try 'a figure that is refused, and as the slip has it'
 mkdir "$T/wrong"
 triangle >"$T/wrong/t.3ds"

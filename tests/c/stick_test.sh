@@ -627,6 +627,19 @@ has out 'Refusal 5, OVERRUN: '
 try '--explain without a number'
 stick --explain
 status_is 2
+try 'a folder beside --explain is not passed over in silence'
+for order in "--explain 5 samples/damaged" "samples/damaged --explain 5"; do
+    # shellcheck disable=SC2086
+    stick $order
+    status_is 2
+    has err 'nothing is checked while a refusal is explained: leave samples/damaged away'
+    lines out 0
+done
+try '--log without --batch'
+stick --log "$T/log" samples/edition
+status_is 2
+has err 'only a batch is logged: give --batch N too, or leave --log away'
+lines out 0
 
 try '--help'
 stick --help
