@@ -265,6 +265,21 @@ fn counts_are_not_negative() {
     }
 }
 
+/// The lowest negative length is one too, where there are as many bytes.
+#[test]
+fn names_have_at_most_32767_bytes() {
+    let group = |size, count| {
+        check(&[
+            chunk(GROUP, [1, 0], size, &placed(&vec![b'n'; count])),
+            end(),
+        ])
+    };
+    for (count, answer) in [(32_767, 2), (32_768, refused(10, 32))] {
+        assert_eq!(group(-1, count), answer);
+        assert_eq!(group(100 + count as i32, count), answer);
+    }
+}
+
 #[test]
 fn bodies_fit() {
     let body = polygons(
@@ -340,6 +355,11 @@ fn maps_are_whole() {
     negative[4] = 0x80;
     for bad in [&e[..1], &e[..7], &t[..23], &b[..27], &negative, b"g:\0\0\0"] {
         assert_eq!(material(&[&bad.to_vec()]), refused(10, 32));
+    }
+    // A letter without its colon begins no map.
+    for mut bad in [e, t, b] {
+        bad[1] = b';';
+        assert_eq!(material(&[&bad]), refused(10, 32));
     }
     assert_eq!(
         check(&[sized(MATERIAL, [1, 0], &[0; 36]), end()]),
