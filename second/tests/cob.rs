@@ -488,7 +488,8 @@ fn tables_of_meshes_that_are_not_there() {
         both([7, 0], |side, sizes, _| side.cob_sizes(&file, 0, sizes)).0,
         refused(15, 2)
     );
-    for mesh in [2, 3, u32::MAX] {
+    // Those that are 0 or 1 in fewer bits are not there either.
+    for mesh in [2, 3, 1 << 8, 1 << 16, (1 << 16) + 1, 1 << 31, u32::MAX] {
         assert_eq!(
             both([0, 0], |side, sizes, _| side.cob_sizes(&file, mesh, sizes)).0,
             refused(16, 2)
