@@ -265,6 +265,21 @@ fn counts_are_not_negative() {
     }
 }
 
+/// The lowest negative length is one too, where there are as many bytes.
+#[test]
+fn names_have_at_most_32767_bytes() {
+    let group = |size, count| {
+        check(&[
+            chunk(GROUP, [1, 0], size, &placed(&vec![b'n'; count])),
+            end(),
+        ])
+    };
+    for (count, answer) in [(32_767, 2), (32_768, refused(10, 32))] {
+        assert_eq!(group(-1, count), answer);
+        assert_eq!(group(100 + count as i32, count), answer);
+    }
+}
+
 #[test]
 fn bodies_fit() {
     let body = polygons(
@@ -340,6 +355,11 @@ fn maps_are_whole() {
     negative[4] = 0x80;
     for bad in [&e[..1], &e[..7], &t[..23], &b[..27], &negative, b"g:\0\0\0"] {
         assert_eq!(material(&[&bad.to_vec()]), refused(10, 32));
+    }
+    // A letter without its colon begins no map.
+    for mut bad in [e, t, b] {
+        bad[1] = b';';
+        assert_eq!(material(&[&bad]), refused(10, 32));
     }
     assert_eq!(
         check(&[sized(MATERIAL, [1, 0], &[0; 36]), end()]),
@@ -468,7 +488,8 @@ fn tables_of_meshes_that_are_not_there() {
         both([7, 0], |side, sizes, _| side.cob_sizes(&file, 0, sizes)).0,
         refused(15, 2)
     );
-    for mesh in [2, 3, u32::MAX] {
+    // Those that are 0 or 1 in fewer bits are not there either.
+    for mesh in [2, 3, 1 << 8, 1 << 16, (1 << 16) + 1, 1 << 31, u32::MAX] {
         assert_eq!(
             both([0, 0], |side, sizes, _| side.cob_sizes(&file, mesh, sizes)).0,
             refused(16, 2)

@@ -92,7 +92,9 @@ impl<L: Cobs, R: Cobs> Asks<File> for Pair<L, R> {
             )?;
             return Ok(answer);
         }
-        for mesh in [count, count + 1, random.next() as u32 | 1 << 20] {
+        // 0 in fewer bits, and no mesh.
+        let wide = 1 << random.from_to(16, 31);
+        for mesh in [count, count + 1, wide, random.next() as u32 | 1 << 20] {
             ask(file, Call::Sizes(mesh, random.below(9)), self)?;
             ask(
                 file,

@@ -55,7 +55,11 @@ fn in_object(object: &mut Object, kind: u64, random: &mut Random) {
         6 => object
             .corners
             .truncate(random.below(object.corners.len() + 1)),
-        7 => object.smoothing.resize(usize::from(f) + random.below(3), 5),
+        7 => {
+            // one word too few, as many as faces, one or two too many
+            let words = usize::from(f) + random.below(4);
+            object.smoothing.resize(words.saturating_sub(1), 5);
+        }
         8 => one_of(&mut object.vertices, bad, random),
         9 => one_of(&mut object.corners, n + high, random),
         _ => {

@@ -79,6 +79,32 @@ pub fn entries<L: Slips, R: Slips>(
     random: &mut Random,
     pair: &mut Pair<L, R>,
 ) -> Result<u64, Difference> {
+    let [names, entries] = match random.chance(1) {
+        true => many(random),
+        false => any(random),
+    };
+    let answer = write(&names, &entries, 300_000, pair)?;
+    let size = filled(answer, 1)[0];
+    for room in [0, size.saturating_sub(1), size, size + random.below(9)] {
+        write(&names, &entries, room, pair)?;
+    }
+    Ok(answer)
+}
+
+/// As many entries as there may be and a few more, all good and no two names
+/// alike: nothing but their count can be refused.
+fn many(random: &mut Random) -> [Vec<u8>; 2] {
+    let count = random.from_to(999, 1_002) as u32;
+    let name = |k: u32| [k / 64, k % 64].map(|digit| 32 + digit as u8);
+    let entry = |k: u32| [2 * k, 2, k, 0].map(u32::to_le_bytes).concat();
+    [
+        (0..count).flat_map(name).collect(),
+        (0..count).flat_map(entry).collect(),
+    ]
+}
+
+/// The names and the entries, with or without faults.
+fn any(random: &mut Random) -> [Vec<u8>; 2] {
     let length = random.below(600);
     // Of few different bytes, so that names are often alike.
     let mut names: Vec<u8> = (0..length).map(|_| random.pick(b"aab")).collect();
@@ -94,12 +120,7 @@ pub fn entries<L: Slips, R: Slips>(
         let part = random.below(ENTRY_BYTES);
         entries.extend(random.bytes(part));
     }
-    let answer = write(&names, &entries, 300_000, pair)?;
-    let size = filled(answer, 1)[0];
-    for room in [0, size.saturating_sub(1), size, size + random.below(9)] {
-        write(&names, &entries, room, pair)?;
-    }
-    Ok(answer)
+    [names, entries]
 }
 
 /// The four numbers of an entry, mostly good.
