@@ -16,7 +16,7 @@ use Rattle.shared_words.proofs.BigEndian.{be-value}
 use Rattle.c4d_rules.specs.Layout.{form, mc4d, fileHeader}
 use Rattle.c4d_rules.specs.Theorems.{HeaderTells}
 use Rattle.c4d_rules.proofs.Bytes.{header-read}
-use Rattle.c4d_rules.proofs.Verdict.{same-true, same-refl}
+use Rattle.shared_words.proofs.Lists.{same-true, same-refl}
 
 -- two lists are the same or not
 not-same : (xs ys : List ℕ) → (xs ≡ ys → ⊥) → same xs ys ≡ false

@@ -6,13 +6,13 @@ use mathlib.Core.Bool.{Bool, true, false, cond, true≢false, false≢true}
 use mathlib.Core.List.{List, [], _∷_, _++_, append-nil}
 use mathlib.Core.Option.{Option, none, some}
 use lib.Dec.{eqb, leb}
-use lib.ListN.{length, set, length-append}
+use lib.ListN.{length, length-append}
 use lib.Seq.{slice, sets, length-sets}
 use borrow.Author.Tests.{eqb-true, eq-eqb, ne-eqb, leb-true, leb-false}
 use Rattle.shared_words.specs.Bytes.{beAt, packed}
 use Rattle.shared_flat.specs.Flat.{Obeys}
 use Rattle.shared_numbers.specs.Put.{Put}
-use Rattle.shared_numbers.proofs.Put.{put-sets}
+use Rattle.shared_numbers.proofs.Put.{put-sets, sets-append}
 use Rattle.c4d_rules.specs.Blocks.{Block, objectHeader, size, allBytes, itself}
 use Rattle.c4d_rules.specs.Kinds.{tEnd, tObject, tTexture, listed}
 use Rattle.c4d_rules.specs.Combinations.{isIn, combination}
@@ -29,10 +29,6 @@ use Rattle.c4d_objects.specs.Tally.{ends}
 use Rattle.c4d_objects.proofs.Given.{materials-snoc, object-starts, texture-inside, accepted-obeys}
 use Rattle.c4d_list.specs.Filled.{Fillable}
 use Rattle.c4d_list.proofs.Blocks.{First, first, no-more, sized, fits, behind, is-here}
-
-sets-append : (row : List ℕ) (i : ℕ) (a b : List ℕ) → sets row i (a ++ b) ≡ sets (sets row i a) (i + length a) b
-sets-append row i [] b = ap (λ (k : ℕ). sets row k b) (omega arith)
-sets-append row i (x ∷ a) b = sets-append (set row i x) (suc i) a b ∙ ap (λ (k : ℕ). sets (sets (set row i x) (suc i) a) k b) (omega arith)
 
 -- what was put, and what is put behind it
 put-before : {row row′ : List ℕ} {i i′ : ℕ} (new more : List ℕ) → i + length new ≤ length row → Put row i new row′ i′ →

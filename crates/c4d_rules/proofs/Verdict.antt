@@ -2,18 +2,15 @@
 use mathlib.Core.Path.{_≡_, refl, sym, ap, _∙_, subst}
 use Prim.Native.Nat.{ℕ, _+_, _-_, _≤_}
 use native.Mathlib.Omega.{arith}
-use mathlib.Core.Bool.{true, false, false≢true}
-use mathlib.Core.List.{List, [], _∷_, _++_}
-use lib.Dec.{eqb}
+use mathlib.Core.List.{List, _++_}
 use mathlib.Core.Option.{none}
 use lib.ListN.{length, take, drop, length-take, length-drop, take-append-drop}
-use borrow.Author.Tests.{leb-true, le-leb, eqb-true, eq-eqb}
+use borrow.Author.Tests.{leb-true, le-leb}
 use Rattle.c4d_rules.specs.Blocks.{allBytes}
 use Rattle.c4d_rules.specs.Layout.{Layout, block, fileHeader, bytes}
 use Rattle.c4d_rules.specs.Rules.{start, ChunkRules, limit, Meets}
 use Rattle.shared_words.specs.Conditions.{broken, Answer, refused, accepted}
-use Rattle.shared_words.specs.Lists.{same}
-use Rattle.shared_words.proofs.Bools.{both, and-parts}
+use Rattle.shared_words.proofs.Lists.{same-true, same-refl}
 use Rattle.shared_words.proofs.Conditions.{unbroken}
 use Rattle.c4d_rules.specs.Read.{walk}
 use Rattle.c4d_rules.specs.Walk.{fileConditions, chunkGrammar, verdict}
@@ -21,20 +18,6 @@ use Rattle.c4d_rules.specs.Theorems.{AcceptedExactly, OneLayout}
 use Rattle.c4d_rules.proofs.Conditions.{If, guarded}
 use Rattle.c4d_rules.proofs.Read.{Whole, walk-tells, walk-complete}
 use Rattle.c4d_rules.proofs.Chunks.{chunks-right}
-
--- ---- the same numbers
-
-pub same-true : (xs ys : List ℕ) → same xs ys ≡ true → xs ≡ ys
-same-true [] [] h = refl
-same-true [] (y ∷ ys) h = absurd (false≢true h)
-same-true (x ∷ xs) [] h = absurd (false≢true h)
-same-true (x ∷ xs) (y ∷ ys) h =
-    let k = and-parts (eqb x y) (same xs ys) h in
-    rw (eqb-true x y (k .0), same-true xs ys (k .1))
-
-pub same-refl : (xs : List ℕ) → same xs xs ≡ true
-same-refl [] = refl
-same-refl (x ∷ xs) = both (eqb x x) (same xs xs) (eq-eqb x x refl) (same-refl xs)
 
 -- ---- accepted, so it meets the rules
 

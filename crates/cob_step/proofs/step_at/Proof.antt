@@ -1,12 +1,16 @@
 -- The chunk at an offset, after count - 1 chunks.
 use borrow.Author.Needs.{needs}
 use borrow.Author.Tests.{not-true, not-false}
+use mathlib.Core.Bool.{true, false}
 use mathlib.Core.List.{[]}
-use mathlib.Core.Path.{sym, ap, subst, _∙_}
+use mathlib.Core.Path.{_≡_, sym, ap, subst, _∙_}
 use native.Mathlib.Omega.{arith}
 use Rattle.cob_chunk.proofs.Fields.{identifier-in, parent-in}
+use Rattle.cob_chunk.specs.Chunks.{chunkIn}
 use Rattle.cob_rules.specs.Kinds.{isEnd, listed}
+use Rattle.cob_rules.specs.Layout.{kind, identifier, parent}
 use Rattle.cob_seen.specs.Tree.{Represents}
+use Rattle.cob_step.specs.Steps.{within}
 use Rattle.cob_step.proofs.Faults.{overruns, unowned, stated}
 use Rattle.cob_step.proofs.Stepped.{body-refused, body-good, owner-is, goes}
 use Rattle.cob_step.proofs.step_at.Statement.{statement}
@@ -152,29 +156,37 @@ same-length-5 c = search needs
 same-length-6 : tie.Need-same-length-6
 same-length-6 c = search needs
 
+-- ---- the state once the body has ended well, from which both last answers follow
+
+abbrev begun : tie.After-is-listed → tie.Start
+begun d = d .before .before .before .before .before .before .before .before .before .before .before .before .before .before .before .before .before .before .before .before .before .before .before
+
+abbrev admitted : tie.After-is-listed → tie.After-admit
+admitted d = d .before .before .before .before .before .before .before .before .before .before
+
+abbrev told-kind : tie.After-is-listed → tie.After-kind-at
+told-kind d = d .before .before .before .before .before .before .before .before .before .before .before .before .before .before .before .before .before
+
+-- what the tests before it have shown of the chunk
+shown : (d : tie.After-is-listed) → let x = begun d .args in let k = chunkIn (x .file .now) (x .at) in
+    (within (x .file .now) (x .at) ≡ true) × (isEnd (kind k) ≡ false) × (identifier k ≡ d .before .before .before .before .before .before .before .before .before .before .before .before .before .before .long-at .result) × (parent k ≡ d .before .before .before .before .before .before .before .before .before .before .before .before .before .long-at2 .result) × (listed (kind k) ≡ d .is-listed .result)
+shown d =
+    let x = begun d .args in
+    let k = sym (told-kind d .kind-at .ensures) in (
+      sym (told-kind d .before .before .is-within .ensures) ∙ not-false _ (told-kind d .before .if1 .left),
+      ap isEnd k ∙ sym (d .before .before .before .before .before .before .before .before .before .before .before .before .before .before .before .before .is-end .ensures) ∙ d .before .before .before .before .before .before .before .before .before .before .before .before .before .before .before .if2 .left,
+      identifier-in (x .file .now) (x .at) ∙ sym (d .before .before .before .before .before .before .before .before .before .before .before .before .before .before .long-at .ensures .is),
+      parent-in (x .file .now) (x .at) ∙ sym (d .before .before .before .before .before .before .before .before .before .before .before .before .before .long-at2 .ensures .is),
+      ap listed k ∙ sym (d .is-listed .ensures),
+    )
+
 returns-6 : tie.Need-returns-6
 returns-6 c =
-    let is-listed′ = c .before .is-listed in
-    let next2′ = c .before .before .before .next2 in
-    let body-at2′ = c .before .before .before .before .before .body-at2 in
-    let if3′ = c .before .before .before .before .before .before .if3 in
-    let admit′ = c .before .before .before .before .before .before .before .before .before .before .before .admit in
-    let long-at2′ = c .before .before .before .before .before .before .before .before .before .before .before .before .before .before .long-at2 in
-    let long-at′ = c .before .before .before .before .before .before .before .before .before .before .before .before .before .before .before .long-at in
-    let if2′ = c .before .before .before .before .before .before .before .before .before .before .before .before .before .before .before .before .if2 in
-    let is-end′ = c .before .before .before .before .before .before .before .before .before .before .before .before .before .before .before .before .before .is-end in
-    let kind-at′ = c .before .before .before .before .before .before .before .before .before .before .before .before .before .before .before .before .before .before .kind-at in
-    let if1′ = c .before .before .before .before .before .before .before .before .before .before .before .before .before .before .before .before .before .before .before .if1 in
-    let is-within′ = c .before .before .before .before .before .before .before .before .before .before .before .before .before .before .before .before .before .before .before .before .is-within in
-    let args′ = c .before .before .before .before .before .before .before .before .before .before .before .before .before .before .before .before .before .before .before .before .before .before .before .before .args in
-    let pre′ = c .before .before .before .before .before .before .before .before .before .before .before .before .before .before .before .before .before .before .before .before .before .before .before .before .pre in
-    let x = args′ in
-    let w = sym (is-within′ .ensures) ∙ not-false _ (if1′ .left) in
-    let e = ap isEnd (sym (kind-at′ .ensures)) ∙ sym (is-end′ .ensures) ∙ if2′ .left in
-    let i = identifier-in (x .file .now) (x .at) ∙ sym (long-at′ .ensures .is) in
-    let p = parent-in (x .file .now) (x .at) ∙ sym (long-at2′ .ensures .is) in
-    let y = ap listed (sym (kind-at′ .ensures)) ∙ sym (is-listed′ .ensures) ∙ c .if4 .taken in
-    record { told = λ seen n h. goes (x .file .now) (x .at) i p (admit′ .ensures) seen n h w e (not-false _ (if3′ .left)) (pre′ .1 .node) (body-at2′ .ensures) (next2′ .given .1) y }
+    let d = c .before in
+    let x = begun d in
+    let k = shown d in
+    let t = not-false _ (d .before .before .before .before .before .if3 .left) in
+    record { told = λ seen n h. goes (x .args .file .now) (x .args .at) (k .2) (k .3) (admitted d .admit .ensures) seen n h (k .0) (k .1) t (x .pre .1 .node) (d .before .before .before .before .body-at2 .ensures) (d .before .before .next2 .given .1) (k .4 ∙ c .if4 .taken) }
 
 same-length-7 : tie.Need-same-length-7
 same-length-7 c = search needs
@@ -184,27 +196,11 @@ same-length-8 c = search needs
 
 returns-7 : tie.Need-returns-7
 returns-7 c =
-    let is-listed′ = c .before .is-listed in
-    let next2′ = c .before .before .before .next2 in
-    let body-at2′ = c .before .before .before .before .before .body-at2 in
-    let if3′ = c .before .before .before .before .before .before .if3 in
-    let admit′ = c .before .before .before .before .before .before .before .before .before .before .before .admit in
-    let long-at2′ = c .before .before .before .before .before .before .before .before .before .before .before .before .before .before .long-at2 in
-    let long-at′ = c .before .before .before .before .before .before .before .before .before .before .before .before .before .before .before .long-at in
-    let if2′ = c .before .before .before .before .before .before .before .before .before .before .before .before .before .before .before .before .if2 in
-    let is-end′ = c .before .before .before .before .before .before .before .before .before .before .before .before .before .before .before .before .before .is-end in
-    let kind-at′ = c .before .before .before .before .before .before .before .before .before .before .before .before .before .before .before .before .before .before .kind-at in
-    let if1′ = c .before .before .before .before .before .before .before .before .before .before .before .before .before .before .before .before .before .before .before .if1 in
-    let is-within′ = c .before .before .before .before .before .before .before .before .before .before .before .before .before .before .before .before .before .before .before .before .is-within in
-    let args′ = c .before .before .before .before .before .before .before .before .before .before .before .before .before .before .before .before .before .before .before .before .before .before .before .before .args in
-    let pre′ = c .before .before .before .before .before .before .before .before .before .before .before .before .before .before .before .before .before .before .before .before .before .before .before .before .pre in
-    let x = args′ in
-    let w = sym (is-within′ .ensures) ∙ not-false _ (if1′ .left) in
-    let e = ap isEnd (sym (kind-at′ .ensures)) ∙ sym (is-end′ .ensures) ∙ if2′ .left in
-    let i = identifier-in (x .file .now) (x .at) ∙ sym (long-at′ .ensures .is) in
-    let p = parent-in (x .file .now) (x .at) ∙ sym (long-at2′ .ensures .is) in
-    let y = ap listed (sym (kind-at′ .ensures)) ∙ sym (is-listed′ .ensures) ∙ c .if4 .left in
-    record { told = λ seen n h. goes (x .file .now) (x .at) i p (admit′ .ensures) seen n h w e (not-false _ (if3′ .left)) (pre′ .1 .node) (body-at2′ .ensures) (next2′ .given .1) y }
+    let d = c .before in
+    let x = begun d in
+    let k = shown d in
+    let t = not-false _ (d .before .before .before .before .before .if3 .left) in
+    record { told = λ seen n h. goes (x .args .file .now) (x .args .at) (k .2) (k .3) (admitted d .admit .ensures) seen n h (k .0) (k .1) t (x .pre .1 .node) (d .before .before .before .before .body-at2 .ensures) (d .before .before .next2 .given .1) (k .4 ∙ c .if4 .left) }
 
 pub step-at-spec : {M : Type 1} → statement M
 step-at-spec =
