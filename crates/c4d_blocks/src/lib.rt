@@ -68,6 +68,7 @@ pub struct Head {
     pub len: usize,
 }
 
+// The header of the sub-chunk at a position.
 pub fn object_head(file: &[u8], at: usize) -> Head
     requires { ⌜ at + 4 ≤ length (now file) ⌝ }
     ensures { λ r. ⌜ Says (now (file .entry)) at (r .id) (r .len) ⌝ }

@@ -29,6 +29,7 @@ pub struct Figure {
     pub to: usize,
 }
 
+// A file that has been read: what it has, or its first fault.
 pub enum Checked {
     Good(Figure),
     Refused(Refusal),

@@ -21,6 +21,7 @@ pub struct Held {
     pub present: usize,
 }
 
+// A sub-chunk judged: what is known behind it, or its fault.
 pub enum Judged {
     Fine(Held),
     Refused(Refusal),

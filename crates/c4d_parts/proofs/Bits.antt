@@ -4,7 +4,7 @@ use Prim.Native.Nat.{ℕ, zero, suc, _+_, _-_, _*_, _/_, _%_, _^_, _<_, _≤_}
 use native.Mathlib.Omega.{arith}
 use native.Mathlib.Nat.{div-div-eq-div-mul, pow-succ', pow-zero, pow-le-pow-right}
 use native.Mathlib.Numerals.{add-one}
-use mathlib.Core.Bool.{Bool, true, false, _||_, cond}
+use mathlib.Core.Bool.{Bool, true, false, _||_, cond, or-false}
 use mathlib.Core.List.{List, [], _∷_, _++_}
 use lib.Dec.{eqb}
 use borrow.Author.Tests.{eqb-true, eq-eqb, ne-eqb}
@@ -72,10 +72,6 @@ among-snoc x (y ∷ ids) id = go (eqb x y) (among-snoc x ids id)
     go : (b : Bool) → among x (ids ++ (id ∷ [])) ≡ (among x ids || eqb x id) → (b || among x (ids ++ (id ∷ []))) ≡ ((b || among x ids) || eqb x id)
     go true r = refl
     go false r = r
-
-or-false : (b : Bool) → (b || false) ≡ b
-or-false true = refl
-or-false false = refl
 
 pub bits-below : (ids : List ℕ) → bits ids < 131072
 unfolding bits

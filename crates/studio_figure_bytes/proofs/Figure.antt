@@ -41,7 +41,7 @@ use Rattle.studio_figure_judge.specs.Judged.{sizeIs}
 use Rattle.studio_figure_judge.proofs.Things.{over-same, part-length, every-part}
 use Rattle.studio_figure_judge.proofs.Same.{size-same, size-all}
 use Rattle.studio_figure_chunks.specs.Chunks.{materialBytes, groupBytes, materialIn, groupIn, listsBytes}
-use Rattle.studio_figure_chunks.proofs.Chunks.{whole-bytes}
+use Rattle.studio_write_bytes.proofs.Bare.{last-chunk-bytes}
 use Rattle.studio_figure_bytes.specs.Objects.{Writable, pieces}
 use Rattle.studio_figure_bytes.proofs.Steps.{total-inside}
 
@@ -75,7 +75,7 @@ regroup a b c d e f g h = simp append-assoc
 
 module _ (r : Flat) (f : Fits r) (b : Floats32 (r .vertices)) where
   abbrev from : ℕ
-  from = rows.groupNames r
+  from = rows.groupsFrom r
 
   module _ (i : ℕ) (h : i < objectCount r) (o : ObjectReady (objectAt r i)) where
     abbrev row : List Float
@@ -149,12 +149,12 @@ module _ (r : Flat) (f : Fits r) (b : Floats32 (r .vertices)) where
         let h₁ = header 0x4000 n in
         let h₂ = header 0x4100 (n - (7 + length name)) in
         let h₃ = header 0x4120 (n - (21 + length name + 12 * triples row)) in
-        whole-bytes 0x4000 (nameData name) mesh n (omega arith) ∙
-        ap (λ (l : List ℕ). h₁ ++ (nameData name ++ l)) (whole-bytes 0x4100 [] (meshChildren ob) (n - (7 + length name)) (omega arith)) ∙
+        last-chunk-bytes 0x4000 (nameData name) mesh n (omega arith) ∙
+        ap (λ (l : List ℕ). h₁ ++ (nameData name ++ l)) (last-chunk-bytes 0x4100 [] (meshChildren ob) (n - (7 + length name)) (omega arith)) ∙
         ap (λ (l : List ℕ). h₁ ++ (nameData name ++ (h₂ ++ l))) (chunk-bytes 0x4110 (vertexList (ob .vertices)) end faces) ∙
         ap (λ (l : List ℕ). h₁ ++ (nameData name ++ (h₂ ++ (bytes (known 0x4110 l end end) ++ bytes faces)))) v ∙
         ap (λ (l : List ℕ). h₁ ++ (nameData name ++ (h₂ ++ (bytes (known 0x4110 (vertexData row) end end) ++ l))))
-        (whole-bytes 0x4120 (faceData (ob .corners)) (faceChildren ob) (n - (21 + length name + 12 * triples row)) (omega arith) ∙
+        (last-chunk-bytes 0x4120 (faceData (ob .corners)) (faceChildren ob) (n - (21 + length name + 12 * triples row)) (omega arith) ∙
         ap (λ (l : List ℕ). h₃ ++ (faceData (ob .corners) ++ l)) face-children) ∙
         regroup h₁ (nameData name) h₂ (bytes (known 0x4110 (vertexData row) end end)) h₃ (faceData (ob .corners))
         (over (λ j. groupBytes (groupIn (r .names) (r .groups) (r .faces) from (sumTo 5 4 (r .objects) i + j))) (run (λ j. j) 0 (entry 5 4 (r .objects) i))) (bytes (smoothingChunk (ob .smoothing)))
@@ -171,11 +171,11 @@ pub record Told (r : Flat) (room size : ℕ) : Type 0 where
   pub size-is : size ≡ sizeIs (r .objects) (r .groups) (r .materials)
   pub small : size ≤ 1048576
   pub enough : size ≤ room
-  pub writable : (i : ℕ) → i < objectCount r → Writable (r .names) (r .objects) (r .vertices) (r .corners) (r .smoothing) (r .groups) (r .faces) (rows.groupNames r) i
+  pub writable : (i : ℕ) → i < objectCount r → Writable (r .names) (r .objects) (r .vertices) (r .corners) (r .smoothing) (r .groups) (r .faces) (rows.groupsFrom r) i
   pub bytes-are : (inner : ℕ) → size ≡ 6 + inner → bytes (figure (layout (described r))) ≡
       header 0x4D4D size ++ (header 0x3D3D inner ++
-      (over materialBytes (run (materialIn (r .names) (r .materials) (r .colours) (rows.materialNames r)) 0 (length (r .materials))) ++
-      over (pieces (r .names) (r .objects) (r .vertices) (r .corners) (r .smoothing) (r .groups) (r .faces) (rows.groupNames r)) (run (λ k. k) 0 (objectCount r))))
+      (over materialBytes (run (materialIn (r .names) (r .materials) (r .colours) (rows.materialsFrom r)) 0 (length (r .materials))) ++
+      over (pieces (r .names) (r .objects) (r .vertices) (r .corners) (r .smoothing) (r .groups) (r .faces) (rows.groupsFrom r)) (run (λ k. k) 0 (objectCount r))))
 
 pub told : (r : Flat) (room size : ℕ) → Floats32 (r .vertices) → judgedFlat r room ≡ Size size → Told r room size
 unfolding judgedFlat
@@ -199,13 +199,13 @@ told r room size b e =
       bytes-are = λ inner q.
           ap (λ (g : Figure). bytes (figure (layout g))) same ∙ in-order (figureOf r) inner (k .objects-ready) (sym is ∙ q) ∙
           ap (λ (l : List ℕ). header 0x4D4D (sizeOf (figureOf r)) ++ (header 0x3D3D inner ++ (over materialBytes (figureOf r .materials) ++ l)))
-          (over-same (λ (o : Object). bytes (objectChunk o end)) (objectAt r) (pieces (r .names) (r .objects) (r .vertices) (r .corners) (r .smoothing) (r .groups) (r .faces) (rows.groupNames r)) 0 (objectCount r)
+          (over-same (λ (o : Object). bytes (objectChunk o end)) (objectAt r) (pieces (r .names) (r .objects) (r .vertices) (r .corners) (r .smoothing) (r .groups) (r .faces) (rows.groupsFrom r)) 0 (objectCount r)
           (λ i p h. object-bytes r f b i (omega arith) (each i (omega arith)))) ∙
-          ap (λ (s : ℕ). header 0x4D4D s ++ (header 0x3D3D inner ++ (over materialBytes (figureOf r .materials) ++ over (pieces (r .names) (r .objects) (r .vertices) (r .corners) (r .smoothing) (r .groups) (r .faces) (rows.groupNames r)) (run (λ k. k) 0 (objectCount r))))) (sym is);
+          ap (λ (s : ℕ). header 0x4D4D s ++ (header 0x3D3D inner ++ (over materialBytes (figureOf r .materials) ++ over (pieces (r .names) (r .objects) (r .vertices) (r .corners) (r .smoothing) (r .groups) (r .faces) (rows.groupsFrom r)) (run (λ k. k) 0 (objectCount r))))) (sym is);
     }
 
 -- as code puts them, where the names of materials and groups begin at positions that are known by equations
-pub joined : (r : Flat) (room size : ℕ) → Told r room size → (first from inner : ℕ) → first ≡ rows.materialNames r → from ≡ rows.groupNames r → size ≡ 6 + inner →
+pub joined : (r : Flat) (room size : ℕ) → Told r room size → (first from inner : ℕ) → first ≡ rows.materialsFrom r → from ≡ rows.groupsFrom r → size ≡ 6 + inner →
     header 0x4D4D size ++ (header 0x3D3D inner ++
     (over materialBytes (run (materialIn (r .names) (r .materials) (r .colours) first) 0 (length (r .materials))) ++
     over (pieces (r .names) (r .objects) (r .vertices) (r .corners) (r .smoothing) (r .groups) (r .faces) from) (run (λ k. k) 0 (objectCount r)))) ≡

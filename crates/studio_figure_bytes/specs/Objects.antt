@@ -6,14 +6,19 @@ use mathlib.Core.List.{List, _++_}
 use lib.Ieee.{Float}
 use lib.ListN.{length}
 use Rattle.shared_words.specs.Lists.{every}
-use Rattle.studio_rules.specs.Layout.{bytes}
+use Rattle.studio_rules.specs.Layout.{figure, bytes}
 use Rattle.studio_write_judge.specs.Judged.{finiteFloat}
 use Rattle.studio_figure_rules.specs.Given.{over}
-use Rattle.studio_figure_rules.specs.Built.{smoothingChunk}
+use Rattle.studio_figure_rules.specs.Built.{layout, smoothingChunk}
+use Rattle.studio_figure_rules.specs.Described.{Flat, described}
 use Rattle.studio_figure_rows.specs.Rows.{entry, sumTo, run, part, nameAt}
 use Rattle.studio_figure_objects.specs.Sizes.{between, objectBytes}
 use Rattle.studio_figure_chunks.specs.Chunks.{groupBytes, groupIn, listsBytes}
 use Rattle.studio_figure_bytes.specs.declared.Place.{Place}
+
+-- the bytes of the figure that flat rows give
+abbrev pub flatBytes : Flat → List ℕ
+flatBytes r = bytes (figure (layout (described r)))
 
 -- the place where object i begins, where the names of all groups begin at a position
 pub record At (objects groups : List ℕ) (from i : ℕ) (p : Place) : Type 0 where

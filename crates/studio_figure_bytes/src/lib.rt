@@ -13,14 +13,12 @@ ghost use Prim.Native.Nat.{ℕ, _+_, _*_, _/_, _<_, _≤_};
 ghost use lib.ListN.{length};
 ghost use Rattle.shared_words.specs.declared.Written.{Written};
 ghost use Rattle.shared_numbers.specs.Put.{Put};
-ghost use Rattle.studio_rules.specs.Layout.{figure, bytes};
 ghost use Rattle.studio_figure_rules.specs.Given.{over};
 ghost use Rattle.studio_figure_rules.specs.Judged.{total};
-ghost use Rattle.studio_figure_rules.specs.Built.{layout};
-ghost use Rattle.studio_figure_rules.specs.Described.{described, judgedFlat};
+ghost use Rattle.studio_figure_rules.specs.Described.{judgedFlat};
 ghost use Rattle.studio_figure_rows.specs.Rows.{flat, entry, sumTo, run};
 ghost use Rattle.studio_figure_objects.specs.Sizes.{between, objectBytes};
-ghost use Rattle.studio_figure_bytes.specs.Objects.{At, Behind, Writable, pieces};
+ghost use Rattle.studio_figure_bytes.specs.Objects.{At, Behind, Writable, flatBytes, pieces};
 
 const ANY: usize = 0x7FFF_FFFF_FFFF_FFFF;
 
@@ -179,7 +177,7 @@ pub fn put_figure(
     out: &mut [u8],
 ) -> usize
     requires { ⌜ judgedFlat (flat (now names) (now objects) (now vertices) (now corners) (now smoothing) (now groups) (now faces) (now materials) (now colours)) (length (now out)) ≡ Written.Size size ⌝ }
-    ensures { λ r. ⌜ Put (now (out .entry)) 0 (bytes (figure (layout (described (flat (now (names .entry)) (now (objects .entry)) (now (vertices .entry)) (now (corners .entry)) (now (smoothing .entry)) (now (groups .entry)) (now (faces .entry)) (now (materials .entry)) (now (colours .entry))))))) (now (out .exit)) r ⌝ }
+    ensures { λ r. ⌜ Put (now (out .entry)) 0 (flatBytes (flat (now (names .entry)) (now (objects .entry)) (now (vertices .entry)) (now (corners .entry)) (now (smoothing .entry)) (now (groups .entry)) (now (faces .entry)) (now (materials .entry)) (now (colours .entry)))) (now (out .exit)) r ⌝ }
 {
     let n = objects.len() / 5;
     let first = sum(objects, 5, 0, 0, n, ANY);

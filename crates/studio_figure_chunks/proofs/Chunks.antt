@@ -11,7 +11,7 @@ use Rattle.shared_numbers.proofs.Put.{put-byte, put-then}
 use Rattle.studio_rules.specs.Layout.{Run, end, known, size, header, bytes}
 use Rattle.studio_rules.proofs.Sound.{length-bytes}
 use Rattle.studio_write_bytes.specs.Bare.{nameData}
-use Rattle.studio_write_bytes.proofs.Bare.{leaf-bytes}
+use Rattle.studio_write_bytes.proofs.Bare.{leaf-bytes, last-chunk-bytes}
 use Rattle.studio_figure_rules.specs.Given.{Group, Material, over, rgb}
 use Rattle.studio_figure_rules.specs.Built.{groupData, smoothingChunk, colourChunk, materialChildren, materialChunk}
 use Rattle.studio_figure_rules.proofs.InOrder.{chunk-bytes}
@@ -43,11 +43,6 @@ over-last give thing i = go 0 i ∙ (let z : 0 + i ≡ i = omega arith in rw z)
         let d : suc a + n ≡ a + suc n = omega arith in
         rw (e, go (suc a) n, d) (sym (append-assoc (give (thing a)) (over give (run thing (suc a) n)) (give (thing (a + suc n)))))
 
--- ---- a chunk of n bytes that is the last of its run
-
-pub whole-bytes : (id : ℕ) (own : List ℕ) (kids : Run) (n : ℕ) → 6 + length own + size kids ≡ n → bytes (known id own kids end) ≡ header id n ++ (own ++ bytes kids)
-whole-bytes id own kids n e = rw (e, append-nil (bytes kids))
-
 -- ---- materials
 
 pub material-bytes : (m : Material) → materialBytes m ≡
@@ -61,7 +56,7 @@ material-bytes m =
     let l = length-name-data (m .name) in
     let s = material-size m end in
     let leaf = leaf-bytes 0xA000 name (7 + length (m .name)) (omega arith) in
-    whole-bytes 0xAFFF [] (materialChildren m) (58 + length (m .name)) (omega arith) ∙
+    last-chunk-bytes 0xAFFF [] (materialChildren m) (58 + length (m .name)) (omega arith) ∙
     ap (λ (k : List ℕ). header 0xAFFF (58 + length (m .name)) ++ k)
     (chunk-bytes 0xA000 name end red ∙
     ap (λ (k : List ℕ). k ++ bytes red) leaf ∙

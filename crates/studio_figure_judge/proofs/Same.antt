@@ -47,11 +47,11 @@ module _ (r : Flat) (f : Fits r) where
 
   group-name : (g : ℕ) → g < groupCount r → length (groupAt r g .name) ≡ entry 2 0 (r .groups) g
   group-name g h =
-      part-length (rows.groupNames r + sumTo 2 0 (r .groups) g) (entry 2 0 (r .groups) g) (r .names) (omega (arith, f .names, sum-inside 2 0 (r .groups) g (groupCount r) h))
+      part-length (rows.groupsFrom r + sumTo 2 0 (r .groups) g) (entry 2 0 (r .groups) g) (r .names) (omega (arith, f .names, sum-inside 2 0 (r .groups) g (groupCount r) h))
 
   material-name : (i : ℕ) → i < length (r .materials) → length (materialAt r i .name) ≡ entry 1 0 (r .materials) i
   material-name i h =
-      part-length (rows.materialNames r + sumTo 1 0 (r .materials) i) (entry 1 0 (r .materials) i) (r .names)
+      part-length (rows.materialsFrom r + sumTo 1 0 (r .materials) i) (entry 1 0 (r .materials) i) (r .names)
       (omega (arith, f .names, sum-inside 1 0 (r .materials) i (length (r .materials)) h))
 
   module _ (i : ℕ) (h : i < objectCount r) where
@@ -166,7 +166,7 @@ module _ (r : Flat) (f : Fits r) where
 
   group-names : given.allGroupNames (figureOf r) ≡ groupNames (r .names) (r .objects) (r .materials) (r .groups)
   group-names =
-      let one = nameAt 2 (r .groups) (r .names) (rows.groupNames r) in
+      let one = nameAt 2 (r .groups) (r .names) (rows.groupsFrom r) in
       let z : sumTo 5 4 (r .objects) (0 + n) - 0 ≡ groupCount r = let a : 0 + n ≡ n = omega arith in rw a (omega (arith, f .groups)) in
       runs-joined given.groupNames (objectAt r) one 5 4 (r .objects) (λ i. run-map (groupAt r) (λ (g : Group). g .name) (sumTo 5 4 (r .objects) i) (entry 5 4 (r .objects) i)) 0 n ∙
       ap (λ (k : ℕ). run one 0 k) z

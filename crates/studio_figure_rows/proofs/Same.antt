@@ -13,7 +13,7 @@ use Rattle.shared_words.proofs.Conditions.{met}
 use Rattle.studio_figure_rules.specs.Given.{Group, Object, Material, Figure}
 use Rattle.studio_figure_rules.specs.Judged.{total}
 use Rattle.studio_figure_rules.specs.Described.{Flat, ObjectCounts, GroupCounts, objectsIn, groupsIn, objectNameBytes, materialNameBytes, groupNameBytes, groupsOf, materialsOf, fitConditions, described}
-use Rattle.studio_figure_rows.specs.Rows.{entry, sumTo, run, part, nameAt, objectCount, groupCount, materialNames, groupNames, groupAt, objectAt, materialAt, figureOf}
+use Rattle.studio_figure_rows.specs.Rows.{entry, sumTo, run, part, nameAt, objectCount, groupCount, materialsFrom, groupsFrom, groupAt, objectAt, materialAt, figureOf}
 use Rattle.studio_figure_rows.specs.Same.{Fits, ByPosition}
 use Rattle.studio_figure_rows.proofs.Runs.{run-part, run-same, sum-inside}
 use Rattle.studio_figure_rows.proofs.Apart.{countsAt, groupCountsAt, all-objects, all-groups, all-materials, total-run, groupCut, groups-cut, materialCut, materials-cut, objectCut, objects-cut}
@@ -46,7 +46,7 @@ module _ (r : Flat) where
       let z : 0 + n ≡ n = omega arith in
       ap (total size) (all-groups n (r .groups)) ∙ omega (arith, rw z at (total-run size (groupCountsAt (r .groups)) 2 j (r .groups) e 0 n))
 
-  pub object-names : objectNameBytes r ≡ materialNames r
+  pub object-names : objectNameBytes r ≡ materialsFrom r
   object-names = object-total (λ (c : ObjectCounts). c .name) 0 (λ i. refl)
 
   pub material-names : materialNameBytes r ≡ sumTo 1 0 (r .materials) (length (r .materials))
@@ -78,7 +78,7 @@ module _ (r : Flat) where
 
   groups-at : groupsOf (groupsIn r) (drop (objectNameBytes r + materialNameBytes r) (r .names)) (r .faces) ≡ run (groupAt r) 0 (groupCount r)
   groups-at =
-      let from = groupNames r in
+      let from = groupsFrom r in
       let a : objectNameBytes r + materialNameBytes r ≡ from = omega (arith, object-names, material-names) in
       rw (a, all-groups (groupCount r) (r .groups))
       (groups-cut (r .groups) (drop from (r .names)) (r .faces) 0 (groupCount r) ∙
@@ -87,7 +87,7 @@ module _ (r : Flat) where
 
   materials-at : materialsOf (r .materials) (drop (objectNameBytes r) (r .names)) (r .colours) ≡ run (materialAt r) 0 (length (r .materials))
   materials-at =
-      let from = materialNames r in
+      let from = materialsFrom r in
       let n = length (r .materials) in
       let names = drop from (r .names) in
       ap (λ (t : ℕ). materialsOf (r .materials) (drop t (r .names)) (r .colours)) object-names ∙

@@ -52,11 +52,12 @@ objectCount r = length (r .objects) / 5
 abbrev pub groupCount : Flat → ℕ
 groupCount r = length (r .groups) / 2
 
-abbrev pub materialNames : Flat → ℕ
-materialNames r = sumTo 5 0 (r .objects) (objectCount r)
+-- where the names of the materials begin, and those of the groups
+abbrev pub materialsFrom : Flat → ℕ
+materialsFrom r = sumTo 5 0 (r .objects) (objectCount r)
 
-abbrev pub groupNames : Flat → ℕ
-groupNames r = materialNames r + sumTo 1 0 (r .materials) (length (r .materials))
+abbrev pub groupsFrom : Flat → ℕ
+groupsFrom r = materialsFrom r + sumTo 1 0 (r .materials) (length (r .materials))
 
 -- bytes of all names: of the objects, of the materials, of the groups
 abbrev pub namesLength : List ℕ → List ℕ → List ℕ → ℕ
@@ -67,7 +68,7 @@ namesLength objects materials groups =
 
 abbrev pub groupAt : Flat → ℕ → Group
 groupAt r g = record {
-  name = nameAt 2 (r .groups) (r .names) (groupNames r) g;
+  name = nameAt 2 (r .groups) (r .names) (groupsFrom r) g;
   faces = part (sumTo 2 1 (r .groups) g) (entry 2 1 (r .groups) g) (r .faces);
 }
 
@@ -82,7 +83,7 @@ objectAt r i = record {
 
 abbrev pub materialAt : Flat → ℕ → Material
 materialAt r i = record {
-  name = nameAt 1 (r .materials) (r .names) (materialNames r) i;
+  name = nameAt 1 (r .materials) (r .names) (materialsFrom r) i;
   ambient = colour (drop (9 * i) (r .colours));
   diffuse = colour (drop (9 * i + 3) (r .colours));
   specular = colour (drop (9 * i + 6) (r .colours));

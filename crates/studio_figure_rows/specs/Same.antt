@@ -7,13 +7,13 @@ use Rattle.shared_words.specs.Conditions.{broken}
 use Rattle.shared_words.specs.declared.Written.{Written}
 use Rattle.studio_write_judge.specs.Judged.{answerOf}
 use Rattle.studio_figure_rules.specs.Described.{Flat, fitConditions, described}
-use Rattle.studio_figure_rows.specs.Rows.{sumTo, objectCount, groupCount, groupNames, figureOf}
+use Rattle.studio_figure_rows.specs.Rows.{sumTo, objectCount, groupCount, groupsFrom, figureOf}
 
 -- THE ROWS FIT the description
 pub record Fits (r : Flat) : Type 0 where
   pub objects : length (r .objects) % 5 ≡ 0
   pub groups : length (r .groups) ≡ 2 * sumTo 5 4 (r .objects) (objectCount r)
-  pub names : length (r .names) ≡ groupNames r + sumTo 2 0 (r .groups) (groupCount r)
+  pub names : length (r .names) ≡ groupsFrom r + sumTo 2 0 (r .groups) (groupCount r)
   pub vertices : length (r .vertices) ≡ sumTo 5 1 (r .objects) (objectCount r)
   pub corners : length (r .corners) ≡ sumTo 5 2 (r .objects) (objectCount r)
   pub smoothing : length (r .smoothing) ≡ sumTo 5 3 (r .objects) (objectCount r)

@@ -15,12 +15,12 @@ use Rattle.studio_write_bytes.proofs.Packed.{length-face-words}
 
 -- ---- the bytes of a chunk that is the last of its run, where n is its length
 
-chunk-bytes : (id : ℕ) (own : List ℕ) (kids : Run) (n : ℕ) → 6 + length own + size kids ≡ n → bytes (known id own kids end) ≡ header id n ++ (own ++ bytes kids)
-chunk-bytes id own kids n e = rw (e, append-nil (bytes kids))
+pub last-chunk-bytes : (id : ℕ) (own : List ℕ) (kids : Run) (n : ℕ) → 6 + length own + size kids ≡ n → bytes (known id own kids end) ≡ header id n ++ (own ++ bytes kids)
+last-chunk-bytes id own kids n e = rw (e, append-nil (bytes kids))
 
 -- without children
 pub leaf-bytes : (id : ℕ) (own : List ℕ) (n : ℕ) → 6 + length own ≡ n → bytes (known id own end end) ≡ header id n ++ own
-leaf-bytes id own n e = chunk-bytes id own end n (omega arith) ∙ rw (append-nil own)
+leaf-bytes id own n e = last-chunk-bytes id own end n (omega arith) ∙ rw (append-nil own)
 
 pub length-leaf : (id : ℕ) (own : List ℕ) → length (bytes (known id own end end)) ≡ 6 + length own
 length-leaf id own = length-bytes (known id own end end) ∙ omega arith
@@ -46,10 +46,10 @@ module _ (name vertices faces : List ℕ) where
       bytes (figure (sixChunks name vertices faces)) ≡
       header 0x4D4D n₁ ++ (header 0x3D3D n₂ ++ (header 0x4000 n₃ ++ (name ++ (header 0x4100 n₄ ++ (bytes (known 0x4110 vertices end end) ++ bytes (known 0x4120 faces end end))))))
   six-bytes n₁ n₂ n₃ n₄ e₁ e₂ e₃ e₄ =
-      chunk-bytes 0x4D4D [] scene n₁ (omega arith) ∙
-      ap (λ (l : List ℕ). header 0x4D4D n₁ ++ l) (chunk-bytes 0x3D3D [] object n₂ (omega arith)) ∙
-      ap (λ (l : List ℕ). header 0x4D4D n₁ ++ (header 0x3D3D n₂ ++ l)) (chunk-bytes 0x4000 name mesh n₃ (omega arith)) ∙
-      ap (λ (l : List ℕ). header 0x4D4D n₁ ++ (header 0x3D3D n₂ ++ (header 0x4000 n₃ ++ (name ++ l)))) (chunk-bytes 0x4100 [] lists n₄ (omega arith)) ∙
+      last-chunk-bytes 0x4D4D [] scene n₁ (omega arith) ∙
+      ap (λ (l : List ℕ). header 0x4D4D n₁ ++ l) (last-chunk-bytes 0x3D3D [] object n₂ (omega arith)) ∙
+      ap (λ (l : List ℕ). header 0x4D4D n₁ ++ (header 0x3D3D n₂ ++ l)) (last-chunk-bytes 0x4000 name mesh n₃ (omega arith)) ∙
+      ap (λ (l : List ℕ). header 0x4D4D n₁ ++ (header 0x3D3D n₂ ++ (header 0x4000 n₃ ++ (name ++ l)))) (last-chunk-bytes 0x4100 [] lists n₄ (omega arith)) ∙
       ap (λ (l : List ℕ). header 0x4D4D n₁ ++ (header 0x3D3D n₂ ++ (header 0x4000 n₃ ++ (name ++ (header 0x4100 n₄ ++ l))))) lists-bytes
 
   -- the name stands behind three headers, and the mesh behind the name

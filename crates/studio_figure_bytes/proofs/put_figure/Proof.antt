@@ -27,13 +27,13 @@ known : (c : tie.After-shared-slice-known3) → Told (rows (c .before .before .b
 known c = told (rows (c .before .before .before)) (length (c .before .before .before .args .out .now)) (c .before .before .before .args .size) (floats-known (c .before .before .before .args .vertices .now) (c .shared-slice-known3 .given)) (c .before .before .before .pre)
 
 -- where the names of the materials begin, and those of the groups
-begins : (c : tie.After-sum) → c .sum .result ≡ places.materialNames (rows (c .before .before .before .before .before .before .before .before .before .before .before))
+begins : (c : tie.After-sum) → c .sum .result ≡ places.materialsFrom (rows (c .before .before .before .before .before .before .before .before .before .before .before))
 begins c =
     let n = known (c .before .before .before .before .before .before .before .before) .fit .names in
     let k = capped-under _ _ _ _ (c .sum .ensures) (omega (arith, n)) in
     omega arith
 
-begins-2 : (c : tie.After-sum2) → c .before .sum .result + c .sum2 .result ≡ places.groupNames (rows (c .before .before .before .before .before .before .before .before .before .before .before .before))
+begins-2 : (c : tie.After-sum2) → c .before .sum .result + c .sum2 .result ≡ places.groupsFrom (rows (c .before .before .before .before .before .before .before .before .before .before .before .before))
 begins-2 c =
     let n = known (c .before .before .before .before .before .before .before .before .before) .fit .names in
     let k = capped-under _ _ _ _ (c .sum2 .ensures) (omega (arith, n)) in
