@@ -355,3 +355,19 @@ fn objects_and_materials_are_listed() {
         );
     }
 }
+
+/// What stands behind a sub-chunk of more than 65,535 bytes is listed too.
+#[test]
+fn sizes_of_sub_chunks_have_three_bytes() {
+    let inside = [
+        sub(1, &[]),
+        sub(21, &vec![0xFE; 65_540]),
+        texture(-1),
+        sub(0, &[]),
+        sub(1, &[]),
+        sub(0, &[]),
+    ];
+    let file = file(&[chunk(b"OBJ5", &inside.concat())]);
+    let known = [20, 3, 1, 65_640, 9, 0].map(u32::to_le_bytes).concat();
+    assert_eq!(both(&file, [24, 4]), (2, [known, vec![0xFF; 4]]));
+}

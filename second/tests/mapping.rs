@@ -82,6 +82,8 @@ fn the_first_version_of_length_10() {
         refused(13, 25)
     );
     assert_eq!(file(&[&version(3, 4), &[2]]), refused(13, 25));
+    // One that runs over the end of the file tells nothing.
+    assert_eq!(file(&[&version(3, 4)[..9]]), refused(5, end));
     // One inside a private chunk is never looked at.
     assert_eq!(file(&[&chunk(0x8123, &[&version(3, 4)])]), 6);
 }

@@ -78,9 +78,10 @@ impl Draft for File {
         draft
     }
 
-    /// Very many objects, many textures, or one chunk that is skipped.
+    /// Very many objects, many textures, a sub-chunk whose size takes three
+    /// bytes, or one chunk that is skipped.
     fn long(index: u64, random: &mut Random) -> File {
-        let inside = match index % 3 {
+        let inside = match index % 4 {
             0 => {
                 vec![vec![sub(1, random), sub(0, random)]; random.from_to(60_000, 80_000)].concat()
             }
@@ -88,6 +89,7 @@ impl Draft for File {
                 let textures = vec![texture(Some(3), random); 15_000];
                 [vec![sub(1, random)], textures, vec![sub(0, random)]].concat()
             }
+            2 => [1, 20, 0].map(|identifier| sub(identifier, random)).into(),
             _ => vec![],
         };
         let mut draft = File::of(vec![materials(3, random), chunk(*b"OBJ5", inside)]);
@@ -95,7 +97,11 @@ impl Draft for File {
         for sub in &mut draft.chunks[1].inside {
             sub.body.truncate(if sub.identifier == 23 { 64 } else { 0 });
         }
-        let more = [0, 0, 1][(index / 3 % 3) as usize];
+        if index % 4 == 2 {
+            let size = random.from_to(65_536, 900_000);
+            draft.chunks[1].inside[1].body = random.bytes(size);
+        }
+        let more = [0, 0, 1][(index / 4 % 3) as usize];
         let left = (LIMIT + more).saturating_sub(draft.bytes().len() + 8);
         let mut last = chunk(*b"UMG4", vec![]);
         last.tail = random.bytes(left);
