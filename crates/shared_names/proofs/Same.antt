@@ -8,9 +8,11 @@ use mathlib.Core.List.{List, [], _∷_}
 use lib.Arith.{digits-div, digits-mod}
 use lib.Dec.{eqb}
 use lib.ListN.{length, take, drop, getD}
-use lib.Seq.{drop-cons}
+use lib.Seq.{drop-cons, take-take}
 use borrow.Author.Tests.{eq-eqb, ne-eqb}
 use Rattle.shared_words.specs.Lists.{same}
+use Rattle.shared_words.specs.Bytes.{value}
+use Rattle.shared_words.proofs.Lists.{same-true}
 use Rattle.shared_numbers.specs.Numbers.{longAt}
 use Rattle.shared_numbers.proofs.At.{long-bytes}
 use Rattle.shared_names.specs.Alike.{AlikeFor}
@@ -70,6 +72,19 @@ module _ (s : List ℕ) (a b n : ℕ) (h : a + n ≤ length s) (l : b + n ≤ le
       let k₃ = alike-on (i + 1 + 1) (x + 2) (y + 2) k₂ (omega arith) (omega arith) (omega arith) (d₂ .0) in
       let k₄ = alike-on (i + 1 + 1 + 1) (x + 3) (y + 3) k₃ (omega arith) (omega arith) (omega arith) (d₂ .1) in
       subst (AlikeFor s a b n) (omega arith) k₄
+
+-- ---- four bytes that differ as a number
+
+same-fronts : (m : ℕ) (xs ys : List ℕ) → 4 ≤ m → take m xs ≡ take m ys → take 4 xs ≡ take 4 ys
+same-fronts m xs ys h e = sym (take-take 4 m xs h) ∙ ap (take 4) e ∙ take-take 4 m ys h
+
+pub longs-differ : (s : List ℕ) (x y m : ℕ) → 4 ≤ m → (longAt s x ≡ longAt s y → ⊥) → same (take m (drop x s)) (take m (drop y s)) ≡ false
+unfolding longAt
+longs-differ s x y m h n = go (same (take m (drop x s)) (take m (drop y s))) refl
+  where
+    go : (t : Bool) → same (take m (drop x s)) (take m (drop y s)) ≡ t → same (take m (drop x s)) (take m (drop y s)) ≡ false
+    go false e = e
+    go true e = absurd (n (ap value (same-fronts m (drop x s) (drop y s) h (same-true (take m (drop x s)) (take m (drop y s)) e))))
 
 -- ---- names of other lengths
 

@@ -4,12 +4,12 @@ ghost use mathlib.Core.Path.{_≡_};
 ghost use Prim.Native.Nat.{_+_, _≤_};
 ghost use lib.ListN.{length, take, drop};
 ghost use Rattle.shared_words.specs.Lists.{same};
-ghost use Rattle.shared_names.specs.Alike.{AlikeFor};
+ghost use Rattle.shared_names.specs.Alike.{BlocksAlike};
 
-// How many of the first of n bytes, at two places of a slice, are the same, as far as four at a time tell.
+// How many of the first of n bytes, at two places of a slice, are the same, four at a time: up to those that differ.
 fn same_blocks(s: &[u8], a: usize, b: usize, n: usize) -> usize
     requires { ⌜ (a + n ≤ length (now s)) × (b + n ≤ length (now s)) ⌝ }
-    ensures { λ r. ⌜ AlikeFor (now (s .entry)) a b n r ⌝ }
+    ensures { λ r. ⌜ BlocksAlike (now (s .entry)) a b n r ⌝ }
 {
     let mut i = 0usize;
     while 4 <= n - i {
@@ -27,6 +27,9 @@ pub fn same_bytes(s: &[u8], a: usize, b: usize, n: usize) -> bool
     ensures { λ r. ⌜ r ≡ same (take n (drop a (now (s .entry)))) (take n (drop b (now (s .entry)))) ⌝ }
 {
     let mut i = same_blocks(s, a, b, n);
+    if 4 <= n - i {
+        return false;
+    }
     while i < n {
         if s[a + i] != s[b + i] {
             return false;

@@ -4,7 +4,7 @@ use Prim.Native.Nat.{_+_, _-_, _≤_}
 use native.Mathlib.Omega.{arith}
 use lib.ListN.{length}
 use Rattle.shared_names.specs.Alike.{AlikeFor}
-use Rattle.shared_names.proofs.Same.{alike-none, alike-four}
+use Rattle.shared_names.proofs.Same.{alike-none, alike-four, longs-differ}
 use Rattle.shared_names.proofs.same_blocks.Statement.{statement}
 use Rattle.shared_names.proofs.same_blocks.Tie as tie
 
@@ -35,7 +35,12 @@ long-at-requires-2 : tie.Need-long-at-requires-2 Inv-loop μ-loop
 long-at-requires-2 c κs = omega arith
 
 returns : tie.Need-returns Inv-loop μ-loop
-returns c = c .before .before .before .before .loop .inv
+returns c =
+    let x = c .before .before .before .before .before .before in
+    let l = c .before .before .before .before .loop in
+    let h : 4 ≤ x .args .n - l .i = omega arith in
+    let d = longs-differ (x .args .s .now) (x .args .a + l .i) (x .args .b + l .i) (x .args .n - l .i) h (λ e. c .if1 .taken (c .before .before .long-at .ensures .is ∙ e ∙ sym (c .before .long-at2 .ensures .is))) in
+    record { alike = l .inv; differ = λ _. l .inv .rest ∙ d }
 
 add-i : tie.Need-add-i Inv-loop μ-loop
 add-i c = omega arith
@@ -51,7 +56,7 @@ loop-again c =
     alike-four (x .args .s .now) (x .args .a) (x .args .b) (x .args .n) (x .pre .0) (x .pre .1) (l .i) (l .inv) (omega arith) (λ k. omega (arith, c .before .before .before .before .before .shared-slice-known .given k)) e
 
 returns-2 : tie.Need-returns-2 Inv-loop μ-loop
-returns-2 c = c .before .loop .inv
+returns-2 c = record { alike = c .before .loop .inv; differ = λ h. absurd (omega (arith, h)) }
 
 pub same-blocks-spec : {M : Type 1} → statement M
 same-blocks-spec =

@@ -17,26 +17,32 @@ abbrev μ-loop : tie.MeasureT-loop
 same-blocks-requires : tie.Need-same-blocks-requires Inv-loop μ-loop
 same-blocks-requires c κs = c .before .pre
 
-loop-holds : tie.Need-loop-holds Inv-loop μ-loop
-loop-holds c = c .same-blocks .ensures
-
-add-if1 : tie.Need-add-if1 Inv-loop μ-loop
-add-if1 c = omega arith
-
-shared-slice-read-if1 : tie.Need-shared-slice-read-if1 Inv-loop μ-loop
-shared-slice-read-if1 c = omega arith
-
-add-if1-2 : tie.Need-add-if1-2 Inv-loop μ-loop
-add-if1-2 c = omega arith
-
-shared-slice-read-if1-2 : tie.Need-shared-slice-read-if1-2 Inv-loop μ-loop
-shared-slice-read-if1-2 c = omega arith
+sub-if1 : tie.Need-sub-if1 Inv-loop μ-loop
+sub-if1 c = omega (arith, c .same-blocks .ensures .alike .few)
 
 returns : tie.Need-returns Inv-loop μ-loop
-returns c =
-    let a = c .before .before .before .before .before .before .before .args in
+returns c = sym (c .before .same-blocks .ensures .differ (omega arith))
+
+loop-holds : tie.Need-loop-holds Inv-loop μ-loop
+loop-holds c = c .before .same-blocks .ensures .alike
+
+add-if2 : tie.Need-add-if2 Inv-loop μ-loop
+add-if2 c = omega arith
+
+shared-slice-read-if2 : tie.Need-shared-slice-read-if2 Inv-loop μ-loop
+shared-slice-read-if2 c = omega arith
+
+add-if2-2 : tie.Need-add-if2-2 Inv-loop μ-loop
+add-if2-2 c = omega arith
+
+shared-slice-read-if2-2 : tie.Need-shared-slice-read-if2-2 Inv-loop μ-loop
+shared-slice-read-if2-2 c = omega arith
+
+returns-2 : tie.Need-returns-2 Inv-loop μ-loop
+returns-2 c =
+    let a = c .before .before .before .before .before .before .before .before .args in
     let l = c .before .before .before .before .loop in
-    sym (l .inv .rest ∙ same-off (a .s .now) (a .a + l .i) (a .b + l .i) (omega arith) (omega arith) (a .n - l .i) (omega arith) (c .if1 .taken))
+    sym (l .inv .rest ∙ same-off (a .s .now) (a .a + l .i) (a .b + l .i) (omega arith) (omega arith) (a .n - l .i) (omega arith) (c .if2 .taken))
 
 add-i : tie.Need-add-i Inv-loop μ-loop
 add-i c = omega arith
@@ -46,14 +52,14 @@ loop-less c = omega arith
 
 loop-again : tie.Need-loop-again Inv-loop μ-loop
 loop-again c =
-    let x = c .before .before .before .before .before .before .before in
+    let x = c .before .before .before .before .before .before .before .before in
     let a = x .args in
     let l = c .before .before .before .before .loop in
-    alike-on (a .s .now) (a .a) (a .b) (a .n) (x .pre .0) (x .pre .1) (l .i) _ _ (l .inv) (omega arith) refl refl (c .if1 .left)
+    alike-on (a .s .now) (a .a) (a .b) (a .n) (x .pre .0) (x .pre .1) (l .i) _ _ (l .inv) (omega arith) refl refl (c .if2 .left)
 
-returns-2 : tie.Need-returns-2 Inv-loop μ-loop
-returns-2 c =
-    let a = c .before .before .before .before .args in
+returns-3 : tie.Need-returns-3 Inv-loop μ-loop
+returns-3 c =
+    let a = c .before .before .before .before .before .args in
     let l = c .before .loop in
     let z : a .n - l .i ≡ 0 = omega arith in
     sym (l .inv .rest ∙ rw z)
@@ -65,13 +71,15 @@ same-bytes-spec =
     Inv-loop
     μ-loop
     same-blocks-requires
-    loop-holds
-    add-if1
-    shared-slice-read-if1
-    add-if1-2
-    shared-slice-read-if1-2
+    sub-if1
     returns
+    loop-holds
+    add-if2
+    shared-slice-read-if2
+    add-if2-2
+    shared-slice-read-if2-2
+    returns-2
     add-i
     loop-less
     loop-again
-    returns-2)
+    returns-3)
