@@ -164,19 +164,24 @@ begun d = d .before .before .before .before .before .before .before .before .bef
 abbrev admitted : tie.After-is-listed → tie.After-admit
 admitted d = d .before .before .before .before .before .before .before .before .before .before
 
+-- where the identifier and the parent are read
+abbrev named : tie.After-is-listed → tie.After-long-at2
+named d = d .before .before .before .before .before .before .before .before .before .before .before .before .before
+
 abbrev told-kind : tie.After-is-listed → tie.After-kind-at
-told-kind d = d .before .before .before .before .before .before .before .before .before .before .before .before .before .before .before .before .before
+told-kind d = named d .before .before .before .before
 
 -- what the tests before it have shown of the chunk
 shown : (d : tie.After-is-listed) → let x = begun d .args in let k = chunkIn (x .file .now) (x .at) in
-    (within (x .file .now) (x .at) ≡ true) × (isEnd (kind k) ≡ false) × (identifier k ≡ d .before .before .before .before .before .before .before .before .before .before .before .before .before .before .long-at .result) × (parent k ≡ d .before .before .before .before .before .before .before .before .before .before .before .before .before .long-at2 .result) × (listed (kind k) ≡ d .is-listed .result)
+    (within (x .file .now) (x .at) ≡ true) × (isEnd (kind k) ≡ false) × (identifier k ≡ named d .before .long-at .result) × (parent k ≡ named d .long-at2 .result) ×
+    (listed (kind k) ≡ d .is-listed .result)
 shown d =
     let x = begun d .args in
     let k = sym (told-kind d .kind-at .ensures) in (
       sym (told-kind d .before .before .is-within .ensures) ∙ not-false _ (told-kind d .before .if1 .left),
-      ap isEnd k ∙ sym (d .before .before .before .before .before .before .before .before .before .before .before .before .before .before .before .before .is-end .ensures) ∙ d .before .before .before .before .before .before .before .before .before .before .before .before .before .before .before .if2 .left,
-      identifier-in (x .file .now) (x .at) ∙ sym (d .before .before .before .before .before .before .before .before .before .before .before .before .before .before .long-at .ensures .is),
-      parent-in (x .file .now) (x .at) ∙ sym (d .before .before .before .before .before .before .before .before .before .before .before .before .before .long-at2 .ensures .is),
+      ap isEnd k ∙ sym (named d .before .before .before .is-end .ensures) ∙ named d .before .before .if2 .left,
+      identifier-in (x .file .now) (x .at) ∙ sym (named d .before .long-at .ensures .is),
+      parent-in (x .file .now) (x .at) ∙ sym (named d .long-at2 .ensures .is),
       ap listed k ∙ sym (d .is-listed .ensures),
     )
 
