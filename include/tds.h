@@ -48,8 +48,8 @@
  * is a .cob file made for that (docs/BENCH.md). tds_list, tds_records, tds_meshes, tds_parts and
  * those about one mesh take up to twice that, tds_rescue up to 6. So a call for each of many meshes
  * costs the whole file each time, and one tds_meshes for all of them once. tds_sum_join and
- * tds_sum_matches read no bytes. Stack: at most 16 kilobytes; the four calls on .cob files need
- * 850.
+ * tds_sum_matches read no bytes. Stack: at most 16 kilobytes; tds_c4d_list needs 540, the four
+ * calls on .cob files 850.
  *
  * ORDER OF REFUSALS. First the faults of the file, which are 1 to 14, 23 and 24: the first that is
  * met, walking the file from its start, a chunk's own faults before those inside it, 24 right after
@@ -76,7 +76,7 @@ extern "C" {
  * lent may be filled in another way than it was built for. (Version 1 had six numbers a record, and
  * no tds_version.) CHANGELOG.md says what came with each.
  */
-#define TDS_VERSION (65536 * 2 + 256 * 6 + 0)
+#define TDS_VERSION (65536 * 2 + 256 * 6 + 1)
 uint64_t tds_version(void);
 
 /* No file longer than this is a figure. One byte more is enough to hand to tds_check to be told. */

@@ -10,11 +10,17 @@
 #include <pthread.h>
 #include <stdint.h>
 #include <stdio.h>
+#include <string.h>
 
 #include "tds.h"
 
 /* As tds.h has it; a thread itself needs the least that there may be. */
-enum { PLAIN_STACK = 16 * 1024, CALIGARI_STACK = 850 * 1024, MOST_RECORDS = 1024 };
+enum {
+    PLAIN_STACK = 16 * 1024,
+    CINEMA_STACK = 540 * 1024,
+    CALIGARI_STACK = 850 * 1024,
+    MOST_RECORDS = 1024
+};
 
 static uint8_t file[TDS_LONGEST_FILE], first[1 << 16], second[1 << 16];
 static uint32_t row[MOST_RECORDS * TDS_RECORD_NUMBERS];
@@ -43,7 +49,14 @@ static void *plain_calls(void *unused) {
     made(tds_slip_read(file, length, first, sizeof first));
     made(tds_slip_write(file, length, file, length, second, sizeof second));
     made(tds_c4d_check(file, length));
-    made(tds_c4d_list(file, length, first, sizeof first, second, sizeof second));
+    return unused;
+}
+
+static uint64_t objects;
+
+static void *cinema_calls(void *unused) {
+    objects = tds_c4d_list(file, length, first, sizeof first, second, sizeof second);
+    made(objects);
     return unused;
 }
 
@@ -72,7 +85,28 @@ static int try_file(const char *path) {
     }
     length = fread(file, 1, sizeof file, stream);
     fclose(stream);
-    return run_on(PLAIN_STACK, plain_calls) != 0 || run_on(CALIGARI_STACK, caligari_calls) != 0;
+    return run_on(PLAIN_STACK, plain_calls) != 0 || run_on(CINEMA_STACK, cinema_calls) != 0 ||
+           run_on(CALIGARI_STACK, caligari_calls) != 0;
+}
+
+static void put_size(size_t at, size_t size) {
+    for (int i = 0; i < 4; i++) {
+        file[at + (size_t)i] = (uint8_t)(size >> (24 - 8 * i));
+    }
+}
+
+/* A Cinema 4D figure of many objects, whose list needs more stack than that of a short one. */
+static int try_many_objects(void) {
+    enum { OBJECTS = 5000 };
+    length = 20 + 8 * OBJECTS;
+    memset(file, 0, length);
+    memcpy(file, "FORM    MC4DOBJ5", 16);
+    put_size(4, length - 8);
+    put_size(16, length - 20);
+    for (int i = 0; i < OBJECTS; i++) {
+        file[20 + 8 * i] = 1; /* T_OBJECT; the rest is its T_END */
+    }
+    return run_on(CINEMA_STACK, cinema_calls) != 0 || objects != OBJECTS;
 }
 
 int main(int argc, char **argv) {
@@ -81,6 +115,10 @@ int main(int argc, char **argv) {
             fprintf(stderr, "small_stack: %s: not tried\n", argv[i]);
             return 2;
         }
+    }
+    if (try_many_objects() != 0) {
+        fprintf(stderr, "small_stack: a figure of many objects: not tried\n");
+        return 2;
     }
     printf("%lu calls\n", (unsigned long)calls);
     return answers == UINT64_MAX;

@@ -1,21 +1,19 @@
 -- What a header tells, by the numbers that stand in the file; and when its block is whole. For every kind of header.
 use mathlib.Core.Path.{_≡_, sym, ap, _∙_}
-use Prim.Native.Nat.{ℕ, _+_, _-_, _*_, _/_, _%_, _^_, _<_, _≤_}
+use Prim.Native.Nat.{ℕ, _+_, _-_, _*_, _/_, _%_, _<_, _≤_}
 use native.Mathlib.Omega.{arith}
-use mathlib.Core.Bool.{true, false}
 use mathlib.Core.List.{List, [], _∷_}
-use mathlib.Core.Option.{none, some}
+use mathlib.Core.Option.{some}
 use lib.Dec.{leb}
 use lib.ListN.{length, take, drop, getD, length-drop}
 use lib.Seq.{getD-drop, slice, length-slice, length-take-le, take-take, take-all}
 use borrow.Author.Tests.{le-leb, lt-leb}
 use Rattle.shared_words.specs.declared.Refusal.the-variants.{Overrun}
 use Rattle.shared_words.specs.Bytes.{valueBe, beAt}
-use Rattle.shared_words.specs.Conditions.{must, broken}
 use Rattle.shared_words.proofs.Conditions.{broken-here, broken-later, unbroken}
 use Rattle.shared_numbers.proofs.Slices.{drop-slice, take-slice, front-slice}
 use Rattle.shared_big_endian.proofs.At.{word-is, long-is}
-use Rattle.c4d_rules.specs.Blocks.{Header, objectHeader, width, identifier, told}
+use Rattle.c4d_rules.specs.Blocks.{Header, width, identifier, told}
 use Rattle.c4d_rules.specs.Read.{blockAt}
 use Rattle.c4d_blocks.specs.Headers.{blockIn, overrun, Tells}
 

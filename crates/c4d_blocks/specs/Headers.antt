@@ -7,7 +7,6 @@ use lib.ListN.{length}
 use lib.Seq.{slice}
 use Rattle.shared_words.specs.declared.Refusal.{Refusal}
 use Rattle.shared_words.specs.declared.Refusal.the-variants.{Overrun}
-use Rattle.shared_words.specs.Bytes.{beAt}
 use Rattle.shared_words.specs.Conditions.{broken}
 use Rattle.c4d_rules.specs.Blocks.{Block, Header, width, identifier, told}
 use Rattle.c4d_rules.specs.Read.{blockAt, blockConditions}
@@ -32,8 +31,3 @@ pub record Tells (h : Header) (s : List ℕ) (at to id len : ℕ) : Type 0 where
 abbrev pub Sees : Header → List ℕ → ℕ → ℕ → Seen → Type 0
 Sees h s at to Seen.Cut = overrun h s at to ≡ some (Overrun at)
 Sees h s at to (Seen.Block id len) = Tells h s at to id len
-
--- an identifier of one byte and a size of three stand there
-pub record Says (s : List ℕ) (at id len : ℕ) : Type 0 where
-  pub id-says : id ≡ beAt at 1 s
-  pub len-says : len ≡ beAt (at + 1) 3 s

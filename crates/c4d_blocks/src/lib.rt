@@ -4,7 +4,7 @@ use shared_big_endian::long_at;
 ghost use Prim.Native.Nat.{_+_, _≤_};
 ghost use lib.ListN.{length};
 ghost use Rattle.c4d_rules.specs.Blocks.{chunkHeader, materialHeader, objectHeader};
-ghost use Rattle.c4d_blocks.specs.Headers.{Sees, Says};
+ghost use Rattle.c4d_blocks.specs.Headers.{Sees};
 
 // What stands between a position and an end: a whole block, its identifier and its size, or not even one.
 pub enum Seen {
@@ -60,22 +60,4 @@ pub fn object_at(file: &[u8], at: usize, to: usize) -> Seen
         return Seen::Cut;
     }
     Seen::Block(head / 16777216, len)
-}
-
-// What the header of a sub-chunk of OBJ5 says, where it is known that there is one.
-pub struct Head {
-    pub id: usize,
-    pub len: usize,
-}
-
-// The header of the sub-chunk at a position.
-pub fn object_head(file: &[u8], at: usize) -> Head
-    requires { ⌜ at + 4 ≤ length (now file) ⌝ }
-    ensures { λ r. ⌜ Says (now (file .entry)) at (r .id) (r .len) ⌝ }
-{
-    let head = long_at(file, at);
-    Head {
-        id: head / 16777216,
-        len: head % 16777216,
-    }
 }

@@ -1,5 +1,5 @@
 -- The parts of the verdict, one after another.
-use mathlib.Core.Path.{_≡_, refl, sym, ap, _∙_}
+use mathlib.Core.Path.{_≡_, _∙_}
 use Prim.Native.Nat.{ℕ, _-_, _<_, _≤_}
 use native.Mathlib.Omega.{arith}
 use mathlib.Core.Bool.{true, false}
@@ -9,9 +9,9 @@ use borrow.Author.Tests.{le-leb, lt-leb}
 use Rattle.shared_words.specs.declared.Refusal.{Refusal}
 use Rattle.shared_words.specs.declared.Refusal.the-variants.{TooLong, Form}
 use Rattle.shared_words.specs.Lists.{same}
-use Rattle.shared_words.specs.Conditions.{broken, Answer, refused, accepted}
+use Rattle.shared_words.specs.Conditions.{broken, refused}
 use Rattle.c4d_rules.specs.declared.Found.{Found}
-use Rattle.c4d_rules.specs.Layout.{Layout, fileHeader}
+use Rattle.c4d_rules.specs.Layout.{fileHeader}
 use Rattle.c4d_rules.specs.Rules.{limit, start}
 use Rattle.c4d_rules.specs.Read.{walk}
 use Rattle.c4d_rules.specs.Walk.{chunkGrammar, verdict}
@@ -35,9 +35,9 @@ module _ (s : List ℕ) where
     unfolding verdict broken
     verdict-walk = rw (le-leb (length s) limit l, e)
 
-    pub reads : (r : Checked) → Walks s r → Reads s r
-    reads (Checked.Refused x) w = verdict-walk ∙ w
-    reads (Checked.Good f) w = record { layout = w .layout; is = verdict-walk ∙ w .walked; figure = w .figure; short = l }
+    pub reads : (notes₀ notes : List ℕ) (r : Checked) → Walks s notes₀ notes r → Reads s notes₀ notes r
+    reads notes₀ notes (Checked.Refused x) w = verdict-walk ∙ w
+    reads notes₀ notes (Checked.Good f) w = record { layout = w .layout; is = verdict-walk ∙ w .walked; counts = w .counts; noted = w .noted; short = l }
 
   -- ---- the check
 
@@ -45,6 +45,6 @@ module _ (s : List ℕ) where
   unfolding c4dCheckCall
   checked-refused x e = rw e
 
-  pub checked-good : (f : Figure) → Judged s f → c4dCheckCall s ≡ Found.Objects (f .objects)
+  pub checked-good : (notes₀ notes : List ℕ) (f : Figure) → Judged s notes₀ notes f → c4dCheckCall s ≡ Found.Objects (f .objects)
   unfolding c4dCheckCall
-  checked-good f j = rw (j .is, j .figure .objects-are)
+  checked-good notes₀ notes f j = rw (j .is, j .counts .objects-are)

@@ -1,4 +1,4 @@
--- What a file read promises: the verdict, and for an accepted file where its objects are.
+-- What a file read promises: the verdict, and for an accepted file how many objects it has, and their notes.
 use mathlib.Core.Path.{_≡_}
 use Prim.Native.Nat.{ℕ, _≤_}
 use mathlib.Core.List.{List}
@@ -8,16 +8,18 @@ use Rattle.c4d_rules.specs.Layout.{Layout}
 use Rattle.c4d_rules.specs.Rules.{limit}
 use Rattle.c4d_rules.specs.Walk.{verdict}
 use Rattle.c4d_rules.specs.Gives.{objects}
+use Rattle.c4d_objects.specs.Notes.{Noted}
 use Rattle.c4d_chunks.specs.declared.Figure.{Figure}
 use Rattle.c4d_chunks.specs.declared.Checked.{Checked}
-use Rattle.c4d_chunks.specs.Steps.{Given}
+use Rattle.c4d_chunks.specs.Steps.{Counts}
 
-pub record Judged (s : List ℕ) (f : Figure) : Type 0 where
+pub record Judged (s notes₀ notes : List ℕ) (f : Figure) : Type 0 where
   pub layout : Layout
   pub is : verdict s ≡ accepted layout
-  pub figure : Given s f (objects layout)
+  pub counts : Counts f (objects layout)
+  pub noted : Noted s (objects layout) notes₀ notes
   pub short : length s ≤ limit
 
-abbrev pub Reads : List ℕ → Checked → Type 0
-Reads s (Checked.Refused r) = verdict s ≡ refused r
-Reads s (Checked.Good f) = Judged s f
+abbrev pub Reads : List ℕ → List ℕ → List ℕ → Checked → Type 0
+Reads s notes₀ notes (Checked.Refused r) = verdict s ≡ refused r
+Reads s notes₀ notes (Checked.Good f) = Judged s notes₀ notes f

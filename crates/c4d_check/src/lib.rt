@@ -38,9 +38,9 @@ fn is_form(file: &[u8]) -> bool
     long_at(file, 8) == MC4D
 }
 
-// The first fault, or how much there is of objects and where.
-pub fn read(file: &[u8]) -> Checked
-    ensures { λ r. ⌜ Reads (now (file .entry)) r ⌝ }
+// The first fault, or how many objects and textures there are. The objects of an accepted file are noted, where there is room.
+pub fn read(file: &[u8], notes: &mut [u32]) -> Checked
+    ensures { λ r. ⌜ Reads (now (file .entry)) (now (notes .entry)) (now (notes .exit)) r ⌝ }
 {
     if LIMIT < file.len() {
         return Checked::Refused(Refusal::TooLong);
@@ -48,14 +48,15 @@ pub fn read(file: &[u8]) -> Checked
     if !is_form(file) {
         return Checked::Refused(Refusal::Form);
     }
-    chunks(file)
+    chunks(file, notes)
 }
 
 // The first fault, or how many objects there are.
 pub fn check(file: &[u8]) -> Found
     ensures { λ r. ⌜ r ≡ c4dCheckCall (now (file .entry)) ⌝ }
 {
-    match read(file) {
+    let mut no_notes = [0u32; 0];
+    match read(file, &mut no_notes) {
         Checked::Refused(r) => Found::Refused(r),
         Checked::Good(figure) => Found::Objects(figure.objects),
     }

@@ -1,10 +1,11 @@
 -- A chunk entered: its order, what is inside, and what is then known.
 use mathlib.Core.Path.{_≡_, refl, sym, ap, _∙_, subst}
-use Prim.Native.Nat.{ℕ, _+_, _≤_}
+use Prim.Native.Nat.{ℕ, zero, suc, _+_, _≤_}
+use native.Mathlib.Numerals.{add-one}
 use native.Mathlib.Omega.{arith}
-use mathlib.Core.Bool.{Bool, true, false, not, _&&_, cond, true≢false, false≢true}
-use mathlib.Core.List.{List, [], _∷_, _++_, append-nil}
-use mathlib.Core.Option.{Option, none, some}
+use mathlib.Core.Bool.{Bool, true, false, _&&_, cond, true≢false}
+use mathlib.Core.List.{List, [], append-nil}
+use mathlib.Core.Option.{none, some}
 use lib.Dec.{eqb}
 use lib.ListN.{length}
 use borrow.Author.Tests.{ne-eqb}
@@ -12,26 +13,24 @@ use lib.Seq.{slice}
 use Rattle.shared_words.specs.declared.Refusal.{Refusal}
 use Rattle.shared_words.specs.declared.Refusal.the-variants.{Order}
 use Rattle.shared_words.specs.Conditions.{broken, Answer, refused, accepted}
-use Rattle.c4d_rules.specs.Blocks.{Block, chunkHeader, identifier}
+use Rattle.c4d_rules.specs.Blocks.{Block, chunkHeader}
 use Rattle.c4d_rules.specs.Kinds.{Kind, Platform, Materials, Objects, Other, kindOf}
 use Rattle.c4d_rules.specs.Layout.{plain, subs, Chunk}
-use Rattle.c4d_rules.specs.Rules.{nexts, Before, isNone, inOrder, after}
+use Rattle.c4d_rules.specs.Rules.{Open, nexts, Before, isNone, inOrder}
 use Rattle.c4d_rules.specs.Read.{walk}
 use Rattle.c4d_rules.specs.Walk.{materialGrammar, objectGrammar, withSubs, lookInside, blockKind, chunkGrammar}
-use Rattle.c4d_rules.specs.Gives.{Object, materialsOf, objectsFrom, cinema}
+use Rattle.c4d_rules.specs.Gives.{Object, objectsFrom}
 use Rattle.c4d_rules.specs.Calls.{allMaterials}
 use Rattle.c4d_blocks.specs.Headers.{blockIn, Tells}
 use Rattle.c4d_blocks.proofs.Steps.{head-long, body-is}
 use Rattle.c4d_materials.specs.declared.Nexts.{Nexts}
 use Rattle.c4d_materials.specs.Counted.{countedFrom}
-use Rattle.c4d_held.specs.Held.{belowOf}
+use Rattle.c4d_held.specs.Held.{lastOf}
+use Rattle.c4d_object.specs.Ahead.{given, ahead}
 use Rattle.c4d_objects.specs.declared.Tally.{Tally}
-use Rattle.c4d_objects.specs.Tally.{ends, tallyFrom}
-use Rattle.c4d_objects.proofs.Given.{length-objects, materials-given}
-use Rattle.c4d_chunks.specs.declared.Figure.{Figure}
+use Rattle.c4d_objects.specs.Notes.{tallied, Noted, Notes}
 use Rattle.c4d_chunks.specs.declared.State.{State}
-use Rattle.c4d_chunks.specs.declared.Stepped.{Stepped}
-use Rattle.c4d_chunks.specs.Steps.{isListed, Given, Known, NextIs, StepIs}
+use Rattle.c4d_chunks.specs.Steps.{isListed, Counts, Known, NextIs}
 
 -- ---- the three identifiers
 
@@ -70,32 +69,35 @@ counted-all : (w : Answer (List Block)) (n : ℕ) → Nexts.Count n ≡ countedF
 counted-all (refused x) n e = let z : _≡_ {A = ℕ} 0 1 = cc in absurd (omega arith)
 counted-all (accepted bs) n e = let z : n ≡ 0 + nexts bs = cc in record { blocks = bs; is = refl; count = omega arith }
 
-tally-refused : (w : Answer (List Block)) (r : Refusal) → Tally.Refused r ≡ tallyFrom 0 0 w → w ≡ refused r
-tally-refused (refused x) r e = let z : x ≡ r = cc in rw z
-tally-refused (accepted bs) r e = let z : _≡_ {A = ℕ} 0 1 = cc in absurd (omega arith)
+module _ (begun : ℕ) (held : Open) (o : ℕ) where
+  tally-refused : (w : Answer (List Block)) (r : Refusal) → Tally.Refused r ≡ tallied (given begun held o w) → w ≡ refused r
+  tally-refused (refused x) r e = let z : x ≡ r = cc in rw z
+  tally-refused (accepted bs) r e = let z : _≡_ {A = ℕ} 0 1 = cc in absurd (omega arith)
 
-pub record Tallied (w : Answer (List Block)) (n m : ℕ) : Type 0 where
-  pub blocks : List Block
-  pub is : w ≡ accepted blocks
-  pub count-ends : n ≡ ends blocks
-  pub count-textures : m ≡ length (materialsOf blocks)
+  pub record Tallied (s : List ℕ) (w : Answer (List Block)) (n m : ℕ) (notes notes′ : List ℕ) : Type 0 where
+    pub blocks : List Block
+    pub is : w ≡ accepted blocks
+    pub counts : Counts record { objects = n; textures = m } (objectsFrom begun held o blocks)
+    pub noted : Noted s (objectsFrom begun held o blocks) notes notes′
 
-tally-all : (w : Answer (List Block)) (n m : ℕ) → Tally.Count n m ≡ tallyFrom 0 0 w → Tallied w n m
-tally-all (refused x) n m e = let z : _≡_ {A = ℕ} 0 1 = cc in absurd (omega arith)
-tally-all (accepted bs) n m e =
-    let y : n ≡ 0 + ends bs = cc in
-    let z : m ≡ 0 + length (materialsOf bs) = cc in
-    record { blocks = bs; is = refl; count-ends = omega arith; count-textures = omega arith }
+  tally-all : (s : List ℕ) (w : Answer (List Block)) (n m : ℕ) (notes notes′ : List ℕ) → Tally.Count n m ≡ tallied (given begun held o w) → Notes s (given begun held o w) notes notes′ →
+      Tallied s w n m notes notes′
+  tally-all s (refused x) n m notes notes′ e k = let z : _≡_ {A = ℕ} 0 1 = cc in absurd (omega arith)
+  tally-all s (accepted bs) n m notes notes′ e k =
+      let rs : List Object = objectsFrom begun held o bs in
+      let y : n ≡ length rs = cc in
+      let z : m ≡ length (allMaterials rs) = cc in
+      record { blocks = bs; is = refl; counts = record { objects-are = y; textures-are = z }; noted = k }
 
 -- ---- a number that stands for the last material
 
-no-below : (last : Option ℕ) → belowOf last ≡ 0 → isNone last ≡ true
-no-below none e = refl
-no-below (some k) e = absurd (omega arith)
+no-below : (below : ℕ) → below ≡ 0 → isNone (lastOf below) ≡ true
+no-below zero e = refl
+no-below (suc k) e = absurd (omega arith)
 
-some-below : (last : Option ℕ) → (belowOf last ≡ 0 → ⊥) → isNone last ≡ false
-some-below none e = absurd (e refl)
-some-below (some k) e = refl
+some-below : (below : ℕ) → (below ≡ 0 → ⊥) → isNone (lastOf below) ≡ false
+some-below zero e = absurd (e refl)
+some-below (suc k) e = refl
 
 -- ---- one chunk
 
@@ -121,8 +123,8 @@ module _ (s : List ℕ) (at id len : ℕ) (p : Before) (rs : List Object) (t : T
   abbrev opened : List Block → Chunk
   opened bs = record { head = b .head; inside = subs bs }
 
-  module _ (st : State) (g : Known s p st rs) where
-    pub platform-known : kindOf id ≡ Platform → p .any ≡ false → NextIs s p at b rs st
+  module _ (st : State) {notes₀ notes : List ℕ} (g : Known s p st rs notes₀ notes) where
+    pub platform-known : kindOf id ≡ Platform → p .any ≡ false → NextIs s p at b rs notes₀ notes st
     platform-known e h =
         let k = kind-is Platform e in
         record {
@@ -133,11 +135,12 @@ module _ (s : List ℕ) (at id len : ℕ) (p : Before) (rs : List Object) (t : T
             below-small = g .below-small;
             seen-is = g .seen-is;
             none-yet = g .none-yet;
-            figure = g .figure;
+            counts = g .counts;
+            noted = g .noted;
           };
         }
 
-    pub other-known : kindOf id ≡ Other → NextIs s p at b rs st
+    pub other-known : kindOf id ≡ Other → NextIs s p at b rs notes₀ notes st
     other-known e =
         let k = kind-is Other e in
         record {
@@ -148,7 +151,8 @@ module _ (s : List ℕ) (at id len : ℕ) (p : Before) (rs : List Object) (t : T
             below-small = g .below-small;
             seen-is = g .seen-is;
             none-yet = g .none-yet;
-            figure = g .figure;
+            counts = g .counts;
+            noted = g .noted;
           };
         }
 
@@ -167,10 +171,10 @@ module _ (s : List ℕ) (at id len : ℕ) (p : Before) (rs : List Object) (t : T
       inside-materials h = in-order Materials e h ∙ ap (λ (x : List ℕ). withSubs (b .head) (walk (materialGrammar at) false (at + 8) x)) (body-here end q)
 
       pub materials-order : (st .below ≡ 0) → st .seen ≡ false → inOrder p Materials ≡ true
-      materials-order z n = rw (no-below (p .last) (sym (g .below-is) ∙ z), sym (g .seen-is) ∙ n)
+      materials-order z n = rw (ap isNone (sym (g .below-is)) ∙ no-below (st .below) z, sym (g .seen-is) ∙ n)
 
       pub materials-again : (st .below ≡ 0 → ⊥) → chunkGrammar .look p at b ≡ refused (Order at)
-      materials-again z = out-of-order Materials e (rw (some-below (p .last) (λ x. z (g .below-is ∙ x))))
+      materials-again z = out-of-order Materials e (rw (ap isNone (sym (g .below-is)) ∙ some-below (st .below) z))
 
       pub materials-late : st .seen ≡ true → chunkGrammar .look p at b ≡ refused (Order at)
       materials-late n = out-of-order Materials e (rw (sym (g .seen-is) ∙ n) (go (isNone (p .last))))
@@ -183,7 +187,7 @@ module _ (s : List ℕ) (at id len : ℕ) (p : Before) (rs : List Object) (t : T
       materials-refused h r c = inside-materials h ∙ ap (withSubs (b .head)) (counted-refused 0 materialWalk r c)
 
       pub materials-known : inOrder p Materials ≡ true → st .seen ≡ false → (n : ℕ) → n ≤ 0x7FFF_FFFF → Nexts.Count n ≡ countedFrom 0 materialWalk →
-          NextIs s p at b rs record { below = n + 1; seen = false; figure = st .figure }
+          NextIs s p at b rs notes₀ notes record { below = n + 1; seen = false; figure = st .figure }
       materials-known h z n l c =
           let k = kind-is Materials e in
           let w = counted-all materialWalk n c in
@@ -192,11 +196,12 @@ module _ (s : List ℕ) (at id len : ℕ) (p : Before) (rs : List Object) (t : T
             chunk = opened (w .blocks);
             taken = inside-materials h ∙ ap (withSubs (b .head)) (w .is);
             known = rw (k, append-nil rs) record {
-              below-is = omega arith;
+              below-is = ap lastOf (add-one n) ∙ ap some y;
               below-small = omega arith;
               seen-is = sym z ∙ g .seen-is;
               none-yet = g .none-yet;
-              figure = g .figure;
+              counts = g .counts;
+              noted = g .noted;
             };
           }
 
@@ -214,35 +219,36 @@ module _ (s : List ℕ) (at id len : ℕ) (p : Before) (rs : List Object) (t : T
       pub objects-again : st .seen ≡ true → chunkGrammar .look p at b ≡ refused (Order at)
       objects-again n = out-of-order Objects e (rw (sym (g .seen-is) ∙ n))
 
-      pub objects-refused : st .seen ≡ false → (r : Refusal) → Tally.Refused r ≡ tallyFrom 0 0 objectWalk → chunkGrammar .look p at b ≡ refused r
-      objects-refused z r c = inside-objects z ∙ ap (withSubs (b .head)) (tally-refused objectWalk r c)
+      abbrev objectsAhead : Answer (List Object)
+      objectsAhead = ahead s (lastOf (st .below)) at end (at + 8) none (at + 8)
 
-      pub objects-known : st .seen ≡ false → (n m : ℕ) → Tally.Count n m ≡ tallyFrom 0 0 objectWalk →
-          NextIs s p at b rs record { below = st .below; seen = true; figure = record { objects = n; textures = m; from = at + 8; to = end } }
-      objects-known z n m c =
+      ahead-is : objectsAhead ≡ given (at + 8) none (at + 8) objectWalk
+      ahead-is = rw (g .below-is)
+
+      pub objects-refused : st .seen ≡ false → (r : Refusal) → Tally.Refused r ≡ tallied objectsAhead → chunkGrammar .look p at b ≡ refused r
+      objects-refused z r c = inside-objects z ∙ ap (withSubs (b .head)) (tally-refused (at + 8) none (at + 8) objectWalk r (c ∙ ap tallied ahead-is))
+
+      known-with : st .seen ≡ false → (n m : ℕ) {notes′ : List ℕ} → Tallied (at + 8) none (at + 8) s objectWalk n m notes notes′ →
+          NextIs s p at b rs notes₀ notes′ record { below = st .below; seen = true; figure = record { objects = n; textures = m } }
+      known-with z n m {notes′} w =
           let k = kind-is Objects e in
-          let w = tally-all objectWalk n m c in
           let f = t .fits in
-          let given : List Object = objectsFrom (at + 8) none (at + 8) (w .blocks) in
-          let y : rs ≡ [] = g .none-yet (sym (g .seen-is) ∙ z) in
+          let y = g .none-yet (sym (g .seen-is) ∙ z) in
           let x : length (b .head) ≡ 8 = head-long chunkHeader s at (length s) (omega arith) (omega arith) in
           record {
             chunk = opened (w .blocks);
             taken = inside-objects z ∙ ap (withSubs (b .head)) (w .is);
-            known = rw (k, y, x) record {
+            known = rw (k, y .0, x) record {
               below-is = g .below-is;
               below-small = g .below-small;
               seen-is = refl;
               none-yet = λ e. absurd (true≢false e);
-              figure = record {
-                last = p .last;
-                chunk = at;
-                blocks = w .blocks;
-                walked = w .is;
-                are = refl;
-                objects-are = w .count-ends ∙ sym (length-objects (w .blocks) (at + 8) none (at + 8));
-                textures-are = w .count-textures ∙ ap length (sym (materials-given (p .last) at (at + 8) (slice (at + 8) end s) (w .blocks) (w .is) (at + 8)));
-                whole = omega arith;
-              };
+              counts = w .counts;
+              noted = subst (λ (a : List ℕ). Noted s (objectsFrom (at + 8) none (at + 8) (w .blocks)) a notes′) (y .1) (w .noted);
             };
           }
+
+      pub objects-known : st .seen ≡ false → (n m : ℕ) (notes′ : List ℕ) → Tally.Count n m ≡ tallied objectsAhead → Notes s objectsAhead notes notes′ →
+          NextIs s p at b rs notes₀ notes′ record { below = st .below; seen = true; figure = record { objects = n; textures = m } }
+      objects-known z n m notes′ c o =
+          known-with z n m (tally-all (at + 8) none (at + 8) s objectWalk n m notes notes′ (c ∙ ap tallied ahead-is) (subst (λ (a : Answer (List Object)). Notes s a notes notes′) ahead-is o))

@@ -2,22 +2,23 @@
 use mathlib.Core.Path.{_≡_, refl, sym, ap, _∙_, subst}
 use Prim.Native.Nat.{ℕ, _+_, _<_, _≤_}
 use native.Mathlib.Omega.{arith}
-use mathlib.Core.Bool.{true, false, not}
+use mathlib.Core.Bool.{false, not}
 use mathlib.Core.List.{List, [], _∷_, _++_, append-assoc, append-nil}
-use mathlib.Core.Option.{none, some}
+use mathlib.Core.Option.{some}
 use lib.Dec.{eqb}
 use lib.ListN.{length, drop}
-use lib.Seq.{slice, slice-empty, take-length}
+use lib.Seq.{slice, take-length}
 use borrow.Author.Tests.{ne-eqb}
 use Rattle.shared_words.specs.declared.Refusal.{Refusal}
 use Rattle.shared_words.specs.declared.Refusal.the-variants.{Overrun}
 use Rattle.shared_words.specs.Conditions.{broken, Answer, refused, accepted}
+use Rattle.shared_numbers.proofs.Put.{put-none}
 use Rattle.shared_flat.specs.Flat.{afterAll, total, Format, records}
-use Rattle.c4d_rules.specs.Blocks.{Block, chunkHeader, size, Framed}
+use Rattle.c4d_rules.specs.Blocks.{chunkHeader, size, Framed}
 use Rattle.c4d_rules.specs.Layout.{Chunk, kind, block, chunkSize}
 use Rattle.c4d_rules.specs.Rules.{Before, start, after, ChunkRules}
 use Rattle.c4d_rules.specs.Read.{withMore, walk}
-use Rattle.c4d_rules.specs.Walk.{objectGrammar, chunkGrammar}
+use Rattle.c4d_rules.specs.Walk.{chunkGrammar}
 use Rattle.c4d_rules.specs.Gives.{Object, cinema}
 use Rattle.c4d_rules.proofs.Conditions.{If}
 use Rattle.c4d_rules.proofs.Read.{Is}
@@ -26,7 +27,7 @@ use Rattle.c4d_rules.proofs.PutIn.{any-after}
 use Rattle.c4d_blocks.specs.Headers.{blockIn, overrun, Tells}
 use Rattle.c4d_blocks.proofs.Steps.{head-long, block-size, at-end, overruns, refuses, goes-on}
 use Rattle.c4d_chunks.specs.declared.State.{State}
-use Rattle.c4d_chunks.specs.Steps.{Given, Known, NextIs, Accepts}
+use Rattle.c4d_chunks.specs.Steps.{Known, NextIs, Accepts}
 
 -- ---- things read before others
 
@@ -79,21 +80,22 @@ before cs = afterAll after start cs
 abbrev pub given : List Chunk → List Object
 given cs = records cinema start 12 cs
 
-pub record On (s : List ℕ) (at : ℕ) (st : State) : Type 0 where
+pub record On (s notes₀ notes : List ℕ) (at : ℕ) (st : State) : Type 0 where
   pub chunks : List Chunk
   pub goes : whole s ≡ withAll chunks (walk chunkGrammar (before chunks) at (slice at (length s) s))
   pub at-is : at ≡ 12 + total chunkSize chunks
   pub within : at ≤ length s
   pub any-is : before chunks .any ≡ not (eqb at 12)
-  pub known : Known s (before chunks) st (given chunks)
+  pub known : Known s (before chunks) st (given chunks) notes₀ notes
+  pub same-long : length notes ≡ length notes₀
 
 -- all that is left
 slice-all : (a : ℕ) (s : List ℕ) → slice a (length s) s ≡ drop a s
 slice-all a s = ap (drop a) (take-length s)
 
-pub on-start : (s : List ℕ) → 12 ≤ length s → On s 12 record { below = 0; seen = false; figure = record { objects = 0; textures = 0; from = 0; to = 0 } }
+pub on-start : (s notes : List ℕ) → 12 ≤ length s → On s notes notes 12 record { below = 0; seen = false; figure = record { objects = 0; textures = 0 } }
 unfolding withAll broken
-on-start s l = record {
+on-start s notes l = record {
   chunks = [];
   goes = ap (walk chunkGrammar start 12) (sym (slice-all 12 s));
   at-is = refl;
@@ -103,18 +105,11 @@ on-start s l = record {
     below-is = refl;
     below-small = omega arith;
     seen-is = refl;
-    none-yet = λ e. refl;
-    figure = record {
-      last = none;
-      chunk = 0;
-      blocks = [];
-      walked = at-end (objectGrammar none 0) (omega arith) s none 0 0 refl;
-      are = refl;
-      objects-are = refl;
-      textures-are = refl;
-      whole = omega arith;
-    };
+    none-yet = λ e. (refl, refl);
+    counts = record { objects-are = refl; textures-are = refl };
+    noted = record { each-small = tt; are = λ r. put-none notes 0 };
   };
+  same-long = refl;
 }
 
 framed : (s : List ℕ) (at id len : ℕ) → Tells chunkHeader s at (length s) id len → Framed chunkHeader (blockIn chunkHeader s at (length s))
@@ -123,7 +118,7 @@ framed s at id len t = record {
   size-told = sym (t .told-is) ∙ t .len-is;
 }
 
-module _ (s : List ℕ) (at : ℕ) (st : State) (i : On s at st) where
+module _ (s notes₀ : List ℕ) {notes : List ℕ} (at : ℕ) (st : State) (i : On s notes₀ notes at st) where
   pub on-cut : at < length s → overrun chunkHeader s at (length s) ≡ some (Overrun at) → whole s ≡ refused (Overrun at)
   on-cut l e =
       i .goes ∙ ap (withAll (i .chunks)) (overruns chunkGrammar (omega arith) s (before (i .chunks)) at (length s) l (omega arith) (Overrun at) e) ∙
@@ -134,8 +129,9 @@ module _ (s : List ℕ) (at : ℕ) (st : State) (i : On s at st) where
     on-refused r e =
         i .goes ∙ ap (withAll (i .chunks)) (refuses chunkGrammar (omega arith) s (before (i .chunks)) at (length s) l (omega arith) id len t r e) ∙ all-refused (i .chunks) r
 
-    pub on-more : (next : State) → NextIs s (before (i .chunks)) at (blockIn chunkHeader s at (length s)) (given (i .chunks)) next → On s (at + (8 + len)) next
-    on-more next n =
+    pub on-more : (next : State) {notes′ : List ℕ} → NextIs s (before (i .chunks)) at (blockIn chunkHeader s at (length s)) (given (i .chunks)) notes₀ notes′ next →
+        length notes′ ≡ length notes → On s notes₀ notes′ (at + (8 + len)) next
+    on-more next n same =
         let cs = i .chunks in
         let c = n .chunk in
         let b = blockIn chunkHeader s at (length s) in
@@ -153,12 +149,14 @@ module _ (s : List ℕ) (at : ℕ) (st : State) (i : On s at st) where
           within = omega arith;
           any-is = ap (λ (x : Before). x .any) a ∙ any-after (before cs) (kind c) (c .inside) ∙ sym (ap not (ne-eqb (at + (8 + len)) 12 (λ (e : at + (8 + len) ≡ 12). omega arith)));
           known = rw (a, g) (n .known);
+          same-long = same ∙ i .same-long;
         }
 
-  pub on-end : length s ≤ at → Accepts s (st .figure)
+  pub on-end : length s ≤ at → Accepts s notes₀ notes (st .figure)
   unfolding broken
   on-end l = record {
     layout = i .chunks;
     walked = i .goes ∙ ap (withAll (i .chunks)) (at-end chunkGrammar (omega arith) s (before (i .chunks)) at (length s) (omega (arith, i .within))) ∙ all-accepted (i .chunks);
-    figure = i .known .figure;
+    counts = i .known .counts;
+    noted = i .known .noted;
   }

@@ -7,7 +7,7 @@ use c4d_objects::Tally;
 use c4d_objects::objects;
 use shared_words::Refusal;
 ghost use mathlib.Core.Path.{_≡_};
-ghost use mathlib.Core.Bool.{true, not};
+ghost use mathlib.Core.Bool.{true};
 ghost use mathlib.Core.List.{List};
 ghost use Prim.Native.Nat.{ℕ, _+_, _≤_};
 ghost use lib.ListN.{length};
@@ -21,12 +21,10 @@ const MAT4: usize = 0x4D41_5434;
 
 const OBJ5: usize = 0x4F42_4A35;
 
-// How many objects and textures there are, and where the sub-chunks of the OBJ5 stand.
+// How many objects and textures there are.
 pub struct Figure {
     pub objects: usize,
     pub textures: usize,
-    pub from: usize,
-    pub to: usize,
 }
 
 // A file that has been read: what it has, or its first fault.
@@ -62,7 +60,7 @@ fn is_listed(id: usize) -> bool
 
 // PLTF at a position.
 fn enter_platform(at: usize, state: State) -> Stepped
-    ensures { λ r. ⌜ ((s : List ℕ) (end : ℕ) → Enters Platform s at end state r) ⌝ }
+    ensures { λ r. ⌜ ((s notes : List ℕ) (end : ℕ) → Enters Platform s at end state notes notes r) ⌝ }
 {
     if at != 12 {
         return Stepped::Refused(Refusal::Order(at));
@@ -73,7 +71,7 @@ fn enter_platform(at: usize, state: State) -> Stepped
 // MAT4 from a position to another.
 fn enter_materials(file: &[u8], at: usize, end: usize, state: State) -> Stepped
     requires { ⌜ (at + 8 ≤ end) × (end ≤ length (now file)) × (end ≤ limit) ⌝ }
-    ensures { λ r. ⌜ Enters Materials (now (file .entry)) at end state r ⌝ }
+    ensures { λ r. ⌜ ((notes : List ℕ) → Enters Materials (now (file .entry)) at end state notes notes r) ⌝ }
 {
     if state.below != 0 {
         return Stepped::Refused(Refusal::Order(at));
@@ -92,15 +90,15 @@ fn enter_materials(file: &[u8], at: usize, end: usize, state: State) -> Stepped
     }
 }
 
-// OBJ5 from a position to another.
-fn enter_objects(file: &[u8], at: usize, end: usize, state: State) -> Stepped
-    requires { ⌜ (at + 8 ≤ end) × (end ≤ length (now file)) × (state .below ≤ 0x8000_0000) ⌝ }
-    ensures { λ r. ⌜ Enters Objects (now (file .entry)) at end state r ⌝ }
+// OBJ5 from a position to another. Its objects are noted.
+fn enter_objects(file: &[u8], at: usize, end: usize, state: State, notes: &mut [u32]) -> Stepped
+    requires { ⌜ (at + 8 ≤ end) × (end ≤ length (now file)) × (end ≤ limit) × (state .below ≤ 0x8000_0000) ⌝ }
+    ensures { λ r. ⌜ Enters Objects (now (file .entry)) at end state (now (notes .entry)) (now (notes .exit)) r ⌝ }
 {
     if state.seen {
         return Stepped::Refused(Refusal::Order(at));
     }
-    match objects(file, at, end, state.below) {
+    match objects(file, at, end, state.below, notes) {
         Tally::Refused(r) => Stepped::Refused(r),
         Tally::Count(n, m) => Stepped::Next(State {
             below: state.below,
@@ -108,17 +106,15 @@ fn enter_objects(file: &[u8], at: usize, end: usize, state: State) -> Stepped
             figure: Figure {
                 objects: n,
                 textures: m,
-                from: at + 8,
-                to: end,
             },
         }),
     }
 }
 
 // A listed chunk from a position to another.
-fn enter(file: &[u8], at: usize, id: usize, end: usize, state: State) -> Stepped
+fn enter(file: &[u8], at: usize, id: usize, end: usize, state: State, notes: &mut [u32]) -> Stepped
     requires { ⌜ (at + 8 ≤ end) × (end ≤ length (now file)) × (end ≤ limit) × (state .below ≤ 0x8000_0000) × (isListed (kindOf id) ≡ true) ⌝ }
-    ensures { λ r. ⌜ EntersAny (now (file .entry)) at id end state r ⌝ }
+    ensures { λ r. ⌜ EntersAny (now (file .entry)) at id end state (now (notes .entry)) (now (notes .exit)) r ⌝ }
 {
     if id == PLTF {
         return enter_platform(at, state);
@@ -126,13 +122,13 @@ fn enter(file: &[u8], at: usize, id: usize, end: usize, state: State) -> Stepped
     if id == MAT4 {
         return enter_materials(file, at, end, state);
     }
-    enter_objects(file, at, end, state)
+    enter_objects(file, at, end, state, notes)
 }
 
-// All chunks of a file whose header is as it should be.
-pub fn chunks(file: &[u8]) -> Checked
+// All chunks of a file whose header is as it should be. The objects of an accepted one are noted, where there is room.
+pub fn chunks(file: &[u8], notes: &mut [u32]) -> Checked
     requires { ⌜ (12 ≤ length (now file)) × (length (now file) ≤ limit) ⌝ }
-    ensures { λ r. ⌜ Walks (now (file .entry)) r ⌝ }
+    ensures { λ r. ⌜ Walks (now (file .entry)) (now (notes .entry)) (now (notes .exit)) r ⌝ }
 {
     let mut at = 12usize;
     let mut state = State {
@@ -141,8 +137,6 @@ pub fn chunks(file: &[u8]) -> Checked
         figure: Figure {
             objects: 0,
             textures: 0,
-            from: 0,
-            to: 0,
         },
     };
     while at < file.len() {
@@ -154,7 +148,7 @@ pub fn chunks(file: &[u8]) -> Checked
             at = end;
             continue;
         }
-        match enter(file, at, id, end, state) {
+        match enter(file, at, id, end, state, notes) {
             Stepped::Refused(r) => {
                 return Checked::Refused(r);
             }

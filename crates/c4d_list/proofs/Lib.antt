@@ -1,3 +1,3 @@
-pub mod Blocks
+pub mod Noted
 pub mod Filling
 pub mod Calls

@@ -1,29 +1,21 @@
-// The objects of a file and the materials of their textures, into two lent rows of bytes: a check of the whole file, then a pass
-// over the sub-chunks of its OBJ5 that fills the rows and judges nothing again.
-use c4d_blocks::object_head;
+// The objects of a file and the materials of their textures, into two lent rows of bytes: a check of the whole file, which notes them, and
+// then the rows filled from these notes.
 use c4d_check::read;
 use c4d_chunks::Checked;
-use c4d_parts::combination;
-use c4d_parts::with_any;
 use c4d_rules::Found;
-use shared_big_endian::long_at;
 use shared_numbers::put_long;
 use shared_words::Refusal;
 ghost use mathlib.Core.Path.{_≡_};
 ghost use mathlib.Core.List.{[], _∷_};
-ghost use Prim.Native.Nat.{_+_, _*_, _<_, _≤_};
+ghost use Prim.Native.Nat.{_+_, _-_, _*_, _<_, _≤_};
 ghost use lib.ListN.{length};
-ghost use Rattle.shared_words.specs.Bytes.{beAt, packed};
+ghost use lib.Seq.{slice};
+ghost use Rattle.shared_words.specs.Bytes.{packed};
 ghost use Rattle.shared_words.specs.Encodings.{numberBytes};
 ghost use Rattle.shared_numbers.specs.Put.{Put};
+ghost use Rattle.c4d_rules.specs.Rules.{limit};
 ghost use Rattle.c4d_rules.specs.Calls.{objectBytes, twoRows, c4dListCall};
 ghost use Rattle.c4d_list.specs.Filled.{Fillable, FilledIs};
-
-const T_END: usize = 0;
-
-const T_OBJECT: usize = 1;
-
-const T_TEXTURE: usize = 23;
 
 // Puts the three numbers of an object, and answers the position behind them.
 fn put_object(offset: usize, combined: usize, textures: usize, at: usize, row: &mut [u8]) -> usize
@@ -35,60 +27,52 @@ fn put_object(offset: usize, combined: usize, textures: usize, at: usize, row: &
     put_long(textures as u32, named, row)
 }
 
-// Puts the material of the texture at a position, and answers the position behind it.
-fn put_material(file: &[u8], texture: usize, at: usize, row: &mut [u8]) -> usize
-    requires { ⌜ (texture + 68 ≤ length (now file)) × (at + 4 ≤ length (now row)) ⌝ }
-    ensures { λ r. ⌜ Put (now (row .entry)) at (packed 4 (beAt (texture + 64) 4 (now (file .entry)) ∷ [])) (now (row .exit)) r ⌝ }
+// Puts the numbers that are noted from a place to another, and answers the position behind them.
+fn put_materials(notes: &[u32], from: usize, to: usize, at: usize, row: &mut [u8]) -> usize
+    requires { ⌜ (from ≤ to) × (to ≤ length (now notes)) × (at + 4 * (to - from) ≤ length (now row)) ⌝ }
+    ensures { λ r. ⌜ Put (now (row .entry)) at (packed 4 (slice from to (now (notes .entry)))) (now (row .exit)) r ⌝ }
 {
-    put_long(long_at(file, texture + 64) as u32, at, row)
+    let mut behind = at;
+    let mut i = from;
+    while i < to {
+        behind = put_long(notes[i], behind, row);
+        i += 1;
+    }
+    behind
 }
 
-// Fills the rows from the sub-chunks of an OBJ5 that has been checked.
-fn fill(file: &[u8], from: usize, to: usize, objects: &mut [u8], materials: &mut [u8])
-    requires { ⌜ Fillable (now file) from to (length (now objects)) (length (now materials)) ⌝ }
-    ensures { λ _. ⌜ FilledIs (now (file .entry)) from to (now (objects .entry)) (now (materials .entry)) (now (objects .exit)) (now (materials .exit)) ⌝ }
+// Fills the rows from the notes of so many objects.
+fn fill(notes: &[u32], count: usize, objects: &mut [u8], materials: &mut [u8])
+    requires { ⌜ Fillable (now notes) count (length (now objects)) (length (now materials)) ⌝ }
+    ensures { λ _. ⌜ FilledIs (now (notes .entry)) count (now (objects .entry)) (now (materials .entry)) (now (objects .exit)) (now (materials .exit)) ⌝ }
 {
-    let mut at = from;
-    let mut begun = from;
-    let mut present = 0usize;
-    let mut textures = 0usize;
+    let mut i = 0usize;
+    let mut from = 0usize;
     let mut row = 0usize;
     let mut behind = 0usize;
-    while at < to {
-        let head = object_head(file, at);
-        let id = head.id;
-        let next = at + (4 + head.len);
-        if id == T_END {
-            row = put_object(begun, combination(present), textures, row, objects);
-            present = 0;
-            textures = 0;
-            at = next;
+    while i < count {
+        let noted = notes[from] as usize;
+        i += 1;
+        if noted / 16 % 2 == 0 {
+            row = put_object(noted / 32, noted % 16, 0, row, objects);
+            from += 1;
             continue;
         }
-        if id == T_OBJECT {
-            begun = at;
-            at = next;
-            continue;
-        }
-        present = with_any(present, id);
-        if id != T_TEXTURE {
-            at = next;
-            continue;
-        }
-        behind = put_material(file, at, behind, materials);
-        textures += 1;
-        // a texture has 64 bytes: the next step need not wait for its size
-        at += 68;
+        let textures = notes[from + 1] as usize;
+        let next = from + 2 + textures;
+        row = put_object(noted / 32, noted % 16, textures, row, objects);
+        behind = put_materials(notes, from + 2, next, behind, materials);
+        from = next;
     }
 }
 
-// The objects of a file, three numbers each, and the materials of all of them. Answers how many objects there are, or the
-// refusal; a refusal leaves both rows as they were.
-pub fn list(file: &[u8], objects: &mut [u8], materials: &mut [u8]) -> Found
+// The list, with a row for the notes.
+fn list_with(file: &[u8], notes: &mut [u32], objects: &mut [u8], materials: &mut [u8]) -> Found
+    requires { ⌜ (length (now file) ≤ limit → length (now file) ≤ 8 * length (now notes)) ⌝ }
     ensures answer { λ r. ⌜ r ≡ c4dListCall objectBytes (numberBytes 4) (now (file .entry)) (now (objects .entry)) (now (materials .entry)) .answer ⌝ }
     ensures rows { λ _. ⌜ twoRows (now (objects .exit)) (now (materials .exit)) ≡ c4dListCall objectBytes (numberBytes 4) (now (file .entry)) (now (objects .entry)) (now (materials .entry)) .rows ⌝ }
 {
-    match read(file) {
+    match read(file, notes) {
         Checked::Refused(r) => Found::Refused(r),
         Checked::Good(figure) => {
             let n = figure.objects;
@@ -99,8 +83,22 @@ pub fn list(file: &[u8], objects: &mut [u8], materials: &mut [u8]) -> Found
             if materials.len() / 4 < m {
                 return Found::Refused(Refusal::NoRoom(m));
             }
-            fill(file, figure.from, figure.to, objects, materials);
+            fill(notes, n, objects, materials);
             Found::Objects(n)
         }
     }
+}
+
+// The objects of a file, three numbers each, and the materials of all of them. Answers how many objects there are, or the
+// refusal; a refusal leaves both rows as they were. A short file needs few notes, which are quicker made.
+pub fn list(file: &[u8], objects: &mut [u8], materials: &mut [u8]) -> Found
+    ensures answer { λ r. ⌜ r ≡ c4dListCall objectBytes (numberBytes 4) (now (file .entry)) (now (objects .entry)) (now (materials .entry)) .answer ⌝ }
+    ensures rows { λ _. ⌜ twoRows (now (objects .exit)) (now (materials .exit)) ≡ c4dListCall objectBytes (numberBytes 4) (now (file .entry)) (now (objects .entry)) (now (materials .entry)) .rows ⌝ }
+{
+    if file.len() <= 16384 {
+        let mut few = [0u32; 2048];
+        return list_with(file, &mut few, objects, materials);
+    }
+    let mut notes = [0u32; 131072];
+    list_with(file, &mut notes, objects, materials)
 }

@@ -1,2 +1,2 @@
-pub mod Loop
-pub mod Given
+pub mod Notes
+pub mod Walking

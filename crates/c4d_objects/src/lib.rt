@@ -1,23 +1,23 @@
-// OBJ5: its sub-chunks one after another, each judged where it stands.
+// OBJ5: its objects one after another. What a list needs of them is noted, so that it need not go over the sub-chunks again.
 use c4d_blocks::Seen;
 use c4d_blocks::object_at;
-use c4d_held::Judged;
-use c4d_held::closed;
-use c4d_held::judge;
+use c4d_held::Outside;
+use c4d_held::judge_outside;
+use c4d_object::One;
+use c4d_object::note;
+use c4d_object::object;
 use shared_words::Refusal;
 ghost use mathlib.Core.Path.{_≡_};
-ghost use mathlib.Core.Option.{Option, none};
-ghost use Prim.Native.Nat.{ℕ, _+_, _≤_};
+ghost use mathlib.Core.Option.{none};
+ghost use Prim.Native.Nat.{_+_, _≤_};
 ghost use lib.ListN.{length};
-ghost use lib.Seq.{slice};
-ghost use Rattle.c4d_rules.specs.Read.{walk};
-ghost use Rattle.c4d_rules.specs.Walk.{objectGrammar};
-ghost use Rattle.c4d_held.specs.Held.{belowOf};
-ghost use Rattle.c4d_objects.specs.Tally.{tallyFrom, Few};
+ghost use Rattle.shared_numbers.specs.Put.{Put};
+ghost use Rattle.c4d_rules.specs.Rules.{limit};
+ghost use Rattle.c4d_held.specs.Held.{lastOf};
+ghost use Rattle.c4d_object.specs.Ahead.{ahead};
+ghost use Rattle.c4d_objects.specs.Notes.{front, tallied, Few, Notes};
 
-const T_END: usize = 0;
-
-const T_TEXTURE: usize = 23;
+const T_OBJECT: usize = 1;
 
 // How many objects and textures there are.
 pub enum Tally {
@@ -25,34 +25,60 @@ pub enum Tally {
     Refused(Refusal),
 }
 
+// Notes an object in front of its materials, and answers the place behind these.
+fn note_object(
+    offset: usize,
+    number: usize,
+    textures: usize,
+    row: usize,
+    notes: &mut [u32],
+) -> usize
+    requires { ⌜ (offset ≤ limit) × (number ≤ 9) × (textures ≤ limit) × (row ≤ limit) ⌝ }
+    ensures is { λ r. ⌜ r ≡ row + length (front offset number textures) + textures ⌝ }
+    ensures noted { λ _. ⌜ (row + length (front offset number textures) ≤ length (now (notes .entry)) → Put (now (notes .entry)) row (front offset number textures) (now (notes .exit)) (row + length (front offset number textures))) ⌝ }
+{
+    if textures == 0 {
+        note(32 * offset + number, row, notes);
+        return row + 1;
+    }
+    note(32 * offset + 16 + number, row, notes);
+    note(textures, row + 1, notes);
+    row + 2 + textures
+}
+
 // The OBJ5 at a position, which ends at another, in a file whose materials are below a number.
-pub fn objects(file: &[u8], chunk: usize, to: usize, below: usize) -> Tally
-    requires { ⌜ (chunk + 8 ≤ to) × (to ≤ length (now file)) × (below ≤ 0x8000_0000) ⌝ }
-    ensures is { λ r. ⌜ ((last : Option ℕ) → below ≡ belowOf last → r ≡ tallyFrom 0 0 (walk (objectGrammar last chunk) none (chunk + 8) (slice (chunk + 8) to (now (file .entry))))) ⌝ }
+pub fn objects(file: &[u8], chunk: usize, to: usize, below: usize, notes: &mut [u32]) -> Tally
+    requires { ⌜ (chunk + 8 ≤ to) × (to ≤ length (now file)) × (to ≤ limit) × (below ≤ 0x8000_0000) ⌝ }
+    ensures is { λ r. ⌜ r ≡ tallied (ahead (now (file .entry)) (lastOf below) chunk to (chunk + 8) none (chunk + 8)) ⌝ }
     ensures few { λ r. ⌜ Few to r ⌝ }
+    ensures noted { λ _. ⌜ Notes (now (file .entry)) (ahead (now (file .entry)) (lastOf below) chunk to (chunk + 8) none (chunk + 8)) (now (notes .entry)) (now (notes .exit)) ⌝ }
 {
     let mut at = chunk + 8;
-    let mut held = closed();
-    let mut ended = 0usize;
+    let mut count = 0usize;
     let mut textures = 0usize;
+    let mut row = 0usize;
     while at < to {
         let Seen::Block(id, len) = object_at(file, at, to) else {
             return Tally::Refused(Refusal::Overrun(at));
         };
-        match judge(file, at, id, len, below, held) {
-            Judged::Refused(r) => {
+        if id != T_OBJECT {
+            if let Outside::Refused(r) = judge_outside(at, id, len) {
                 return Tally::Refused(r);
             }
-            Judged::Fine(next) => {
-                held = next;
+            at += 4 + len;
+            continue;
+        }
+        match object(file, chunk, at + (4 + len), to, below, row, notes) {
+            One::Refused(r) => {
+                return Tally::Refused(r);
+            }
+            One::Whole(end, number, more) => {
+                row = note_object(at, number, more, row, notes);
+                textures += more;
+                at = end;
             }
         }
-        ended += (id == T_END) as usize;
-        textures += (id == T_TEXTURE) as usize;
-        at += 4 + len;
+        count += 1;
     }
-    if held.inside {
-        return Tally::Refused(Refusal::Order(chunk));
-    }
-    Tally::Count(ended, textures)
+    Tally::Count(count, textures)
 }

@@ -24,20 +24,6 @@ pub fn with_part(present: usize, id: usize) -> usize
     present + (1 << (id - 16))
 }
 
-// With one sub-chunk more, listed or not.
-pub fn with_any(present: usize, id: usize) -> usize
-    requires { ⌜ present < 131072 ⌝ }
-    ensures { λ r. ⌜ ((ids : List ℕ) → present ≡ bits ids → r ≡ bits (ids ++ (id ∷ []))) ⌝ }
-{
-    if id < 16 {
-        return present;
-    }
-    if 32 < id {
-        return present;
-    }
-    with_part(present, id)
-}
-
 // Without those that any object may have.
 fn exclusive(present: usize) -> usize
     ensures { λ r. ⌜ r ≡ exclusiveIn present ⌝ }

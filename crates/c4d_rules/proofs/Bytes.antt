@@ -5,7 +5,7 @@ use native.Mathlib.Omega.{arith}
 use mathlib.Core.List.{List, _++_}
 use lib.ListN.{length, take, drop, length-take, length-drop, take-append-drop}
 use lib.Seq.{drop-drop}
-use Rattle.shared_words.specs.Bytes.{valueBe, be, Bytes}
+use Rattle.shared_words.specs.Bytes.{valueBe, be}
 use Rattle.shared_words.proofs.Bytes.{bytes-take, bytes-drop}
 use Rattle.shared_words.proofs.BigEndian.{value-be, be-value}
 use Rattle.c4d_rules.specs.Layout.{form, mc4d, fileHeader}

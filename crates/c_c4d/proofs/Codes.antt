@@ -1,6 +1,6 @@
 -- There are fewer objects than bytes: each has a T_END, whose header takes four.
-use mathlib.Core.Path.{_≡_, refl, sym, ap, _∙_, subst}
-use Prim.Native.Nat.{ℕ, _+_, _*_, _^_, _<_, _≤_}
+use mathlib.Core.Path.{_≡_, refl, ap}
+use Prim.Native.Nat.{ℕ, _+_, _≤_}
 use native.Mathlib.Omega.{arith}
 use mathlib.Core.Bool.{Bool, true, false, cond}
 use mathlib.Core.List.{List, [], _∷_, _++_}
@@ -14,7 +14,7 @@ use Rattle.shared_flat.specs.Flat.{Obeys, records}
 use Rattle.c4d_rules.specs.declared.Found.{Found}
 use Rattle.c4d_rules.specs.Blocks.{Block, size, blockBytes, allBytes, itself}
 use Rattle.c4d_rules.specs.Kinds.{Kind, Platform, Materials, Objects, Other, tEnd, tObject}
-use Rattle.c4d_rules.specs.Layout.{Inside, plain, subs, Chunk, Layout, kind, insideBytes, block, bytes}
+use Rattle.c4d_rules.specs.Layout.{Inside, plain, subs, Layout, kind, insideBytes, block}
 use Rattle.c4d_rules.specs.Rules.{Open, soFar, objectId, afterObject, ObjectRules, Before, start, after, InsideObeys, ChunkRules, limit}
 use Rattle.c4d_rules.specs.Walk.{verdict}
 use Rattle.c4d_rules.specs.Gives.{Object, objectAt, objectsFrom, objectsInside, cinema, objects}

@@ -9,11 +9,11 @@ const MAJOR: u64 = 2;
 const MINOR: u64 = 6;
 
 // Grows where nothing changes that a program can ask for.
-const PATCH: u64 = 0;
+const PATCH: u64 = 1;
 
 // The version.
 pub fn version() -> u64
-    ensures { λ n. ⌜ n ≡ versionCode 2 6 0 ⌝ }
+    ensures { λ n. ⌜ n ≡ versionCode 2 6 1 ⌝ }
 {
     65536 * MAJOR + 256 * MINOR + PATCH
 }

@@ -33,7 +33,7 @@ ghost use Rattle.c_sums.specs.Numbers.{sumsOr, zeroOr, sumIn, withPartNumber, j
 // The version of the library.
 #[no_mangle]
 pub extern "C" fn tds_version() -> u64
-    ensures { λ n. ⌜ n ≡ versionCode 2 6 0 ⌝ }
+    ensures { λ n. ⌜ n ≡ versionCode 2 6 1 ⌝ }
 {
     c_version::version()
 }

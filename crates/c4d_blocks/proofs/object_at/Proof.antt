@@ -1,5 +1,5 @@
 -- The two parts of the header, and what is left behind it.
-use mathlib.Core.Path.{_≡_, sym, ap, _∙_}
+use mathlib.Core.Path.{sym, ap, _∙_}
 use Prim.Native.Nat.{ℕ, _+_, _/_, _%_, _≤_}
 use native.Mathlib.Omega.{arith}
 use Rattle.c4d_rules.specs.Blocks.{objectHeader}

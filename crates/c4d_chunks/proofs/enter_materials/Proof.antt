@@ -1,8 +1,6 @@
 -- MAT4 stands before OBJ5, and once.
-use mathlib.Core.Path.{_≡_, sym, ap, _∙_, subst}
-use Prim.Native.Nat.{ℕ, _+_, _≤_}
+use mathlib.Core.Path.{sym, _∙_, subst}
 use native.Mathlib.Omega.{arith}
-use Rattle.c4d_materials.specs.declared.Nexts.{Nexts}
 use Rattle.c4d_materials.specs.Counted.{Few}
 use Rattle.c4d_chunks.proofs.Entered.{materials-order, materials-again, materials-late, materials-refused, materials-known}
 use borrow.Author.Needs.{needs}
@@ -10,12 +8,12 @@ use Rattle.c4d_chunks.proofs.enter_materials.Statement.{statement}
 use Rattle.c4d_chunks.proofs.enter_materials.Tie as tie
 
 returns : tie.Need-returns
-returns c = λ id e len p rs q t a g.
+returns c = λ notes id e len p rs notes₀ q t a g.
     let x = c .before .before .before .args in
     materials-again (x .file .now) (x .at) id len p rs t (x .state) g e (x .end) q (c .if1 .taken)
 
 returns-2 : tie.Need-returns-2
-returns-2 c = λ id e len p rs q t a g.
+returns-2 c = λ notes id e len p rs notes₀ q t a g.
     let x = c .before .before .before .before .args in
     materials-late (x .file .now) (x .at) id len p rs t (x .state) g e (x .end) q (c .if2 .taken)
 
@@ -35,7 +33,7 @@ add-t13 c =
     omega arith
 
 returns-3 : tie.Need-returns-3
-returns-3 c = λ id e len p rs q t a g.
+returns-3 c = λ notes id e len p rs notes₀ q t a g.
     let ran = c .before .before .before in
     let x = ran .before .before .before .before .before .before .args in
     let o = materials-order (x .file .now) (x .at) id len p rs t (x .state) g e (x .end) q (ran .before .before .before .if1 .left) (ran .before .before .if2 .left) in
@@ -43,7 +41,7 @@ returns-3 c = λ id e len p rs q t a g.
     materials-refused (x .file .now) (x .at) id len p rs t (x .state) g e (x .end) q o (d .0 .0) (sym (d .1) ∙ ran .materials .ensures .0)
 
 returns-4 : tie.Need-returns-4
-returns-4 c = λ id e len p rs q t a g.
+returns-4 c = λ notes id e len p rs notes₀ q t a g.
     let ran = c .before .before .before in
     let start = ran .before .before .before .before .before .before in
     let x = start .args in

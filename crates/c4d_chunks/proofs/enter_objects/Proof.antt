@@ -6,8 +6,8 @@ use Rattle.c4d_chunks.proofs.enter_objects.Statement.{statement}
 use Rattle.c4d_chunks.proofs.enter_objects.Tie as tie
 
 returns : tie.Need-returns
-returns c = λ id e len p rs q t a g.
-    let x = c .before .before .args in
+returns c = λ id e len p rs notes₀ q t a g.
+    let x = c .before .before .before .args in
     objects-again (x .file .now) (x .at) id len p rs t (x .state) g e (x .end) q (c .if1 .taken)
 
 objects-requires : tie.Need-objects-requires
@@ -19,26 +19,27 @@ enum-known-r c = search needs
 enum-known-n : tie.Need-enum-known-n
 enum-known-n c = search needs
 
-add-t12 : tie.Need-add-t12
-add-t12 c = search needs
+same-length : tie.Need-same-length
+same-length c = search needs
 
 returns-2 : tie.Need-returns-2
-returns-2 c = λ id e len p rs q t a g.
-    let ran = c .before .before .before in
-    let x = ran .before .before .before .args in
+returns-2 c = λ id e len p rs notes₀ q t a g.
+    let x = c .before .before .before .before .before .before .before .before .before .before .args in
     let d = c .before .r .given in
-    objects-refused (x .file .now) (x .at) id len p rs t (x .state) g e (x .end) q (ran .before .if1 .left) (d .0 .0)
-    (sym (d .1) ∙ ran .objects .ensures .0 (p .last) (g .below-is))
+    objects-refused (x .file .now) (x .at) id len p rs t (x .state) g e (x .end) q (c .before .before .before .before .before .before .before .if1 .left) (d .0 .0) (sym (d .1) ∙ c .before .before .before .before .before .objects .ensures .0)
+
+same-length-2 : tie.Need-same-length-2
+same-length-2 c = search needs
 
 returns-3 : tie.Need-returns-3
-returns-3 c = λ id e len p rs q t a g.
-    let ran = c .before .before .before in
-    let x = ran .before .before .before .args in
+returns-3 c = λ id e len p rs notes₀ q t a g.
+    let x = c .before .before .before .before .before .before .before .before .before .before .args in
+    let ran = c .before .before .before .before .before .objects in
     let d = c .before .n .given in
-    objects-known (x .file .now) (x .at) id len p rs t (x .state) g e (x .end) q (ran .before .if1 .left) (d .0 .0) (d .0 .1 .0)
-    (sym (d .1) ∙ ran .objects .ensures .0 (p .last) (g .below-is))
+    objects-known (x .file .now) (x .at) id len p rs t (x .state) g e (x .end) q (c .before .before .before .before .before .before .before .if1 .left) (d .0 .0) (d .0 .1 .0) (ran .last .1 .1 .1 .1 .0)
+    (sym (d .1) ∙ ran .ensures .0) (ran .ensures .1 .1)
 
 pub enter-objects-spec : {M : Type 1} → statement M
 enter-objects-spec =
     tie.close
-    (tie.spec returns objects-requires enum-known-r enum-known-n add-t12 returns-2 returns-3)
+    (tie.spec returns objects-requires enum-known-r enum-known-n same-length returns-2 same-length-2 returns-3)

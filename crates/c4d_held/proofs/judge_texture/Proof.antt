@@ -1,24 +1,18 @@
--- A texture: its size, its place, its material.
-use mathlib.Core.Path.{_≡_, sym, ap, _∙_}
+-- A texture: its size, then its material.
+use mathlib.Core.Path.{refl, sym, ap, _∙_}
 use native.Mathlib.Omega.{arith}
+use mathlib.Core.Option.{some}
 use borrow.Author.Tests.{not-true, not-false, ne-eqb, eq-eqb}
-use Rattle.c4d_rules.specs.Kinds.{tTexture}
-use Rattle.c4d_held.specs.declared.Judged.{Judged}
-use Rattle.c4d_held.specs.Held.{isMaterial}
-use Rattle.c4d_held.proofs.Conditions.{inside-is, texture-long, texture-outside, texture-none, texture-fine, held-with}
+use Rattle.c4d_held.specs.Held.{lastOf, isMaterial}
+use Rattle.c4d_held.proofs.Conditions.{texture-long, texture-none, texture-fine}
 use borrow.Author.Needs.{needs}
 use Rattle.c4d_held.proofs.judge_texture.Statement.{statement}
 use Rattle.c4d_held.proofs.judge_texture.Tie as tie
 
 returns : tie.Need-returns
-returns c = λ b last o i l h.
+returns c = λ b bs i.
     let a = c .before .before .args in
-    sym (texture-long b last o (a .at) (i .id-is) (ne-eqb _ 64 (λ e. c .if1 .taken (sym (i .len-is) ∙ e))))
-
-returns-2 : tie.Need-returns-2
-returns-2 c = λ b last o i l h.
-    let a = c .before .before .before .before .args in
-    sym (texture-outside b last o (a .at) (i .id-is) (eq-eqb _ 64 (i .len-is ∙ c .before .before .if1 .left)) (sym (inside-is o h) ∙ not-true _ (c .if2 .taken)))
+    texture-long b (lastOf (a .below)) (some bs) (a .at) (i .id-is) (ne-eqb _ 64 (λ e. c .if1 .taken (sym (i .len-is) ∙ e)))
 
 add-long-at : tie.Need-add-long-at
 add-long-at c = search needs
@@ -29,38 +23,30 @@ long-at-requires c κs = search needs
 is-material-requires : tie.Need-is-material-requires
 is-material-requires c κs = search needs
 
-returns-3 : tie.Need-returns-3
-returns-3 c = λ b last o i l h.
+returns-2 : tie.Need-returns-2
+returns-2 c = λ b bs i.
     let read = c .before .before in
-    let sized = read .before .before .before in
+    let sized = read .before in
     let a = sized .before .before .args in
     let m = i .material-is (sized .if1 .left) ∙ sym (read .long-at .ensures .is) in
-    sym (texture-none b last o (a .at) (i .id-is) (eq-eqb _ 64 (i .len-is ∙ sized .if1 .left)) (sym (inside-is o h) ∙ not-false _ (read .before .if2 .left))
-    (ap (isMaterial last) m ∙ sym (c .before .is-material .ensures last l) ∙ not-true _ (c .if3 .taken)))
+    texture-none b (lastOf (a .below)) (some bs) (a .at) (i .id-is) (eq-eqb _ 64 (i .len-is ∙ sized .if1 .left)) refl
+    (ap (isMaterial (lastOf (a .below))) m ∙ sym (c .before .is-material .ensures) ∙ not-true _ (c .if2 .taken))
 
-noted-requires : tie.Need-noted-requires
-noted-requires c κs = search needs
-
-returns-4 : tie.Need-returns-4
-returns-4 c = λ b last o i l h.
-    let read = c .before .before .before in
-    let sized = read .before .before .before in
+returns-3 : tie.Need-returns-3
+returns-3 c = λ b bs i.
+    let read = c .before .before in
+    let sized = read .before in
     let a = sized .before .before .args in
-    let m = i .material-is (sized .if1 .left) ∙ sym (read .long-at .ensures .is) in
-    let k = sym (inside-is o h) ∙ not-false _ (read .before .if2 .left) in
-    ap Judged.Fine (held-with o b tTexture (i .id-is) k h (c .noted .ensures)) ∙
-    sym (texture-fine b last o (a .at) (i .id-is) (eq-eqb _ 64 (i .len-is ∙ sized .if1 .left)) k
-    (ap (isMaterial last) m ∙ sym (c .before .before .is-material .ensures last l) ∙ not-false _ (c .before .if3 .left)))
+    let n = read .long-at .ensures .small in
+    let m = i .material-is (sized .if1 .left) ∙ sym (read .long-at .ensures .is) in (
+      texture-fine b (lastOf (a .below)) (some bs) (a .at) (i .id-is) (eq-eqb _ 64 (i .len-is ∙ sized .if1 .left)) refl
+          (ap (isMaterial (lastOf (a .below))) m ∙ sym (c .before .is-material .ensures) ∙ not-false _ (c .if2 .left)),
+      i .len-is ∙ sized .if1 .left,
+      sym m,
+      n,
+    )
 
 pub judge-texture-spec : {M : Type 1} → statement M
 judge-texture-spec =
     tie.close
-    (tie.spec
-    returns
-    returns-2
-    add-long-at
-    long-at-requires
-    is-material-requires
-    returns-3
-    noted-requires
-    returns-4)
+    (tie.spec returns add-long-at long-at-requires is-material-requires returns-2 returns-3)

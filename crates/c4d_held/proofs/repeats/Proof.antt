@@ -1,5 +1,5 @@
 -- Repeated before, or now.
-use mathlib.Core.Path.{_≡_, sym, ap, _∙_}
+use mathlib.Core.Path.{sym, ap, _∙_}
 use mathlib.Core.Bool.{not, true, false}
 use Rattle.c4d_rules.specs.Combinations.{onceEach}
 use Rattle.c4d_held.specs.declared.Held.{Held}

@@ -1,206 +1,213 @@
--- The loop's invariant: what the sub-chunks left over give stands where it will be put.
-use mathlib.Core.Path.{_≡_, sym, _∙_}
-use mathlib.Core.Bool.{true, false}
-use mathlib.Core.List.{List}
-use Prim.Native.Nat.{ℕ, _+_, _-_, _<_, _≤_}
+-- The loop's invariant: the objects so far stand in the rows, and the notes of the others are left.
+use mathlib.Core.Path.{_≡_, refl, ap, _∙_}
+use Prim.Native.Nat.{ℕ, _+_, _-_, _/_, _%_, _<_, _≤_}
 use native.Mathlib.Omega.{arith}
-use lib.Dec.{eqb}
-use lib.ListN.{length}
-use borrow.Author.Tests.{eq-eqb}
-use Rattle.c4d_rules.specs.Kinds.{tEnd, tObject, tTexture}
-use Rattle.c4d_rules.specs.Rules.{soFar, objectId, identifiers}
-use Rattle.c4d_parts.proofs.Bits.{bits-below}
-use Rattle.c4d_held.proofs.Conditions.{not-this}
+use mathlib.Core.List.{List, [], _∷_}
+use lib.ListN.{length, getD}
+use lib.Seq.{slice}
+use Rattle.shared_numbers.proofs.Put.{put-none}
+use Rattle.c4d_objects.specs.Notes.{front}
+use Rattle.c4d_objects.proofs.Notes.{front-alone, front-some}
 use Rattle.c4d_list.specs.Filled.{Fillable}
-use Rattle.c4d_list.proofs.Filling.{Filling, no-left, Here, header-fits, look, end-room, ended, started, passed, texture-fits, texture-room, textured, Going, starting}
+use Rattle.c4d_list.proofs.Noted.{reach, second, those, pair-long, has-none, has-some, offset-of, number-of}
+use Rattle.c4d_list.proofs.Filling.{Filling, filling-none, all-filled, Next, next, small, rest, here, object-room, material-room, one-more}
 use borrow.Author.Needs.{needs}
 use Rattle.c4d_list.proofs.fill.Statement.{statement}
 use Rattle.c4d_list.proofs.fill.Tie as tie
 
 abbrev Inv-loop : tie.InvT-loop
-Inv-loop file from to objects₀ materials₀ at₀ begun₀ present₀ textures₀ row₀ behind₀ objects materials at begun present textures row behind =
-    Going file from to objects₀ materials₀ at begun present textures row behind objects materials
+Inv-loop notes count objects₀ materials₀ i₀ from₀ row₀ behind₀ objects materials i from row behind =
+    (g : Fillable notes count (length objects₀) (length materials₀)) → Filling objects₀ materials₀ g objects materials i from row behind
 
 abbrev μ-loop : tie.MeasureT-loop
-μ-loop file from to objects₀ materials₀ at₀ begun₀ present₀ textures₀ row₀ behind₀ objects materials at begun present textures row behind = to - at
+μ-loop notes count objects₀ materials₀ i₀ from₀ row₀ behind₀ objects materials i from row behind = count - i
 
--- ---- a sub-chunk is there
+-- ---- an object is left
 
-abbrev file : tie.After-object-head Inv-loop μ-loop → List ℕ
-file x = x .before .before .before .before .before .before .args .file .now
+abbrev Left : Type 0
+Left = tie.In-loop Inv-loop μ-loop
 
-abbrev from : tie.After-object-head Inv-loop μ-loop → ℕ
-from x = x .before .before .before .before .before .before .args .from
+abbrev notes : Left → List ℕ
+notes d = d .before .before .before .before .before .args .notes .now
 
-abbrev to : tie.After-object-head Inv-loop μ-loop → ℕ
-to x = x .before .before .before .before .before .before .args .to
+abbrev objects₀ : Left → List ℕ
+objects₀ d = d .before .before .before .before .before .args .objects .now
 
-abbrev objects₀ : tie.After-object-head Inv-loop μ-loop → List ℕ
-objects₀ x = x .before .before .before .before .before .before .args .objects .now
+abbrev materials₀ : Left → List ℕ
+materials₀ d = d .before .before .before .before .before .args .materials .now
 
-abbrev materials₀ : tie.After-object-head Inv-loop μ-loop → List ℕ
-materials₀ x = x .before .before .before .before .before .before .args .materials .now
+abbrev from : Left → ℕ
+from d = d .before .loop .from
 
-abbrev at : tie.After-object-head Inv-loop μ-loop → ℕ
-at x = x .before .before .loop .at
+-- the notes' first number
+abbrev noted : Left → ℕ
+noted d = getD (notes d) (from d) 0
 
-abbrev id : tie.After-object-head Inv-loop μ-loop → ℕ
-id x = x .object-head .result .id
+abbrev Given : Left → Type 0
+Given d = Fillable (notes d) (d .before .before .before .before .before .args .count) (length (objects₀ d)) (length (materials₀ d))
 
-abbrev len : tie.After-object-head Inv-loop μ-loop → ℕ
-len x = x .object-head .result .len
+filling : (d : Left) (g : Given d) → Filling (objects₀ d) (materials₀ d) g (d .before .loop .objects) (d .before .loop .materials) (d .before .loop .i) (from d) (d .before .loop .row) (d .before .loop .behind)
+filling d g = d .before .loop .inv g
 
-abbrev Given : tie.After-object-head Inv-loop μ-loop → Type 0
-Given x = Fillable (file x) (from x) (to x) (length (objects₀ x)) (length (materials₀ x))
+one : (d : Left) (g : Given d) → Next (objects₀ d) (materials₀ d) g (filling d g)
+one d g = next (objects₀ d) (materials₀ d) g (filling d g) (omega arith)
 
-given : (x : tie.After-object-head Inv-loop μ-loop) → Given x
-given x = x .before .before .before .before .before .before .pre
+abbrev pre : (d : Left) → Given d
+pre d = d .before .before .before .before .before .pre
 
-left : (x : tie.After-object-head Inv-loop μ-loop) → at x < to x
-left x = omega arith
+reaches : (d : Left) (g : Given d) → let r = one d g .r in from d + (length (front (r .offset) (r .combination) (length (r .materials))) + length (r .materials)) ≤ length (notes d)
+reaches d g =
+    let w = filling d g in
+    let n = one d g in
+    reach (notes d) (from d) (n .r) (rest (objects₀ d) (materials₀ d) g w n) (here (objects₀ d) (materials₀ d) g w n)
 
-abbrev State : (x : tie.After-object-head Inv-loop μ-loop) → Given x → Type 0
-State x g =
-    let l = x .before .before .loop in
-    Filling (file x) (from x) (to x) (objects₀ x) (materials₀ x) g (l .at) (l .begun) (l .present) (l .textures) (l .row) (l .behind) (l .objects) (l .materials)
+first-there : (d : Left) → from d < length (notes d)
+first-there d =
+    let r = one d (pre d) .r in
+    omega (arith, reaches d (pre d), front-some (r .offset) (r .combination) (length (r .materials)))
 
-state : (x : tie.After-object-head Inv-loop μ-loop) (g : Given x) → State x g
-state x g = x .before .before .loop .inv g
+offset-is : (d : Left) (g : Given d) → noted d / 32 ≡ one d g .r .offset
+offset-is d g =
+    let w = filling d g in
+    let n = one d g in
+    offset-of (notes d) (from d) (n .r) (rest (objects₀ d) (materials₀ d) g w n) (here (objects₀ d) (materials₀ d) g w n) (small (objects₀ d) (materials₀ d) g w n) (noted d) refl
 
-here : (x : tie.After-object-head Inv-loop μ-loop) (g : Given x) → Here (file x) (from x) (to x) (objects₀ x) (materials₀ x) g (state x g) (id x) (len x)
-here x g = look (file x) (from x) (to x) (objects₀ x) (materials₀ x) g (state x g) (left x) (id x) (len x) (x .object-head .ensures)
+number-is : (d : Left) (g : Given d) → noted d % 16 ≡ one d g .r .combination
+number-is d g =
+    let w = filling d g in
+    let n = one d g in
+    number-of (notes d) (from d) (n .r) (rest (objects₀ d) (materials₀ d) g w n) (here (objects₀ d) (materials₀ d) g w n) (small (objects₀ d) (materials₀ d) g w n) (noted d) refl
+
+none-there : (d : Left) (g : Given d) → noted d / 16 % 2 ≡ 0 → length (one d g .r .materials) ≡ 0
+none-there d g z =
+    let w = filling d g in
+    let n = one d g in
+    has-none (notes d) (from d) (n .r) (rest (objects₀ d) (materials₀ d) g w n) (here (objects₀ d) (materials₀ d) g w n) (small (objects₀ d) (materials₀ d) g w n) (noted d) refl z
+
+room-there : (d : Left) (g : Given d) → d .before .loop .row + 12 ≤ length (d .before .loop .objects)
+room-there d g = object-room (objects₀ d) (materials₀ d) g (filling d g) (one d g)
+
+no-materials : (ms : List ℕ) → length ms ≡ 0 → ms ≡ []
+no-materials [] e = refl
+no-materials (m ∷ ms) e = absurd (omega arith)
+
+-- ---- it has textures
+
+module _ (d : Left) (g : Given d) (z : noted d / 16 % 2 ≡ 0 → ⊥) where
+  some-there : length (one d g .r .materials) ≡ 0 → ⊥
+  some-there =
+      let w = filling d g in
+      let n = one d g in
+      has-some (notes d) (from d) (n .r) (rest (objects₀ d) (materials₀ d) g w n) (here (objects₀ d) (materials₀ d) g w n) (small (objects₀ d) (materials₀ d) g w n) (noted d) refl z
+
+  count-there : getD (notes d) (from d + 1) 0 ≡ length (one d g .r .materials)
+  count-there =
+      let w = filling d g in
+      let n = one d g in
+      second (notes d) (from d) (n .r) (rest (objects₀ d) (materials₀ d) g w n) (here (objects₀ d) (materials₀ d) g w n) some-there
+
+  long-there : let r = one d g .r in length (front (r .offset) (r .combination) (length (r .materials))) ≡ 2
+  long-there =
+      let w = filling d g in
+      let n = one d g in
+      pair-long (notes d) (from d) (n .r) (rest (objects₀ d) (materials₀ d) g w n) (here (objects₀ d) (materials₀ d) g w n) some-there
+
+  materials-there : slice (from d + 2) (from d + 2 + getD (notes d) (from d + 1) 0) (notes d) ≡ one d g .r .materials
+  materials-there =
+      let w = filling d g in
+      let n = one d g in
+      ap (λ (k : ℕ). slice (from d + 2) (from d + 2 + k) (notes d)) count-there ∙
+      those (notes d) (from d) (n .r) (rest (objects₀ d) (materials₀ d) g w n) (here (objects₀ d) (materials₀ d) g w n) some-there
+
+  next-there : from d + 2 + getD (notes d) (from d + 1) 0 ≤ length (notes d)
+  next-there = omega (arith, reaches d g, long-there, count-there)
 
 loop-holds : tie.Need-loop-holds Inv-loop μ-loop
-loop-holds c =
-    let a = c .before .before .before .args in
-    starting (a .file .now) (a .from) (a .to) (a .objects .now) (a .materials .now)
+loop-holds c = λ g. filling-none (c .before .before .before .args .objects .now) (c .before .before .before .args .materials .now) g
 
-object-head-requires : tie.Need-object-head-requires Inv-loop μ-loop
-object-head-requires c κs =
-    let start = c .before .before .before .before .before in
-    let a = start .args in
-    let g = start .pre in
-    let w = g .whole in
-    omega (arith, header-fits (a .file .now) (a .from) (a .to) (a .objects .now) (a .materials .now) g (c .before .loop .inv g) (omega arith))
+mul-noted : tie.Need-mul-noted Inv-loop μ-loop
+mul-noted c = omega (arith, first-there c)
 
-add-next : tie.Need-add-next Inv-loop μ-loop
-add-next c =
-    let x = c .before in
-    omega (arith, here x (given x) .fit, given x .whole)
+shared-slice-read-noted : tie.Need-shared-slice-read-noted Inv-loop μ-loop
+shared-slice-read-noted c = first-there (c .before)
 
-add-next-2 : tie.Need-add-next-2 Inv-loop μ-loop
-add-next-2 c =
-    let x = c .before in
-    omega (arith, here x (given x) .fit, given x .whole)
+cast-noted : tie.Need-cast-noted Inv-loop μ-loop
+cast-noted c = omega (arith, c .shared-slice-known2 .given (from (c .before)))
 
-combination-requires : tie.Need-combination-requires Inv-loop μ-loop
-combination-requires c κs = search needs
+add-i : tie.Need-add-i Inv-loop μ-loop
+add-i c = search needs
 
 put-object-requires : tie.Need-put-object-requires Inv-loop μ-loop
 put-object-requires c κs =
-    let x = c .before .before .before .before in
-    let s = state x (given x) in
-    let w = given x .whole in
-    let z = given x .short in
-    let l = left x in
-    (end-room (file x) (from x) (to x) (objects₀ x) (materials₀ x) (given x) (state x (given x)) (left x) (id x) (len x) (here x (given x)) (c .before .before .if1 .taken), omega (arith, s .begun-near), omega (arith, c .before .combination .ensures .1), omega (arith, s .few))
+    let d = c .before .before .before in
+    let b = c .before .before .shared-slice-known2 .given (from d) in
+    (room-there d (pre d), omega arith, omega arith, omega arith)
+
+add-from : tie.Need-add-from Inv-loop μ-loop
+add-from c = let d = c .before .before .before .before .before .before in omega (arith, first-there d)
 
 loop-less : tie.Need-loop-less Inv-loop μ-loop
-loop-less c =
-    let x = c .before .before .before .before .before .before .before in
-    omega (arith, here x (given x) .fit, left x)
+loop-less c = omega arith
 
 loop-again : tie.Need-loop-again Inv-loop μ-loop
 loop-again c = λ g.
+    let d = c .before .before .before .before .before .before in
+    let n = one d g in
+    let z = none-there d g (c .before .before .before .before .if1 .taken) in
+    let e = no-materials (n .r .materials) z in
+    let l = ap length (front-alone (n .r .offset) (n .r .combination) (length (n .r .materials)) z) in
+    one-more (objects₀ d) (materials₀ d) g (filling d g) n (from d + 1) (omega arith)
+    (rw (← (offset-is d g), ← (number-is d g), z) (c .before .before .put-object .ensures)) (rw e (put-none (d .before .loop .materials) (d .before .loop .behind))) (c .before .objects .given) refl
+
+add-textures : tie.Need-add-textures Inv-loop μ-loop
+add-textures c = let d = c .before .before in omega (arith, first-there d)
+
+mul-textures : tie.Need-mul-textures Inv-loop μ-loop
+mul-textures c = omega (arith, next-there (c .before .before) (pre (c .before .before)) (c .if1 .left))
+
+shared-slice-read-textures : tie.Need-shared-slice-read-textures Inv-loop μ-loop
+shared-slice-read-textures c =
+    let d = c .before .before .before in
+    omega (arith, next-there d (pre d) (c .before .if1 .left))
+
+cast-textures : tie.Need-cast-textures Inv-loop μ-loop
+cast-textures c = omega (arith, c .shared-slice-known3 .given (from (c .before .before .before) + 1))
+
+add-next : tie.Need-add-next Inv-loop μ-loop
+add-next c = let d = c .before .before .before in omega (arith, next-there d (pre d) (c .before .if1 .left))
+
+add-next-2 : tie.Need-add-next-2 Inv-loop μ-loop
+add-next-2 c = let d = c .before .before .before in omega (arith, next-there d (pre d) (c .before .if1 .left))
+
+put-object-requires-2 : tie.Need-put-object-requires-2 Inv-loop μ-loop
+put-object-requires-2 c κs =
     let d = c .before .before .before .before in
-    let x = d .before .before .before in
-    let put = c .before .before in
-    let s = state x g in
-    ended (file x) (from x) (to x) (objects₀ x) (materials₀ x) g (state x g) (left x) (id x) (len x) (here x g) (d .before .if1 .taken) (d .combination .result)
-    (d .combination .ensures .0 (identifiers (soFar (s .held))) (s .present-is)) (put .put-object .ensures)
+    let b = c .before .before .before .shared-slice-known2 .given (from d) in
+    let t = c .before .shared-slice-known3 .given (from d + 1) in
+    (room-there d (pre d), omega arith, omega arith, omega arith)
+
+add-put-materials : tie.Need-add-put-materials Inv-loop μ-loop
+add-put-materials c = let d = c .before .before .before .before .before .before .before in omega (arith, next-there d (pre d) (c .before .before .before .before .before .if1 .left))
+
+put-materials-requires : tie.Need-put-materials-requires Inv-loop μ-loop
+put-materials-requires c κs =
+    let d = c .before .before .before .before .before .before .before .before in
+    let g = pre d in
+    let z = c .before .before .before .before .before .before .if1 .left in
+    (omega arith, next-there d g z, omega (arith, material-room (objects₀ d) (materials₀ d) g (filling d g) (one d g), count-there d g z))
 
 loop-less-2 : tie.Need-loop-less-2 Inv-loop μ-loop
-loop-less-2 c =
-    let x = c .before .before .before in
-    omega (arith, here x (given x) .fit, left x)
+loop-less-2 c = omega arith
 
 loop-again-2 : tie.Need-loop-again-2 Inv-loop μ-loop
 loop-again-2 c = λ g.
-    let x = c .before .before .before in
-    started (file x) (from x) (to x) (objects₀ x) (materials₀ x) g (state x g) (left x) (id x) (len x) (here x g) (c .if2 .taken)
-
-with-any-requires : tie.Need-with-any-requires Inv-loop μ-loop
-with-any-requires c κs =
-    let x = c .before .before .before in
-    let s = state x (given x) in
-    omega (arith, s .present-is, bits-below (identifiers (soFar (s .held))))
-
-loop-less-3 : tie.Need-loop-less-3 Inv-loop μ-loop
-loop-less-3 c =
-    let x = c .before .before .before .before .before in
-    omega (arith, here x (given x) .fit, left x)
-
-loop-again-3 : tie.Need-loop-again-3 Inv-loop μ-loop
-loop-again-3 c = λ g.
-    let d = c .before in
-    let x = d .before .before .before .before in
-    let i = here x g .is .id-is in
-    let b = here x g .b in
-    passed (file x) (from x) (to x) (objects₀ x) (materials₀ x) g (state x g) (left x) (id x) (len x) (here x g) (not-this b tEnd i (d .before .before .if1 .left)) (not-this b tObject i (d .before .if2 .left)) (not-this b tTexture i (c .if3 .taken))
-    (d .with-any .result) (d .with-any .ensures)
-
--- ---- it is a texture
-
-texture : (d : tie.After-with-any Inv-loop μ-loop) (g : Given (d .before .before .before .before)) → id (d .before .before .before .before) ≡ tTexture →
-    let x = d .before .before .before .before in
-    let b = here x g .b in
-    (eqb (objectId b) tEnd ≡ false) × (eqb (objectId b) tObject ≡ false) × (eqb (objectId b) tTexture ≡ true)
-texture d g e =
-    let h = here (d .before .before .before .before) g in
-    let i = h .is .id-is in
-    (not-this (h .b) tEnd i (d .before .before .if1 .left), not-this (h .b) tObject i (d .before .if2 .left), eq-eqb (objectId (h .b)) tTexture (i ∙ e))
-
-room : (d : tie.After-with-any Inv-loop μ-loop) → id (d .before .before .before .before) ≡ tTexture → at (d .before .before .before .before) + 68 ≤ to (d .before .before .before .before)
-room d e =
-    let x = d .before .before .before .before in
-    let t = texture d (given x) e in
-    texture-fits (file x) (from x) (to x) (objects₀ x) (materials₀ x) (given x) (state x (given x)) (left x) (id x) (len x) (here x (given x)) (t .0) (t .1) (t .2)
-
-put-material-requires : tie.Need-put-material-requires Inv-loop μ-loop
-put-material-requires c κs =
-    let d = c .before .before in
-    let x = d .before .before .before .before in
-    let e = c .before .if3 .left in
-    let t = texture d (given x) e in
-    let w = given x .whole in
-    (omega (arith, room d e), texture-room (file x) (from x) (to x) (objects₀ x) (materials₀ x) (given x) (state x (given x)) (left x) (id x) (len x) (here x (given x)) (t .0) (t .1) (t .2))
-
-add-textures : tie.Need-add-textures Inv-loop μ-loop
-add-textures c =
-    let x = c .before .before .before .before .before .before .before .before .before in
-    let w = given x .whole in
-    omega (arith, state x (given x) .few, left x)
-
-add-at : tie.Need-add-at Inv-loop μ-loop
-add-at c =
-    let put = c .before .before in
-    let d = put .before .before .before in
-    let g = given (d .before .before .before .before) in
-    omega (arith, room d (put .before .before .if3 .left), g .whole, g .short)
-
-loop-less-4 : tie.Need-loop-less-4 Inv-loop μ-loop
-loop-less-4 c =
-    let put = c .before .before in
-    let d = put .before .before .before in
-    omega (arith, room d (put .before .before .if3 .left))
-
-loop-again-4 : tie.Need-loop-again-4 Inv-loop μ-loop
-loop-again-4 c = λ g.
-    let put = c .before .before in
-    let d = put .before .before .before in
-    let x = d .before .before .before .before in
-    let t = texture d g (put .before .before .if3 .left) in
-    textured (file x) (from x) (to x) (objects₀ x) (materials₀ x) g (state x g) (left x) (id x) (len x) (here x g) (t .0) (t .1) (t .2) (d .with-any .result) (d .with-any .ensures) (put .put-material .ensures)
+    let d = c .before .before .before .before .before .before .before .before .before .before .before in
+    let n = one d g in
+    let z = c .before .before .before .before .before .before .before .before .before .if1 .left in
+    let k = count-there d g z in
+    let l = long-there d g z in
+    one-more (objects₀ d) (materials₀ d) g (filling d g) n (from d + 2 + getD (notes d) (from d + 1) 0) (omega arith)
+    (rw (← (offset-is d g), ← (number-is d g), ← k) (c .before .before .before .before .before .before .put-object2 .ensures)) (rw (← (materials-there d g z)) (c .before .before .put-materials .ensures)) (c .before .before .before .before .before .objects2 .given) (c .before .materials .given)
 
 same-length : tie.Need-same-length Inv-loop μ-loop
 same-length c = c .before .loop .inv (c .before .before .before .before .before .pre) .objects-long
@@ -209,10 +216,7 @@ same-length-2 : tie.Need-same-length-2 Inv-loop μ-loop
 same-length-2 c = c .before .loop .inv (c .before .before .before .before .before .pre) .materials-long
 
 returns : tie.Need-returns Inv-loop μ-loop
-returns c = λ g.
-    let a = c .before .before .before .before .before .args in
-    let z = no-left (a .file .now) (a .from) (a .to) (a .objects .now) (a .materials .now) g (c .before .loop .inv g) (omega arith) in
-    record { objects-are = z .0; materials-are = z .1 }
+returns c = λ g. all-filled (c .before .before .before .before .before .args .objects .now) (c .before .before .before .before .before .args .materials .now) g (c .before .loop .inv g) (omega arith)
 
 pub fill-spec : {M : Type 1} → statement M
 fill-spec =
@@ -221,23 +225,25 @@ fill-spec =
     Inv-loop
     μ-loop
     loop-holds
-    object-head-requires
-    add-next
-    add-next-2
-    combination-requires
+    mul-noted
+    shared-slice-read-noted
+    cast-noted
+    add-i
     put-object-requires
+    add-from
     loop-less
     loop-again
+    add-textures
+    mul-textures
+    shared-slice-read-textures
+    cast-textures
+    add-next
+    add-next-2
+    put-object-requires-2
+    add-put-materials
+    put-materials-requires
     loop-less-2
     loop-again-2
-    with-any-requires
-    loop-less-3
-    loop-again-3
-    put-material-requires
-    add-textures
-    add-at
-    loop-less-4
-    loop-again-4
     same-length
     same-length-2
     returns)

@@ -9,7 +9,6 @@ use Prim.Native.Nat.{ℕ, _-_, _≤_}
 use native.Mathlib.Omega.{arith}
 use borrow.Author.Tests.{not-true, not-false}
 use Rattle.c4d_rules.specs.Blocks.{materialHeader}
-use Rattle.c4d_blocks.specs.declared.Seen.{Seen}
 use Rattle.c4d_blocks.specs.Headers.{Tells, Sees}
 use Rattle.c4d_materials.proofs.Loop.{On, one-small, on-start, on-cut, on-after, on-more, on-open, on-end}
 use borrow.Author.Needs.{needs}

@@ -1,97 +1,108 @@
--- The loop's invariant: what is left of the walk answers for the whole.
-use mathlib.Core.Path.{_≡_, refl, sym, ap, _∙_, subst}
-use mathlib.Core.Bool.{Bool, true, false, cond}
-use mathlib.Core.List.{List}
-use mathlib.Core.Option.{Option}
-use Prim.Native.Nat.{ℕ, _-_, _≤_}
+-- The loop's invariant: the objects so far, and what is left of the OBJ5.
+use mathlib.Core.Path.{_≡_, sym, _∙_, subst}
+use mathlib.Core.List.{List, []}
+use mathlib.Core.Option.{Option, none}
+use Prim.Native.Nat.{ℕ, _+_, _-_, _<_, _≤_}
 use native.Mathlib.Omega.{arith}
-use lib.Dec.{eqb}
 use lib.ListN.{length}
-use mir.Val.{boolByte}
+use Rattle.shared_words.specs.declared.Refusal.the-variants.{Overrun}
 use Rattle.c4d_rules.specs.Blocks.{objectHeader}
-use Rattle.c4d_blocks.specs.declared.Seen.{Seen}
 use Rattle.c4d_blocks.specs.Headers.{blockIn, Tells, Sees}
-use Rattle.c4d_held.specs.declared.Held.{Held}
-use Rattle.c4d_held.specs.declared.Judged.{Judged}
-use Rattle.c4d_held.specs.Held.{belowOf, JudgedAs}
-use Rattle.c4d_objects.proofs.Loop.{one-small, On, on-start, on-cut, on-fault, on-more, on-open, on-end, block-is, Going, present-small}
+use Rattle.c4d_held.specs.declared.Outside.{Outside}
+use Rattle.c4d_held.specs.Held.{lastOf, OutsideIs}
+use Rattle.c4d_object.specs.declared.One.{One}
+use Rattle.c4d_object.specs.One.{Whole, OneIs}
+use Rattle.c4d_object.proofs.Ahead.{cut}
+use Rattle.c4d_objects.proofs.Walking.{Walking, walking-none, with-refusal, at-its-end, fault-there, outside, skipped, inside, another}
 use borrow.Author.Needs.{needs}
 use Rattle.c4d_objects.proofs.objects.Statement.{statement}
 use Rattle.c4d_objects.proofs.objects.Tie as tie
 
--- a test as a number
-bit-is : (q : Bool) → boolByte q ≡ cond q 1 0
-bit-is true = refl
-bit-is false = refl
-
 abbrev Inv-loop : tie.InvT-loop
-Inv-loop file chunk to below at₀ held₀ ended₀ textures₀ at held ended textures = Going file below chunk to at held ended textures
+Inv-loop file chunk to below notes₀ at₀ count₀ textures₀ row₀ notes at count textures row = Walking file (lastOf below) chunk to notes₀ notes at count textures row
 
 abbrev μ-loop : tie.MeasureT-loop
-μ-loop file chunk to below at₀ held₀ ended₀ textures₀ at held ended textures = to - at
+μ-loop file chunk to below notes₀ at₀ count₀ textures₀ row₀ notes at count textures row = to - at
 
 -- ---- a sub-chunk is there, and whole
 
-abbrev file : tie.After-id Inv-loop μ-loop → List ℕ
-file d = d .before .before .before .before .before .before .before .args .file .now
+abbrev Here : Type 0
+Here = tie.After-known-told Inv-loop μ-loop
 
-abbrev chunk : tie.After-id Inv-loop μ-loop → ℕ
-chunk d = d .before .before .before .before .before .before .before .args .chunk
+abbrev file : Here → List ℕ
+file d = d .before .before .before .before .before .before .before .before .args .file .now
 
-abbrev to : tie.After-id Inv-loop μ-loop → ℕ
-to d = d .before .before .before .before .before .before .before .args .to
+abbrev chunk : Here → ℕ
+chunk d = d .before .before .before .before .before .before .before .before .args .chunk
 
-abbrev below : tie.After-id Inv-loop μ-loop → ℕ
-below d = d .before .before .before .before .before .before .before .args .below
+abbrev to : Here → ℕ
+to d = d .before .before .before .before .before .before .before .before .args .to
 
-abbrev at : tie.After-id Inv-loop μ-loop → ℕ
-at d = d .before .before .before .before .loop .at
+abbrev last : Here → Option ℕ
+last d = lastOf (d .before .before .before .before .before .before .before .before .args .below)
 
-abbrev held : tie.After-id Inv-loop μ-loop → Held
-held d = d .before .before .before .before .loop .held
+abbrev notes₀ : Here → List ℕ
+notes₀ d = d .before .before .before .before .before .before .before .before .args .notes .now
 
-abbrev ended : tie.After-id Inv-loop μ-loop → ℕ
-ended d = d .before .before .before .before .loop .ended
+abbrev at : Here → ℕ
+at d = d .before .before .before .before .before .loop .at
 
-abbrev textures : tie.After-id Inv-loop μ-loop → ℕ
-textures d = d .before .before .before .before .loop .textures
+abbrev row : Here → ℕ
+row d = d .before .before .before .before .before .loop .row
 
-whole-file : (d : tie.After-id Inv-loop μ-loop) → to d ≤ length (file d)
-whole-file d = d .before .before .before .before .before .before .before .pre .1
+abbrev id : Here → ℕ
+id d = d .before .id .given .0 .0
 
-going : (d : tie.After-id Inv-loop μ-loop) → Going (file d) (below d) (chunk d) (to d) (at d) (held d) (ended d) (textures d)
-going d = d .before .before .before .before .loop .inv
+abbrev len : Here → ℕ
+len d = d .before .id .given .0 .1 .0
 
-told : (d : tie.After-id Inv-loop μ-loop) → Tells objectHeader (file d) (at d) (to d) (d .id .given .0 .0) (d .id .given .0 .1 .0)
-told d = subst (Sees objectHeader (file d) (at d) (to d)) (d .id .given .1) (d .before .before .object-at .ensures)
+kept : (d : Here) → to d ≤ length (file d)
+kept d = d .before .before .before .before .before .before .before .before .pre .1
 
--- ---- it has been judged
+left : (d : Here) → at d < to d
+left d = omega arith
 
-judged : (d : tie.After-judge Inv-loop μ-loop) (last : Option ℕ) (e : below (d .before .before) ≡ belowOf last) {r : Judged} → d .judge .result ≡ r →
-    JudgedAs last (going (d .before .before) .on last e .before) (at (d .before .before)) (blockIn objectHeader (file (d .before .before)) (at (d .before .before)) (to (d .before .before))) r
-judged d last e q =
+walking : (d : Here) → Walking (file d) (last d) (chunk d) (to d) (notes₀ d) (d .before .before .before .before .before .loop .notes) (at d) (d .before .before .before .before .before .loop .count) (d .before .before .before .before .before .loop .textures) (row d)
+walking d = d .before .before .before .before .before .loop .inv
+
+told : (d : Here) → Tells objectHeader (file d) (at d) (to d) (id d) (len d)
+told d = subst (Sees objectHeader (file d) (at d) (to d)) (d .before .id .given .1) (d .before .before .before .object-at .ensures)
+
+-- ---- no object begins there
+
+judged : (d : tie.After-judge-outside Inv-loop μ-loop) {r : Outside} → d .judge-outside .result ≡ r →
+    let x = d .before .before in
+    OutsideIs (last x) (at x) (blockIn objectHeader (file x) (at x) (to x)) r
+judged d q =
     let x = d .before .before in
     let b = blockIn objectHeader (file x) (at x) (to x) in
-    let o = going x .on last e .before in
-    let i = block-is (file x) (at x) (to x) (x .id .given .0 .0) (x .id .given .0 .1 .0) (whole-file x) (told x) in
-    subst (JudgedAs last o (at x) b) q (d .judge .ensures b last o i e (going x .on last e .held-is))
+    subst (OutsideIs (last x) (at x) b) q (d .judge-outside .ensures b (last x) (sym (told x .id-is)) (sym (told x .len-is)))
+
+-- ---- one begins, and has been read
+
+abbrev notes₁ : tie.After-slice-known2 Inv-loop μ-loop → List ℕ
+notes₁ d = d .before .before .object .last .1 .1 .1 .1 .1 .1 .0
+
+read : (d : tie.After-slice-known2 Inv-loop μ-loop) {r : One} → d .before .before .object .result ≡ r →
+    let x = d .before .before .before .before .before in
+    OneIs (file x) (last x) (chunk x) (at x + (4 + len x)) (to x) (row x) (x .before .before .before .before .before .loop .notes) (notes₁ d) r
+read d q =
+    let x = d .before .before .before .before .before in
+    subst (OneIs (file x) (last x) (chunk x) (at x + (4 + len x)) (to x) (row x) (x .before .before .before .before .before .loop .notes) (notes₁ d)) q (d .before .before .object .ensures)
+
+whole-object : (d : tie.After-known-told4 Inv-loop μ-loop) →
+    let x = d .before .before .before .before .before .before .before .before in
+    let g = d .before .end .given .0 in
+    Whole (file x) (last x) (chunk x) (at x + (4 + len x)) (to x) (row x) (x .before .before .before .before .before .loop .notes) (notes₁ (d .before .before .before)) (g .0) (g .1 .0) (g .1 .1 .0)
+whole-object d = read (d .before .before .before) (d .before .end .given .1)
 
 add-at : tie.Need-add-at Inv-loop μ-loop
 add-at c = omega arith
 
-closed-requires : tie.Need-closed-requires Inv-loop μ-loop
-closed-requires c κs = search needs
-
 loop-holds : tie.Need-loop-holds Inv-loop μ-loop
 loop-holds c =
     let a = c .before .before .args in
-    let p = c .before .before .pre in
-    record {
-      on = λ last e. on-start (a .file .now) last (a .chunk) (a .to) (c .closed .result) (c .closed .ensures);
-      within = p .0;
-      few-ends = omega arith;
-      few-textures = omega arith;
-    }
+    walking-none (a .file .now) (lastOf (a .below)) (a .chunk) (a .to) (a .notes .now) (c .before .before .pre .0)
 
 object-at-requires : tie.Need-object-at-requires Inv-loop μ-loop
 object-at-requires c κs = (c .before .loop .inv .within, c .before .before .before .before .pre .1)
@@ -102,103 +113,129 @@ enum-known-id c = search needs
 enum-told : tie.Need-enum-told Inv-loop μ-loop
 enum-told c = search needs
 
+same-length : tie.Need-same-length Inv-loop μ-loop
+same-length c = c .before .before .before .before .loop .inv .same-long
+
 returns : tie.Need-returns Inv-loop μ-loop
 returns c =
-    let start = c .before .before .before .before .before .before .before in
-    let a = start .args in
+    let a = c .before .before .before .before .before .before .before .args in
+    let k = c .before .before .before .before .before .before .before .pre .1 in
     let l = c .before .before .before .before .loop in
     let e = subst (Sees objectHeader (a .file .now) (l .at) (a .to)) (c .enum-told .given .1) (c .before .before .object-at .ensures) in
-    (λ last q. sym (on-cut (a .file .now) last (a .chunk) (a .to) (l .at) (l .held) (l .ended) (l .textures) (start .pre .1) (l .inv .on last q) (omega arith) e), tt)
+    let z = fault-there (a .file .now) (lastOf (a .below)) (a .chunk) (a .to) (a .notes .now) (l .inv) k (Overrun (l .at))
+    (cut (a .file .now) (lastOf (a .below)) (a .chunk) (a .to) k (l .inv .begun) none (l .at) (omega arith) e) in
+    let w = with-refusal (a .file .now) (lastOf (a .below)) (a .chunk) (a .to) (a .notes .now) (l .notes) (Overrun (l .at)) z in
+    (w .0, (tt, w .1))
 
-judge-requires : tie.Need-judge-requires Inv-loop μ-loop
-judge-requires c κs =
-    let x = c .before in
-    (omega (arith, told x .fits, whole-file x), present-small (going x), x .before .before .before .before .before .before .before .pre .2)
+judge-outside-requires : tie.Need-judge-outside-requires Inv-loop μ-loop
+judge-outside-requires c κs = c .if1 .taken
 
 enum-known-r : tie.Need-enum-known-r Inv-loop μ-loop
 enum-known-r c = search needs
 
+same-length-2 : tie.Need-same-length-2 Inv-loop μ-loop
+same-length-2 c = walking (c .before .before .before .before .before) .same-long
+
 returns-2 : tie.Need-returns-2 Inv-loop μ-loop
 returns-2 c =
-    let d = c .before .before .before in
-    let x = d .before .before in
-    let g = c .before .r .given in (
-      λ last e. sym (on-fault (file x) last (chunk x) (to x) (at x) (held x) (ended x) (textures x) (whole-file x) (going x .on last e) (omega arith)
-          (x .id .given .0 .0) (x .id .given .0 .1 .0) (told x) (g .0 .0) (judged d last e (g .1))),
-      tt,
-    )
-
-enum-known-next : tie.Need-enum-known-next Inv-loop μ-loop
-enum-known-next c = search needs
-
-cast-ended : tie.Need-cast-ended Inv-loop μ-loop
-cast-ended c = search needs
-
-add-ended : tie.Need-add-ended Inv-loop μ-loop
-add-ended c =
     let x = c .before .before .before .before .before in
-    let id = x .id .given .0 .0 in
-    let e = bit-is (eqb id 0) in
-    omega (arith, one-small (eqb id 0), going x .few-ends, going x .within, whole-file x)
+    let g = c .before .r .given in
+    let z = outside (file x) (last x) (chunk x) (to x) (notes₀ x) (walking x) (kept x) (left x) (id x) (len x) (told x) (g .0 .0) (judged (c .before .before .before) (g .1)) in
+    let w = with-refusal (file x) (last x) (chunk x) (to x) (notes₀ x) (x .before .before .before .before .before .loop .notes) (g .0 .0) z in
+    (w .0, (tt, w .1))
 
-cast-textures : tie.Need-cast-textures Inv-loop μ-loop
-cast-textures c = search needs
-
-add-textures : tie.Need-add-textures Inv-loop μ-loop
-add-textures c =
-    let x = c .before .before .before .before .before in
-    let id = x .id .given .0 .0 in
-    let e = bit-is (eqb id 23) in
-    omega (arith, one-small (eqb id 23), going x .few-textures, going x .within, whole-file x)
+enum-told-2 : tie.Need-enum-told-2 Inv-loop μ-loop
+enum-told-2 c = search needs
 
 add-at-2 : tie.Need-add-at-2 Inv-loop μ-loop
-add-at-2 c =
-    let x = c .before .before .before .before .before in
-    omega (arith, told x .fits, whole-file x)
+add-at-2 c = let x = c .before .before .before .before in omega (arith, told x .fits, kept x)
 
 add-at-3 : tie.Need-add-at-3 Inv-loop μ-loop
-add-at-3 c =
-    let x = c .before .before .before .before .before in
-    omega (arith, told x .fits, whole-file x)
+add-at-3 c = let x = c .before .before .before .before in omega (arith, told x .fits, kept x)
 
 loop-less : tie.Need-loop-less Inv-loop μ-loop
-loop-less c =
-    let x = c .before .before .before .before .before in
-    omega (arith, told x .fits, whole-file x)
+loop-less c = let x = c .before .before .before .before in omega (arith, told x .fits, left x)
 
 loop-again : tie.Need-loop-again Inv-loop μ-loop
 loop-again c =
-    let d = c .before .before .before in
-    let x = d .before .before in
-    let id = x .id .given .0 .0 in
-    let g = c .before .next .given in
-    let y = one-small (eqb id 0) in
-    let z = one-small (eqb id 23) in
-    rw (bit-is (eqb id 0), bit-is (eqb id 23)) record {
-      on = λ last e. on-more (file x) last (chunk x) (to x) (at x) (held x) (ended x) (textures x) (whole-file x) (going x .on last e) (omega arith)
-          id (x .id .given .0 .1 .0) (told x) (g .0 .0) (judged d last e (g .1));
-      within = omega (arith, told x .fits);
-      few-ends = omega (arith, going x .few-ends);
-      few-textures = omega (arith, going x .few-textures);
-    }
+    let x = c .before .before .before .before in
+    skipped (file x) (last x) (chunk x) (to x) (notes₀ x) (walking x) (kept x) (left x) (id x) (len x) (told x) (c .before .before .before .if1 .taken) (judged (c .before .before) (c .enum-told2 .given .1))
+
+add-object : tie.Need-add-object Inv-loop μ-loop
+add-object c = let x = c .before in omega (arith, told x .fits, kept x)
+
+add-object-2 : tie.Need-add-object-2 Inv-loop μ-loop
+add-object-2 c = let x = c .before in omega (arith, told x .fits, kept x)
+
+object-requires : tie.Need-object-requires Inv-loop μ-loop
+object-requires c κs =
+    let x = c .before .before in
+    let s = walking x .short in
+    (told x .fits, kept x, x .before .before .before .before .before .before .before .before .pre .3, omega arith)
+
+enum-known-r-2 : tie.Need-enum-known-r-2 Inv-loop μ-loop
+enum-known-r-2 c = search needs
+
+same-length-3 : tie.Need-same-length-3 Inv-loop μ-loop
+same-length-3 c = c .before .before .before .before .notes .given ∙ walking (c .before .before .before .before .before .before .before .before) .same-long
 
 returns-3 : tie.Need-returns-3 Inv-loop μ-loop
 returns-3 c =
-    let start = c .before .before .before .before .before in
-    let a = start .args in
-    let l = c .before .before .loop in
-    let w = l .inv .within in
-    (λ last q. sym (on-open (a .file .now) last (a .chunk) (a .to) (l .at) (l .held) (l .ended) (l .textures) (start .pre .1) (l .inv .on last q) (omega arith) (c .if1 .taken)), tt)
+    let x = c .before .before .before .before .before .before .before .before in
+    let g = c .before .r2 .given in
+    let z = inside (file x) (last x) (chunk x) (to x) (notes₀ x) (walking x) (kept x) (left x) (id x) (len x) (told x) (c .before .before .before .before .before .before .before .if1 .left) (g .0 .0) (read (c .before .before .before) (g .1)) in
+    let w = with-refusal (file x) (last x) (chunk x) (to x) (notes₀ x) (notes₁ (c .before .before .before)) (g .0 .0) z in
+    (w .0, (tt, w .1))
+
+enum-known-end : tie.Need-enum-known-end Inv-loop μ-loop
+enum-known-end c = search needs
+
+note-object-requires : tie.Need-note-object-requires Inv-loop μ-loop
+note-object-requires c κs =
+    let x = c .before .before .before .before .before .before .before .before .before in
+    let w = whole-object (c .before) in
+    let s = walking x .short in
+    let n = w .long in
+    let i = w .within in
+    let k = x .before .before .before .before .before .before .before .before .pre .2 in
+    (omega (arith, left x), w .number-small, omega arith, omega (arith, left x))
+
+add-textures : tie.Need-add-textures Inv-loop μ-loop
+add-textures c =
+    let x = c .before .before .before .before .before .before .before .before .before .before .before .before in
+    let w = whole-object (c .before .before .before .before) in
+    let n = w .long in
+    let i = w .within in
+    omega (arith, walking x .few-textures, kept x)
+
+add-count : tie.Need-add-count Inv-loop μ-loop
+add-count c = let x = c .before .before .before .before .before .before .before .before .before .before .before .before in omega (arith, walking x .few-objects, kept x, left x)
+
+loop-less-2 : tie.Need-loop-less-2 Inv-loop μ-loop
+loop-less-2 c =
+    let x = c .before .before .before .before .before .before .before .before .before .before .before .before in
+    let w = whole-object (c .before .before .before .before) in
+    let n = w .long in
+    omega (arith, w .within, left x)
+
+loop-again-2 : tie.Need-loop-again-2 Inv-loop μ-loop
+loop-again-2 c =
+    let x = c .before .before .before .before .before .before .before .before .before .before .before .before in
+    let g = c .before .before .before .before .before .end .given .0 in
+    let p = c .before .before .note-object in
+    rw (p .ensures .0) (another (file x) (last x) (chunk x) (to x) (notes₀ x) (walking x) (kept x) (left x) (id x) (len x) (told x) (c .before .before .before .before .before .before .before .before .before .before .before .if1 .left) (g .0) (g .1 .0) (g .1 .1 .0) (whole-object (c .before .before .before .before))
+    (x .before .before .before .before .before .before .before .before .pre .2) (c .before .before .before .before .before .before .before .before .notes .given) (p .last .1 .1 .1 .1 .0) (c .before .notes2 .given) (p .ensures .1))
+
+same-length-4 : tie.Need-same-length-4 Inv-loop μ-loop
+same-length-4 c = c .before .loop .inv .same-long
 
 returns-4 : tie.Need-returns-4 Inv-loop μ-loop
 returns-4 c =
-    let start = c .before .before .before .before .before in
-    let a = start .args in
-    let l = c .before .before .loop in
-    let w = l .inv .within in (
-      λ last q. sym (on-end (a .file .now) last (a .chunk) (a .to) (l .at) (l .held) (l .ended) (l .textures) (start .pre .1) (l .inv .on last q) (omega arith) (c .if1 .left)),
-      (omega (arith, l .inv .few-ends), omega (arith, l .inv .few-textures)),
-    )
+    let a = c .before .before .before .before .args in
+    let l = c .before .loop in
+    let t = l .inv .within in
+    let w = at-its-end (a .file .now) (lastOf (a .below)) (a .chunk) (a .to) (a .notes .now) (l .inv) (c .before .before .before .before .pre .1) (omega arith) in
+    (w .0, ((omega (arith, l .inv .few-objects), omega (arith, l .inv .few-textures)), w .1))
 
 pub objects-spec : {M : Type 1} → statement M
 objects-spec =
@@ -207,23 +244,32 @@ objects-spec =
     Inv-loop
     μ-loop
     add-at
-    closed-requires
     loop-holds
     object-at-requires
     enum-known-id
     enum-told
+    same-length
     returns
-    judge-requires
+    judge-outside-requires
     enum-known-r
+    same-length-2
     returns-2
-    enum-known-next
-    cast-ended
-    add-ended
-    cast-textures
-    add-textures
+    enum-told-2
     add-at-2
     add-at-3
     loop-less
     loop-again
+    add-object
+    add-object-2
+    object-requires
+    enum-known-r-2
+    same-length-3
     returns-3
+    enum-known-end
+    note-object-requires
+    add-textures
+    add-count
+    loop-less-2
+    loop-again-2
+    same-length-4
     returns-4)

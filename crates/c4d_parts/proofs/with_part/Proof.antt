@@ -1,6 +1,6 @@
 -- A bit that is set stays; one that is not is added.
-use mathlib.Core.Path.{_≡_, sym, ap, _∙_}
-use Prim.Native.Nat.{ℕ, _+_, _-_, _*_, _%_, _^_}
+use mathlib.Core.Path.{_≡_, sym, _∙_}
+use Prim.Native.Nat.{_-_, _*_, _%_, _^_}
 use native.Mathlib.Omega.{arith}
 use Rattle.c4d_parts.proofs.Bits.{bits-again, bits-more, shift-small}
 use borrow.Author.Needs.{needs}
