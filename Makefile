@@ -1,17 +1,21 @@
 # make run    builds the library and the bench tool, and checks samples/edition (STICK=folder: any other)
-# make test   the gate: layout, proofs, must-fail edits, programs, and all tests
+# make test   layout, proofs, programs and all tests; what has been proved before is not proved again
+# make gate   what a merge needs: the same from nothing, and every must-fail edit refused
 # make prove  the proofs alone, in seconds where little has changed
 # make fuzz   both readers over COUNT files grown from SEED (KIND=slips: of one kind); make real FOLDER=…  over figures from elsewhere
 # make bench  the speed, against the second reader
 .DEFAULT_GOAL := run
 SHELL := /bin/bash
 .SHELLFLAGS := -o pipefail -c
-.PHONY: prove test rust-test differ fuzz real turned bench bench-build c-check clean
+.PHONY: prove test gate rust-test differ fuzz real turned bench bench-build c-check clean
 
 prove:
 	rt check
 
 test:
+	bash tests/gate --without-edits
+
+gate:
 	bash tests/gate
 
 # rt is asked where anything in crates/, or rt itself, is newer than the library (a folder is, once a file has gone from it).
