@@ -1,10 +1,10 @@
 -- The rows while they are filled: the objects so far stand in them, and the notes of the others are left.
 use mathlib.Core.Path.{_≡_, refl, sym, ap, _∙_, subst}
-use Prim.Native.Nat.{ℕ, _+_, _*_, _<_, _≤_}
+use Prim.Native.Nat.{ℕ, _+_, _*_, _/_, _%_, _<_, _≤_}
 use native.Mathlib.Omega.{arith}
 use mathlib.Core.List.{List, [], _∷_, _++_, append-assoc, append-nil}
-use lib.ListN.{length, drop, length-append}
-use lib.Seq.{drop-at}
+use lib.ListN.{length, drop, getD, length-append}
+use lib.Seq.{slice, drop-at}
 use Rattle.shared_words.specs.Bytes.{packed}
 use Rattle.shared_words.specs.Lists.{All}
 use Rattle.shared_words.proofs.Bytes.{length-packed, packed-append}
@@ -13,8 +13,9 @@ use Rattle.shared_numbers.proofs.Put.{put-none, put-then, put-front}
 use Rattle.c4d_rules.specs.Gives.{Object}
 use Rattle.c4d_rules.specs.Calls.{allMaterials, flat}
 use Rattle.c4d_objects.specs.Notes.{front, notesOf, allNotes, Small}
-use Rattle.c4d_objects.proofs.Notes.{materials-more, notes-more}
+use Rattle.c4d_objects.proofs.Notes.{materials-append, notes-append, materials-more, notes-more}
 use Rattle.c4d_list.specs.Filled.{Fillable, FilledWith}
+use Rattle.c4d_list.proofs.Noted.{reach, second, those, pair-long, has-none, has-some, offset-of, number-of}
 
 flat-more : (rs : List Object) (r : Object) → flat (rs ++ (r ∷ [])) ≡ flat rs ++ (r .offset ∷ r .combination ∷ length (r .materials) ∷ [])
 flat-more [] r = refl
@@ -23,14 +24,6 @@ flat-more (x ∷ rs) r = ap (λ (l : List ℕ). x .offset ∷ x .combination ∷
 pub length-flat : (rs : List Object) → length (flat rs) ≡ 3 * length rs
 length-flat [] = refl
 length-flat (r ∷ rs) = omega (arith, length-flat rs)
-
-notes-append : (a b : List Object) → allNotes (a ++ b) ≡ allNotes a ++ allNotes b
-notes-append [] b = refl
-notes-append (r ∷ a) b = ap (λ (l : List ℕ). notesOf r ++ l) (notes-append a b) ∙ sym (append-assoc (notesOf r) (allNotes a) (allNotes b))
-
-materials-append : (a b : List Object) → allMaterials (a ++ b) ≡ allMaterials a ++ allMaterials b
-materials-append [] b = refl
-materials-append (r ∷ a) b = ap (λ (l : List ℕ). r .materials ++ l) (materials-append a b) ∙ sym (append-assoc (r .materials) (allMaterials a) (allMaterials b))
 
 small-of : (a : List Object) (r : Object) (b : List Object) → All Small (a ++ (r ∷ b)) → Small r
 small-of [] r b h = h .0
@@ -100,6 +93,36 @@ module _ {notes : List ℕ} {count : ℕ} (objects₀ materials₀ : List ℕ) (
           ap (λ (l : List ℕ). allNotes (w .done) ++ l) (append-assoc (notesOf (n .r)) (allNotes (n .others)) (g .rest)) in
           ap (drop from) e ∙ drop-at (allNotes (w .done)) (notesOf (n .r) ++ rest) from (sym (w .from-is))
 
+      -- what these notes tell
+      abbrev space : ℕ
+      space = length (front (n .r .offset) (n .r .combination) (length (n .r .materials)))
+
+      pub reaches : from + (space + length (n .r .materials)) ≤ length notes
+      reaches = reach notes from (n .r) rest here
+
+      module _ (x : ℕ) (e : x ≡ getD notes from 0) where
+        pub offset-is : x / 32 ≡ n .r .offset
+        offset-is = offset-of notes from (n .r) rest here small x e
+
+        pub number-is : x % 16 ≡ n .r .combination
+        number-is = number-of notes from (n .r) rest here small x e
+
+        pub none-there : x / 16 % 2 ≡ 0 → length (n .r .materials) ≡ 0
+        none-there = has-none notes from (n .r) rest here small x e
+
+        module _ (z : x / 16 % 2 ≡ 0 → ⊥) where
+          some : length (n .r .materials) ≡ 0 → ⊥
+          some = has-some notes from (n .r) rest here small x e z
+
+          pub count-there : getD notes (from + 1) 0 ≡ length (n .r .materials)
+          count-there = second notes from (n .r) rest here some
+
+          pub two-before : space ≡ 2
+          two-before = pair-long notes from (n .r) rest here some
+
+          pub materials-there : slice (from + 2) (from + 2 + getD notes (from + 1) 0) notes ≡ n .r .materials
+          materials-there = ap (λ (k : ℕ). slice (from + 2) (from + 2 + k) notes) count-there ∙ those notes from (n .r) rest here some
+
       pub object-room : row + 12 ≤ length objects
       object-room =
           omega (
@@ -128,7 +151,7 @@ module _ {notes : List ℕ} {count : ℕ} (objects₀ materials₀ : List ℕ) (
             w .materials-long,
           )
 
-      pub one-more : {objects′ materials′ : List ℕ} {row′ behind′ : ℕ} (from′ : ℕ) → from′ ≡ from + (length (front (n .r .offset) (n .r .combination) (length (n .r .materials))) + length (n .r .materials)) →
+      pub one-more : {objects′ materials′ : List ℕ} {row′ behind′ : ℕ} (from′ : ℕ) → from′ ≡ from + (space + length (n .r .materials)) →
           Put objects row (packed 4 (n .r .offset ∷ n .r .combination ∷ length (n .r .materials) ∷ [])) objects′ row′ → Put materials behind (packed 4 (n .r .materials)) materials′ behind′ →
           length objects′ ≡ length objects → length materials′ ≡ length materials → Filling objects′ materials′ (i + 1) from′ row′ behind′
       one-more from′ f po pm lo lm =

@@ -52,26 +52,21 @@ module _ (notes : List ℕ) (at : ℕ) (r : Object) (more : List ℕ) (d : drop 
   -- ---- whether it has textures
 
   module _ (small : Small r) (x : ℕ) (g : x ≡ getD notes at 0) where
-    pub has-none : x / 16 % 2 ≡ 0 → textures ≡ 0
-    has-none z = go (eqb textures 0) refl
+    either : {P : Type 0} → (textures ≡ 0 → x ≡ 32 * r .offset + r .combination → P) → ((textures ≡ 0 → ⊥) → x ≡ 32 * r .offset + 16 + r .combination → P) → P
+    either {P} alone pair = go (eqb textures 0) refl
       where
-        go : (q : Bool) → eqb textures 0 ≡ q → textures ≡ 0
-        go true h = eqb-true textures 0 h
-        go false h = let y = first-pair (eqb-false textures 0 h) in absurd (omega (arith, small .number-small))
+        go : (q : Bool) → eqb textures 0 ≡ q → P
+        go true h = let z = eqb-true textures 0 h in alone z (g ∙ first-alone z)
+        go false h = let n = eqb-false textures 0 h in pair n (g ∙ first-pair n)
+
+    pub has-none : x / 16 % 2 ≡ 0 → textures ≡ 0
+    has-none z = either (λ e y. e) (λ n y. absurd (omega (arith, small .number-small)))
 
     pub has-some : (x / 16 % 2 ≡ 0 → ⊥) → textures ≡ 0 → ⊥
-    has-some z h = let y = first-alone h in z (omega (arith, small .number-small))
+    has-some z = either (λ e y. absurd (z (omega (arith, small .number-small)))) (λ n y. n)
 
     pub offset-of : x / 32 ≡ r .offset
-    offset-of = go (eqb textures 0) refl
-      where
-        go : (q : Bool) → eqb textures 0 ≡ q → x / 32 ≡ r .offset
-        go true h = let y = first-alone (eqb-true textures 0 h) in omega (arith, small .number-small)
-        go false h = let y = first-pair (eqb-false textures 0 h) in omega (arith, small .number-small)
+    offset-of = either (λ e y. omega (arith, small .number-small)) (λ n y. omega (arith, small .number-small))
 
     pub number-of : x % 16 ≡ r .combination
-    number-of = go (eqb textures 0) refl
-      where
-        go : (q : Bool) → eqb textures 0 ≡ q → x % 16 ≡ r .combination
-        go true h = let y = first-alone (eqb-true textures 0 h) in omega (arith, small .number-small)
-        go false h = let y = first-pair (eqb-false textures 0 h) in omega (arith, small .number-small)
+    number-of = either (λ e y. omega (arith, small .number-small)) (λ n y. omega (arith, small .number-small))

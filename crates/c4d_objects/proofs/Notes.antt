@@ -1,5 +1,5 @@
 -- Laws of what is noted: one object more, and numbers put in front of others.
-use mathlib.Core.Path.{_≡_, sym, ap, _∙_}
+use mathlib.Core.Path.{_≡_, refl, sym, ap, _∙_}
 use Prim.Native.Nat.{ℕ, zero, suc, _+_, _*_, _≤_}
 use native.Mathlib.Omega.{arith}
 use mathlib.Core.List.{List, [], _∷_, _++_, append-assoc, append-nil}
@@ -12,13 +12,19 @@ use Rattle.c4d_rules.specs.Gives.{Object}
 use Rattle.c4d_rules.specs.Calls.{allMaterials}
 use Rattle.c4d_objects.specs.Notes.{front, notesOf, allNotes}
 
+pub materials-append : (a b : List Object) → allMaterials (a ++ b) ≡ allMaterials a ++ allMaterials b
+materials-append [] b = refl
+materials-append (r ∷ a) b = ap (λ (l : List ℕ). r .materials ++ l) (materials-append a b) ∙ sym (append-assoc (r .materials) (allMaterials a) (allMaterials b))
+
+pub notes-append : (a b : List Object) → allNotes (a ++ b) ≡ allNotes a ++ allNotes b
+notes-append [] b = refl
+notes-append (r ∷ a) b = ap (λ (l : List ℕ). notesOf r ++ l) (notes-append a b) ∙ sym (append-assoc (notesOf r) (allNotes a) (allNotes b))
+
 pub materials-more : (rs : List Object) (r : Object) → allMaterials (rs ++ (r ∷ [])) ≡ allMaterials rs ++ r .materials
-materials-more [] r = append-nil (r .materials)
-materials-more (x ∷ rs) r = ap (λ (l : List ℕ). x .materials ++ l) (materials-more rs r) ∙ sym (append-assoc (x .materials) (allMaterials rs) (r .materials))
+materials-more rs r = materials-append rs (r ∷ []) ∙ ap (λ (l : List ℕ). allMaterials rs ++ l) (append-nil (r .materials))
 
 pub notes-more : (rs : List Object) (r : Object) → allNotes (rs ++ (r ∷ [])) ≡ allNotes rs ++ notesOf r
-notes-more [] r = append-nil (notesOf r)
-notes-more (x ∷ rs) r = ap (λ (l : List ℕ). notesOf x ++ l) (notes-more rs r) ∙ sym (append-assoc (notesOf x) (allNotes rs) (notesOf r))
+notes-more rs r = notes-append rs (r ∷ []) ∙ ap (λ (l : List ℕ). allNotes rs ++ l) (append-nil (notesOf r))
 
 -- ---- what stands in front
 

@@ -1,16 +1,14 @@
 -- The loop's invariant: the objects so far stand in the rows, and the notes of the others are left.
-use mathlib.Core.Path.{_≡_, refl, ap, _∙_}
+use mathlib.Core.Path.{_≡_, refl, ap}
 use Prim.Native.Nat.{ℕ, _+_, _-_, _/_, _%_, _<_, _≤_}
 use native.Mathlib.Omega.{arith}
 use mathlib.Core.List.{List, [], _∷_}
 use lib.ListN.{length, getD}
-use lib.Seq.{slice}
 use Rattle.shared_numbers.proofs.Put.{put-none}
 use Rattle.c4d_objects.specs.Notes.{front}
 use Rattle.c4d_objects.proofs.Notes.{front-alone, front-some}
 use Rattle.c4d_list.specs.Filled.{Fillable}
-use Rattle.c4d_list.proofs.Noted.{reach, second, those, pair-long, has-none, has-some, offset-of, number-of}
-use Rattle.c4d_list.proofs.Filling.{Filling, filling-none, all-filled, Next, next, small, rest, here, object-room, material-room, one-more}
+use Rattle.c4d_list.proofs.Filling.{Filling, filling-none, all-filled, Next, next, reaches, offset-is, number-is, none-there, count-there, two-before, materials-there, object-room, material-room, one-more}
 use borrow.Author.Needs.{needs}
 use Rattle.c4d_list.proofs.fill.Statement.{statement}
 use Rattle.c4d_list.proofs.fill.Tie as tie
@@ -55,34 +53,18 @@ one d g = next (objects₀ d) (materials₀ d) g (filling d g) (omega arith)
 abbrev pre : (d : Left) → Given d
 pre d = d .before .before .before .before .before .pre
 
-reaches : (d : Left) (g : Given d) → let r = one d g .r in from d + (length (front (r .offset) (r .combination) (length (r .materials))) + length (r .materials)) ≤ length (notes d)
-reaches d g =
-    let w = filling d g in
-    let n = one d g in
-    reach (notes d) (from d) (n .r) (rest (objects₀ d) (materials₀ d) g w n) (here (objects₀ d) (materials₀ d) g w n)
+-- what its notes tell of it
 
 first-there : (d : Left) → from d < length (notes d)
 first-there d =
     let r = one d (pre d) .r in
-    omega (arith, reaches d (pre d), front-some (r .offset) (r .combination) (length (r .materials)))
+    omega (arith, reaches (objects₀ d) (materials₀ d) (pre d) (filling d (pre d)) (one d (pre d)), front-some (r .offset) (r .combination) (length (r .materials)))
 
-offset-is : (d : Left) (g : Given d) → noted d / 32 ≡ one d g .r .offset
-offset-is d g =
-    let w = filling d g in
-    let n = one d g in
-    offset-of (notes d) (from d) (n .r) (rest (objects₀ d) (materials₀ d) g w n) (here (objects₀ d) (materials₀ d) g w n) (small (objects₀ d) (materials₀ d) g w n) (noted d) refl
+offset-is′ : (d : Left) (g : Given d) → noted d / 32 ≡ one d g .r .offset
+offset-is′ d g = offset-is (objects₀ d) (materials₀ d) g (filling d g) (one d g) (noted d) refl
 
-number-is : (d : Left) (g : Given d) → noted d % 16 ≡ one d g .r .combination
-number-is d g =
-    let w = filling d g in
-    let n = one d g in
-    number-of (notes d) (from d) (n .r) (rest (objects₀ d) (materials₀ d) g w n) (here (objects₀ d) (materials₀ d) g w n) (small (objects₀ d) (materials₀ d) g w n) (noted d) refl
-
-none-there : (d : Left) (g : Given d) → noted d / 16 % 2 ≡ 0 → length (one d g .r .materials) ≡ 0
-none-there d g z =
-    let w = filling d g in
-    let n = one d g in
-    has-none (notes d) (from d) (n .r) (rest (objects₀ d) (materials₀ d) g w n) (here (objects₀ d) (materials₀ d) g w n) (small (objects₀ d) (materials₀ d) g w n) (noted d) refl z
+number-is′ : (d : Left) (g : Given d) → noted d % 16 ≡ one d g .r .combination
+number-is′ d g = number-is (objects₀ d) (materials₀ d) g (filling d g) (one d g) (noted d) refl
 
 room-there : (d : Left) (g : Given d) → d .before .loop .row + 12 ≤ length (d .before .loop .objects)
 room-there d g = object-room (objects₀ d) (materials₀ d) g (filling d g) (one d g)
@@ -94,33 +76,14 @@ no-materials (m ∷ ms) e = absurd (omega arith)
 -- ---- it has textures
 
 module _ (d : Left) (g : Given d) (z : noted d / 16 % 2 ≡ 0 → ⊥) where
-  some-there : length (one d g .r .materials) ≡ 0 → ⊥
-  some-there =
-      let w = filling d g in
-      let n = one d g in
-      has-some (notes d) (from d) (n .r) (rest (objects₀ d) (materials₀ d) g w n) (here (objects₀ d) (materials₀ d) g w n) (small (objects₀ d) (materials₀ d) g w n) (noted d) refl z
+  count-is′ : getD (notes d) (from d + 1) 0 ≡ length (one d g .r .materials)
+  count-is′ = count-there (objects₀ d) (materials₀ d) g (filling d g) (one d g) (noted d) refl z
 
-  count-there : getD (notes d) (from d + 1) 0 ≡ length (one d g .r .materials)
-  count-there =
-      let w = filling d g in
-      let n = one d g in
-      second (notes d) (from d) (n .r) (rest (objects₀ d) (materials₀ d) g w n) (here (objects₀ d) (materials₀ d) g w n) some-there
-
-  long-there : let r = one d g .r in length (front (r .offset) (r .combination) (length (r .materials))) ≡ 2
-  long-there =
-      let w = filling d g in
-      let n = one d g in
-      pair-long (notes d) (from d) (n .r) (rest (objects₀ d) (materials₀ d) g w n) (here (objects₀ d) (materials₀ d) g w n) some-there
-
-  materials-there : slice (from d + 2) (from d + 2 + getD (notes d) (from d + 1) 0) (notes d) ≡ one d g .r .materials
-  materials-there =
-      let w = filling d g in
-      let n = one d g in
-      ap (λ (k : ℕ). slice (from d + 2) (from d + 2 + k) (notes d)) count-there ∙
-      those (notes d) (from d) (n .r) (rest (objects₀ d) (materials₀ d) g w n) (here (objects₀ d) (materials₀ d) g w n) some-there
+  two-before′ : let r = one d g .r in length (front (r .offset) (r .combination) (length (r .materials))) ≡ 2
+  two-before′ = two-before (objects₀ d) (materials₀ d) g (filling d g) (one d g) (noted d) refl z
 
   next-there : from d + 2 + getD (notes d) (from d + 1) 0 ≤ length (notes d)
-  next-there = omega (arith, reaches d g, long-there, count-there)
+  next-there = omega (arith, reaches (objects₀ d) (materials₀ d) g (filling d g) (one d g), two-before′, count-is′)
 
 loop-holds : tie.Need-loop-holds Inv-loop μ-loop
 loop-holds c = λ g. filling-none (c .before .before .before .args .objects .now) (c .before .before .before .args .materials .now) g
@@ -153,11 +116,11 @@ loop-again : tie.Need-loop-again Inv-loop μ-loop
 loop-again c = λ g.
     let d = c .before .before .before .before .before .before in
     let n = one d g in
-    let z = none-there d g (c .before .before .before .before .if1 .taken) in
+    let z = none-there (objects₀ d) (materials₀ d) g (filling d g) n (noted d) refl (c .before .before .before .before .if1 .taken) in
     let e = no-materials (n .r .materials) z in
     let l = ap length (front-alone (n .r .offset) (n .r .combination) (length (n .r .materials)) z) in
     one-more (objects₀ d) (materials₀ d) g (filling d g) n (from d + 1) (omega arith)
-    (rw (← (offset-is d g), ← (number-is d g), z) (c .before .before .put-object .ensures)) (rw e (put-none (d .before .loop .materials) (d .before .loop .behind))) (c .before .objects .given) refl
+    (rw (← (offset-is′ d g), ← (number-is′ d g), z) (c .before .before .put-object .ensures)) (rw e (put-none (d .before .loop .materials) (d .before .loop .behind))) (c .before .objects .given) refl
 
 add-textures : tie.Need-add-textures Inv-loop μ-loop
 add-textures c = let d = c .before .before in omega (arith, first-there d)
@@ -194,7 +157,7 @@ put-materials-requires c κs =
     let d = c .before .before .before .before .before .before .before .before in
     let g = pre d in
     let z = c .before .before .before .before .before .before .if1 .left in
-    (omega arith, next-there d g z, omega (arith, material-room (objects₀ d) (materials₀ d) g (filling d g) (one d g), count-there d g z))
+    (omega arith, next-there d g z, omega (arith, material-room (objects₀ d) (materials₀ d) g (filling d g) (one d g), count-is′ d g z))
 
 loop-less-2 : tie.Need-loop-less-2 Inv-loop μ-loop
 loop-less-2 c = omega arith
@@ -204,10 +167,13 @@ loop-again-2 c = λ g.
     let d = c .before .before .before .before .before .before .before .before .before .before .before in
     let n = one d g in
     let z = c .before .before .before .before .before .before .before .before .before .if1 .left in
-    let k = count-there d g z in
-    let l = long-there d g z in
+    let k = count-is′ d g z in
+    let l = two-before′ d g z in
+    let m = materials-there (objects₀ d) (materials₀ d) g (filling d g) n (noted d) refl z in
     one-more (objects₀ d) (materials₀ d) g (filling d g) n (from d + 2 + getD (notes d) (from d + 1) 0) (omega arith)
-    (rw (← (offset-is d g), ← (number-is d g), ← k) (c .before .before .before .before .before .before .put-object2 .ensures)) (rw (← (materials-there d g z)) (c .before .before .put-materials .ensures)) (c .before .before .before .before .before .objects2 .given) (c .before .materials .given)
+    (rw (← (offset-is′ d g), ← (number-is′ d g), ← k) (c .before .before .before .before .before .before .put-object2 .ensures))
+    (rw (← m) (c .before .before .put-materials .ensures))
+    (c .before .before .before .before .before .objects2 .given) (c .before .materials .given)
 
 same-length : tie.Need-same-length Inv-loop μ-loop
 same-length c = c .before .loop .inv (c .before .before .before .before .before .pre) .objects-long

@@ -223,7 +223,9 @@ loop-again-2 c =
     let x = c .before .before .before .before .before .before .before .before .before .before .before .before in
     let g = c .before .before .before .before .before .end .given .0 in
     let p = c .before .before .note-object in
-    rw (p .ensures .0) (another (file x) (last x) (chunk x) (to x) (notes₀ x) (walking x) (kept x) (left x) (id x) (len x) (told x) (c .before .before .before .before .before .before .before .before .before .before .before .if1 .left) (g .0) (g .1 .0) (g .1 .1 .0) (whole-object (c .before .before .before .before))
+    let o = c .before .before .before .before .before .before .before .before .before .before .before .if1 .left in
+    rw (p .ensures .0) (another (file x) (last x) (chunk x) (to x) (notes₀ x) (walking x) (kept x) (left x) (id x) (len x) (told x) o
+    (g .0) (g .1 .0) (g .1 .1 .0) (whole-object (c .before .before .before .before))
     (x .before .before .before .before .before .before .before .before .pre .2) (c .before .before .before .before .before .before .before .before .notes .given) (p .last .1 .1 .1 .1 .0) (c .before .notes2 .given) (p .ensures .1))
 
 same-length-4 : tie.Need-same-length-4 Inv-loop μ-loop
