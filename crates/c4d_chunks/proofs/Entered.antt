@@ -124,37 +124,26 @@ module _ (s : List ℕ) (at id len : ℕ) (p : Before) (rs : List Object) (t : T
   opened bs = record { head = b .head; inside = subs bs }
 
   module _ (st : State) {notes₀ notes : List ℕ} (g : Known s p st rs notes₀ notes) where
+    -- what is known of materials and objects stays
+    stays : {q : Before} → q .last ≡ p .last → q .objects ≡ p .objects → Known s q st rs notes₀ notes
+    stays l o = record {
+      below-is = g .below-is ∙ sym l;
+      below-small = g .below-small;
+      seen-is = g .seen-is ∙ sym o;
+      none-yet = λ e. g .none-yet (sym o ∙ e);
+      counts = g .counts;
+      noted = g .noted;
+    }
+
     pub platform-known : kindOf id ≡ Platform → p .any ≡ false → NextIs s p at b rs notes₀ notes st
     platform-known e h =
         let k = kind-is Platform e in
-        record {
-          chunk = plainChunk;
-          taken = in-order Platform e (rw h);
-          known = rw (k, append-nil rs) record {
-            below-is = g .below-is;
-            below-small = g .below-small;
-            seen-is = g .seen-is;
-            none-yet = g .none-yet;
-            counts = g .counts;
-            noted = g .noted;
-          };
-        }
+        record { chunk = plainChunk; taken = in-order Platform e (rw h); known = rw (k, append-nil rs) (stays refl refl) }
 
     pub other-known : kindOf id ≡ Other → NextIs s p at b rs notes₀ notes st
     other-known e =
         let k = kind-is Other e in
-        record {
-          chunk = plainChunk;
-          taken = in-order Other e refl;
-          known = rw (k, append-nil rs) record {
-            below-is = g .below-is;
-            below-small = g .below-small;
-            seen-is = g .seen-is;
-            none-yet = g .none-yet;
-            counts = g .counts;
-            noted = g .noted;
-          };
-        }
+        record { chunk = plainChunk; taken = in-order Other e refl; known = rw (k, append-nil rs) (stays refl refl) }
 
     body-here : (end : ℕ) → end ≡ at + (8 + len) → b .body ≡ slice (at + 8) end s
     body-here end q =

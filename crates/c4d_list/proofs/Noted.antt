@@ -60,13 +60,13 @@ module _ (notes : List ℕ) (at : ℕ) (r : Object) (more : List ℕ) (d : drop 
         go false h = let n = eqb-false textures 0 h in pair n (g ∙ first-pair n)
 
     pub has-none : x / 16 % 2 ≡ 0 → textures ≡ 0
-    has-none z = either (λ e y. e) (λ n y. absurd (omega (arith, small .number-small)))
+    has-none z = either (λ e y. e) (λ n y. absurd (omega (arith, small)))
 
     pub has-some : (x / 16 % 2 ≡ 0 → ⊥) → textures ≡ 0 → ⊥
-    has-some z = either (λ e y. absurd (z (omega (arith, small .number-small)))) (λ n y. n)
+    has-some z = either (λ e y. absurd (z (omega (arith, small)))) (λ n y. n)
 
     pub offset-of : x / 32 ≡ r .offset
-    offset-of = either (λ e y. omega (arith, small .number-small)) (λ n y. omega (arith, small .number-small))
+    offset-of = either (λ e y. omega (arith, small)) (λ n y. omega (arith, small))
 
     pub number-of : x % 16 ≡ r .combination
-    number-of = either (λ e y. omega (arith, small .number-small)) (λ n y. omega (arith, small .number-small))
+    number-of = either (λ e y. omega (arith, small)) (λ n y. omega (arith, small))

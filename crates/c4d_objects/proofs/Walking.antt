@@ -13,7 +13,6 @@ use Rattle.shared_numbers.specs.Put.{Put}
 use Rattle.shared_numbers.proofs.Put.{put-none, put-then}
 use Rattle.c4d_rules.specs.Blocks.{Block, objectHeader}
 use Rattle.c4d_rules.specs.Kinds.{tObject}
-use Rattle.c4d_rules.specs.Rules.{limit}
 use Rattle.c4d_rules.specs.Gives.{Object, materialsOf, objectAt}
 use Rattle.c4d_rules.specs.Calls.{allMaterials}
 use Rattle.c4d_blocks.specs.Headers.{blockIn, Tells}
@@ -132,9 +131,9 @@ module _ (s : List ℕ) (last : Option ℕ) (chunk to : ℕ) (notes₀ : List �
           one-notes : notesOf one ≡ front at number more ++ materialsOf (w .blocks)
           one-notes = rw (w .number-is, w .textures-are)
 
-          pub another : to ≤ limit → length notes′ ≡ length notes → (notes″ : List ℕ) → length notes″ ≡ length notes′ →
+          pub another : length notes′ ≡ length notes → (notes″ : List ℕ) → length notes″ ≡ length notes′ →
               (row + space ≤ length notes′ → Put notes′ row (front at number more) notes″ (row + space)) → Walking notes″ end (count + 1) (textures + more) (row + space + more)
-          another near same notes″ same′ put =
+          another same notes″ same′ put =
               let f = t .fits in
               let x = i .short in
               let y = i .few-objects in
@@ -154,7 +153,7 @@ module _ (s : List ℕ) (last : Option ℕ) (chunk to : ℕ) (notes₀ : List �
                 row-is = omega (arith, ap length n, length-append (allNotes (i .done)) (front at number more ++ materialsOf (w .blocks)), length-append (front at number more) (materialsOf (w .blocks)), i .row-is, w .textures-are);
                 noted = λ r. let d = put-all r in rw n d;
                 same-long = same′ ∙ same ∙ v;
-                each-small = all-append Small (i .done) (one ∷ []) (i .each-small) (record { offset-small = omega arith; number-small = rw (← (w .number-is)) (w .number-small) }, tt);
+                each-small = all-append Small (i .done) (one ∷ []) (i .each-small) (rw (← (w .number-is)) (w .number-small), tt);
                 short = omega arith;
                 few-objects = omega arith;
                 few-textures = omega arith;

@@ -7,7 +7,6 @@ use lib.ListN.{length}
 use Rattle.shared_words.specs.Conditions.{Answer, refused, accepted}
 use Rattle.shared_words.specs.Lists.{All}
 use Rattle.shared_numbers.specs.Put.{Put}
-use Rattle.c4d_rules.specs.Rules.{limit}
 use Rattle.c4d_rules.specs.Gives.{Object}
 use Rattle.c4d_rules.specs.Calls.{allMaterials}
 use Rattle.c4d_object.specs.One.{Roomy}
@@ -25,10 +24,9 @@ abbrev pub allNotes : List Object → List ℕ
 allNotes [] = []
 allNotes (r ∷ rs) = notesOf r ++ allNotes rs
 
--- what makes notes of an object readable again
-pub record Small (r : Object) : Type 0 where
-  pub offset-small : r .offset ≤ limit
-  pub number-small : r .combination ≤ 9
+-- 16 is told apart from a combination
+abbrev pub Small : Object → Type 0
+Small r = r .combination ≤ 9
 
 -- ---- of the whole OBJ5
 
@@ -36,11 +34,6 @@ pub record Small (r : Object) : Type 0 where
 abbrev pub tallied : Answer (List Object) → Tally
 tallied (refused r) = Tally.Refused r
 tallied (accepted rs) = Tally.Count (length rs) (length (allMaterials rs))
-
--- there are no more than bytes
-abbrev pub Few : ℕ → Tally → Type 0
-Few to (Tally.Refused r) = Unit
-Few to (Tally.Count n m) = (n ≤ to) × (m ≤ to)
 
 -- the notes are those of all its objects, where there is room
 pub record Noted (s : List ℕ) (rs : List Object) (notes notes′ : List ℕ) : Type 0 where

@@ -15,7 +15,7 @@ ghost use Rattle.shared_numbers.specs.Put.{Put};
 ghost use Rattle.c4d_rules.specs.Rules.{limit};
 ghost use Rattle.c4d_held.specs.Held.{lastOf};
 ghost use Rattle.c4d_object.specs.Ahead.{ahead};
-ghost use Rattle.c4d_objects.specs.Notes.{front, tallied, Few, Notes};
+ghost use Rattle.c4d_objects.specs.Notes.{front, tallied, Notes};
 
 const T_OBJECT: usize = 1;
 
@@ -50,7 +50,6 @@ fn note_object(
 pub fn objects(file: &[u8], chunk: usize, to: usize, below: usize, notes: &mut [u32]) -> Tally
     requires { ⌜ (chunk + 8 ≤ to) × (to ≤ length (now file)) × (to ≤ limit) × (below ≤ 0x8000_0000) ⌝ }
     ensures is { λ r. ⌜ r ≡ tallied (ahead (now (file .entry)) (lastOf below) chunk to (chunk + 8) none (chunk + 8)) ⌝ }
-    ensures few { λ r. ⌜ Few to r ⌝ }
     ensures noted { λ _. ⌜ Notes (now (file .entry)) (ahead (now (file .entry)) (lastOf below) chunk to (chunk + 8) none (chunk + 8)) (now (notes .entry)) (now (notes .exit)) ⌝ }
 {
     let mut at = chunk + 8;

@@ -37,7 +37,7 @@ returns-3 c = λ id e len p rs notes₀ q t a g.
     let ran = c .before .before .before .before .before .objects in
     let d = c .before .n .given in
     objects-known (x .file .now) (x .at) id len p rs t (x .state) g e (x .end) q (c .before .before .before .before .before .before .before .if1 .left) (d .0 .0) (d .0 .1 .0) (ran .last .1 .1 .1 .1 .0)
-    (sym (d .1) ∙ ran .ensures .0) (ran .ensures .1 .1)
+    (sym (d .1) ∙ ran .ensures .0) (ran .ensures .1)
 
 pub enter-objects-spec : {M : Type 1} → statement M
 enter-objects-spec =

@@ -124,8 +124,7 @@ returns c =
     let e = subst (Sees objectHeader (a .file .now) (l .at) (a .to)) (c .enum-told .given .1) (c .before .before .object-at .ensures) in
     let z = fault-there (a .file .now) (lastOf (a .below)) (a .chunk) (a .to) (a .notes .now) (l .inv) k (Overrun (l .at))
     (cut (a .file .now) (lastOf (a .below)) (a .chunk) (a .to) k (l .inv .begun) none (l .at) (omega arith) e) in
-    let w = with-refusal (a .file .now) (lastOf (a .below)) (a .chunk) (a .to) (a .notes .now) (l .notes) (Overrun (l .at)) z in
-    (w .0, (tt, w .1))
+    with-refusal (a .file .now) (lastOf (a .below)) (a .chunk) (a .to) (a .notes .now) (l .notes) (Overrun (l .at)) z
 
 judge-outside-requires : tie.Need-judge-outside-requires Inv-loop μ-loop
 judge-outside-requires c κs = c .if1 .taken
@@ -141,8 +140,7 @@ returns-2 c =
     let x = c .before .before .before .before .before in
     let g = c .before .r .given in
     let z = outside (file x) (last x) (chunk x) (to x) (notes₀ x) (walking x) (kept x) (left x) (id x) (len x) (told x) (g .0 .0) (judged (c .before .before .before) (g .1)) in
-    let w = with-refusal (file x) (last x) (chunk x) (to x) (notes₀ x) (x .before .before .before .before .before .loop .notes) (g .0 .0) z in
-    (w .0, (tt, w .1))
+    with-refusal (file x) (last x) (chunk x) (to x) (notes₀ x) (x .before .before .before .before .before .loop .notes) (g .0 .0) z
 
 enum-told-2 : tie.Need-enum-told-2 Inv-loop μ-loop
 enum-told-2 c = search needs
@@ -184,8 +182,7 @@ returns-3 c =
     let x = c .before .before .before .before .before .before .before .before in
     let g = c .before .r2 .given in
     let z = inside (file x) (last x) (chunk x) (to x) (notes₀ x) (walking x) (kept x) (left x) (id x) (len x) (told x) (c .before .before .before .before .before .before .before .if1 .left) (g .0 .0) (read (c .before .before .before) (g .1)) in
-    let w = with-refusal (file x) (last x) (chunk x) (to x) (notes₀ x) (notes₁ (c .before .before .before)) (g .0 .0) z in
-    (w .0, (tt, w .1))
+    with-refusal (file x) (last x) (chunk x) (to x) (notes₀ x) (notes₁ (c .before .before .before)) (g .0 .0) z
 
 enum-known-end : tie.Need-enum-known-end Inv-loop μ-loop
 enum-known-end c = search needs
@@ -226,7 +223,7 @@ loop-again-2 c =
     let o = c .before .before .before .before .before .before .before .before .before .before .before .if1 .left in
     rw (p .ensures .0) (another (file x) (last x) (chunk x) (to x) (notes₀ x) (walking x) (kept x) (left x) (id x) (len x) (told x) o
     (g .0) (g .1 .0) (g .1 .1 .0) (whole-object (c .before .before .before .before))
-    (x .before .before .before .before .before .before .before .before .pre .2) (c .before .before .before .before .before .before .before .before .notes .given) (p .last .1 .1 .1 .1 .0) (c .before .notes2 .given) (p .ensures .1))
+    (c .before .before .before .before .before .before .before .before .notes .given) (p .last .1 .1 .1 .1 .0) (c .before .notes2 .given) (p .ensures .1))
 
 same-length-4 : tie.Need-same-length-4 Inv-loop μ-loop
 same-length-4 c = c .before .loop .inv .same-long
@@ -236,8 +233,7 @@ returns-4 c =
     let a = c .before .before .before .before .args in
     let l = c .before .loop in
     let t = l .inv .within in
-    let w = at-its-end (a .file .now) (lastOf (a .below)) (a .chunk) (a .to) (a .notes .now) (l .inv) (c .before .before .before .before .pre .1) (omega arith) in
-    (w .0, ((omega (arith, l .inv .few-objects), omega (arith, l .inv .few-textures)), w .1))
+    at-its-end (a .file .now) (lastOf (a .below)) (a .chunk) (a .to) (a .notes .now) (l .inv) (c .before .before .before .before .pre .1) (omega arith)
 
 pub objects-spec : {M : Type 1} → statement M
 objects-spec =
