@@ -58,19 +58,21 @@ pub fn object(
         let Seen::Block(id, len) = object_at(file, at, to) else {
             return One::Refused(Refusal::Overrun(at));
         };
+        // made at once, since position and size would take two registers
+        let next = at + (4 + len);
         if id == T_END {
             let number = combined(held);
             if number == 0 {
                 return One::Refused(Refusal::Combination(at));
             }
-            return One::Whole(at + (4 + len), number, textures);
+            return One::Whole(next, number, textures);
         }
         if id == T_OBJECT {
             return One::Refused(Refusal::Order(at));
         }
         held = with_one(held, id);
         if id != T_TEXTURE {
-            at += 4 + len;
+            at = next;
             continue;
         }
         match judge_texture(file, at, len, below) {

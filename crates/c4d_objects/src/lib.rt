@@ -60,14 +60,15 @@ pub fn objects(file: &[u8], chunk: usize, to: usize, below: usize, notes: &mut [
         let Seen::Block(id, len) = object_at(file, at, to) else {
             return Tally::Refused(Refusal::Overrun(at));
         };
+        let next = at + (4 + len);
         if id != T_OBJECT {
             if let Outside::Refused(r) = judge_outside(at, id, len) {
                 return Tally::Refused(r);
             }
-            at += 4 + len;
+            at = next;
             continue;
         }
-        match object(file, chunk, at + (4 + len), to, below, row, notes) {
+        match object(file, chunk, next, to, below, row, notes) {
             One::Refused(r) => {
                 return Tally::Refused(r);
             }

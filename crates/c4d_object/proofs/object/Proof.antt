@@ -108,6 +108,12 @@ returns c = λ begun.
     let e = subst (Sees objectHeader (a .file .now) (l .at) (a .to)) (c .enum-told .given .1) (c .before .before .object-at .ensures) in
     l .inv .goes begun ∙ cut (a .file .now) (lastOf (a .below)) (a .chunk) (a .to) (c .before .before .before .before .before .before .before .before .pre .1) begun (some (l .inv .blocks)) (l .at) (omega arith) e
 
+add-next : tie.Need-add-next Inv-loop μ-loop
+add-next c = omega (arith, told c .fits, kept c)
+
+add-next-2 : tie.Need-add-next-2 Inv-loop μ-loop
+add-next-2 c = omega (arith, told c .fits, kept c)
+
 combined-requires : tie.Need-combined-requires Inv-loop μ-loop
 combined-requires c κs = search needs
 
@@ -120,12 +126,6 @@ returns-2 c =
     let i = reading x in
     mixed (file x) (last x) (chunk x) (from x) (to x) (row x) (notes₀ x) i (kept x) (left x) (id x) (len x) (told x) (c .before .before .if1 .taken) (c .before .combined .result)
     (c .before .combined .ensures .0 (identifiers (i .blocks)) (i .held-is)) (c .if2 .taken)
-
-add-t21 : tie.Need-add-t21 Inv-loop μ-loop
-add-t21 c = let x = c .before .before .before in omega (arith, told x .fits, kept x)
-
-add-t22 : tie.Need-add-t22 Inv-loop μ-loop
-add-t22 c = let x = c .before .before .before in omega (arith, told x .fits, kept x)
 
 same-length-3 : tie.Need-same-length-3 Inv-loop μ-loop
 same-length-3 c = reading (c .before .before .before) .same-long
@@ -149,12 +149,6 @@ with-one-requires : tie.Need-with-one-requires Inv-loop μ-loop
 with-one-requires c κs =
     let x = c .before .before in
     present-small (file x) (last x) (chunk x) (from x) (to x) (row x) (notes₀ x) (reading x)
-
-add-at : tie.Need-add-at Inv-loop μ-loop
-add-at c = let x = c .before .before .before .before in omega (arith, told x .fits, kept x)
-
-add-at-2 : tie.Need-add-at-2 Inv-loop μ-loop
-add-at-2 c = let x = c .before .before .before .before in omega (arith, told x .fits, kept x)
 
 loop-less : tie.Need-loop-less Inv-loop μ-loop
 loop-less c = let x = c .before .before .before .before in omega (arith, told x .fits, left x)
@@ -205,8 +199,8 @@ note-requires c κs = judged (c .before .before .before .before) (c .before .bef
 add-textures : tie.Need-add-textures Inv-loop μ-loop
 add-textures c = let x = c .before .before .before .before .before .before .before .before .before .before .before .before in omega (arith, kept x, left x, reading x .passed)
 
-add-at-3 : tie.Need-add-at-3 Inv-loop μ-loop
-add-at-3 c = let x = c .before .before .before .before .before .before .before .before .before .before .before .before in omega (arith, room (c .before .before .before .before), kept x)
+add-at : tie.Need-add-at Inv-loop μ-loop
+add-at c = let x = c .before .before .before .before .before .before .before .before .before .before .before .before in omega (arith, room (c .before .before .before .before), kept x)
 
 loop-less-2 : tie.Need-loop-less-2 Inv-loop μ-loop
 loop-less-2 c = let x = c .before .before .before .before .before .before .before .before .before .before .before .before in omega (arith, room (c .before .before .before .before), left x)
@@ -242,18 +236,16 @@ object-spec =
     enum-told
     same-length
     returns
+    add-next
+    add-next-2
     combined-requires
     same-length-2
     returns-2
-    add-t21
-    add-t22
     same-length-3
     returns-3
     same-length-4
     returns-4
     with-one-requires
-    add-at
-    add-at-2
     loop-less
     loop-again
     judge-texture-requires
@@ -265,7 +257,7 @@ object-spec =
     add-note-2
     note-requires
     add-textures
-    add-at-3
+    add-at
     loop-less-2
     loop-again-2
     same-length-6

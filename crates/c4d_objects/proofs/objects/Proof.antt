@@ -126,6 +126,12 @@ returns c =
     (cut (a .file .now) (lastOf (a .below)) (a .chunk) (a .to) k (l .inv .begun) none (l .at) (omega arith) e) in
     with-refusal (a .file .now) (lastOf (a .below)) (a .chunk) (a .to) (a .notes .now) (l .notes) (Overrun (l .at)) z
 
+add-next : tie.Need-add-next Inv-loop μ-loop
+add-next c = omega (arith, told c .fits, kept c)
+
+add-next-2 : tie.Need-add-next-2 Inv-loop μ-loop
+add-next-2 c = omega (arith, told c .fits, kept c)
+
 judge-outside-requires : tie.Need-judge-outside-requires Inv-loop μ-loop
 judge-outside-requires c κs = c .if1 .taken
 
@@ -145,12 +151,6 @@ returns-2 c =
 enum-told-2 : tie.Need-enum-told-2 Inv-loop μ-loop
 enum-told-2 c = search needs
 
-add-at-2 : tie.Need-add-at-2 Inv-loop μ-loop
-add-at-2 c = let x = c .before .before .before .before in omega (arith, told x .fits, kept x)
-
-add-at-3 : tie.Need-add-at-3 Inv-loop μ-loop
-add-at-3 c = let x = c .before .before .before .before in omega (arith, told x .fits, kept x)
-
 loop-less : tie.Need-loop-less Inv-loop μ-loop
 loop-less c = let x = c .before .before .before .before in omega (arith, told x .fits, left x)
 
@@ -158,12 +158,6 @@ loop-again : tie.Need-loop-again Inv-loop μ-loop
 loop-again c =
     let x = c .before .before .before .before in
     skipped (file x) (last x) (chunk x) (to x) (notes₀ x) (walking x) (kept x) (left x) (id x) (len x) (told x) (c .before .before .before .if1 .taken) (judged (c .before .before) (c .enum-told2 .given .1))
-
-add-object : tie.Need-add-object Inv-loop μ-loop
-add-object c = let x = c .before in omega (arith, told x .fits, kept x)
-
-add-object-2 : tie.Need-add-object-2 Inv-loop μ-loop
-add-object-2 c = let x = c .before in omega (arith, told x .fits, kept x)
 
 object-requires : tie.Need-object-requires Inv-loop μ-loop
 object-requires c κs =
@@ -248,17 +242,15 @@ objects-spec =
     enum-told
     same-length
     returns
+    add-next
+    add-next-2
     judge-outside-requires
     enum-known-r
     same-length-2
     returns-2
     enum-told-2
-    add-at-2
-    add-at-3
     loop-less
     loop-again
-    add-object
-    add-object-2
     object-requires
     enum-known-r-2
     same-length-3
