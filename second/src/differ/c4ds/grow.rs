@@ -157,6 +157,21 @@ impl File {
         File::of(vec![chunk(*b"OBJ5", inside)])
     }
 
+    /// Objects without data, up to some 16,000 of them, some with a texture.
+    pub fn many_small(random: &mut Random) -> File {
+        let most = 1 << random.from_to(1, 14);
+        let textured = random.pick(&[0, 0, 5, 50]);
+        let mut inside = Vec::new();
+        for _ in 0..random.from_to(1, most) {
+            inside.push(empty(1));
+            if random.chance(textured) {
+                inside.push(texture(Some(3), random));
+            }
+            inside.push(empty(0));
+        }
+        File::of(vec![materials(3, random), chunk(*b"OBJ5", inside)])
+    }
+
     /// Puts in chunks that are skipped.
     fn others(&mut self, random: &mut Random) {
         while random.chance(25) {
@@ -262,6 +277,15 @@ fn bytes(letters: [u8; 4], random: &mut Random) -> Chunk {
     }
 }
 
+/// A sub-chunk without data.
+fn empty(identifier: u16) -> Sub {
+    Sub {
+        identifier,
+        body: vec![],
+        size_off: 0,
+    }
+}
+
 /// A sub-chunk of a few bytes.
 pub fn sub(identifier: u16, random: &mut Random) -> Sub {
     let length = if random.chance(97) {
@@ -270,9 +294,8 @@ pub fn sub(identifier: u16, random: &mut Random) -> Sub {
         random.below(300)
     };
     Sub {
-        identifier,
         body: random.bytes(length),
-        size_off: 0,
+        ..empty(identifier)
     }
 }
 
