@@ -101,6 +101,12 @@ int long_stat(const char *path, int link, struct stat *status) {
                                  : -1;
 }
 
+bool long_same_folder(const char *one, const char *other) {
+    struct stat first, second;
+    return long_stat(one, 0, &first) == 0 && long_stat(other, 0, &second) == 0 &&
+           S_ISDIR(first.st_mode) && first.st_dev == second.st_dev && first.st_ino == second.st_ino;
+}
+
 int long_mkdir(const char *path) {
     struct place at;
     return find_place(&at, path) ? leave_place(&at, mkdirat(at.folder, at.name, 0777)) : -1;

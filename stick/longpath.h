@@ -2,6 +2,7 @@
 #ifndef STICK_LONGPATH_H
 #define STICK_LONGPATH_H
 
+#include <stdbool.h>
 #include <sys/stat.h>
 
 /* As open(2) with these flags, but the path may be longer than the system takes at once. */
@@ -12,6 +13,9 @@ int long_create(const char *path);
 
 /* As stat(2), and as lstat(2) if `link` is not 0, but for a path of any length. */
 int long_stat(const char *path, int link, struct stat *status);
+
+/* Whether two paths are of one folder, which is there. */
+bool long_same_folder(const char *one, const char *other);
 
 /* As mkdir(2), unlink(2) and rename(2), for paths of any length. */
 int long_mkdir(const char *path);

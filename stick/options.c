@@ -203,6 +203,26 @@ static void judge_rescue(struct options *options) {
     }
 }
 
+/* A folder that was named before, by whatever name, or NULL. */
+static const char *named_again(const struct options *options) {
+    for (size_t i = 1; i < options->count; i++) {
+        for (size_t earlier = 0; earlier < i; earlier++) {
+            if (long_same_folder(options->arguments[earlier], options->arguments[i])) {
+                return options->arguments[i];
+            }
+        }
+    }
+    return NULL;
+}
+
+/* Two writers in one folder would be in each other's way. */
+static void judge_writing(struct options *options) {
+    const char *again = named_again(options);
+    if (again != NULL) {
+        mistake(options, "each stick is written once: leave the second ", again, " away");
+    }
+}
+
 /* What only the whole command line can tell. An option that would do nothing may be a mistake. */
 static void judge(struct options *options) {
     if (options->task == TASK_EXPLAIN) {
@@ -222,6 +242,8 @@ static void judge(struct options *options) {
         mistake(options, "a batch has one folder: leave ", options->arguments[1], " away");
     } else if (options->batch == 0 && options->log != NULL) {
         mistake(options, "only a batch is logged: give --batch N too, or leave ", "--log", " away");
+    } else if (options->edition != NULL || options->write_slip) {
+        judge_writing(options);
     }
 }
 

@@ -111,18 +111,12 @@ static void check_and_write_slip(const struct session *session, const char *fold
     manifest_free(&files);
 }
 
-static bool same_folder(const char *one, const char *other) {
-    struct stat first, second;
-    return long_stat(one, 0, &first) == 0 && long_stat(other, 0, &second) == 0 &&
-           S_ISDIR(first.st_mode) && first.st_dev == second.st_dev && first.st_ino == second.st_ino;
-}
-
 /* Whether nothing can be done with a folder, and why. */
 static bool is_unfit(const struct round *round, size_t job, struct trouble *trouble) {
     const char *folder = round->folders[job], *master = round->session->options->against;
     if (*folder == '\0') {
         trouble_of_words(trouble, "the name is empty", "give a folder, for example /media/stick");
-    } else if (master != NULL && same_folder(master, folder)) { /* it would pass in any case */
+    } else if (master != NULL && long_same_folder(master, folder)) { /* it would pass in any case */
         trouble_of_words(trouble, "it is the master itself", "give the folder of the stick");
     } else {
         return false;

@@ -24,6 +24,13 @@ matches out "$T/two: PASS: 6 figures checked, 0 refused"
 last "PASS: 3 folders, 18 figures checked, 0 refused, $seconds"
 for name in one two three; do as_edition "$T/$name"; done
 
+try 'a stick named twice, by whatever name: nothing is written'
+mkdir "$T/once"
+stick --copy "$E" "$T/one" "$T/once" "$T/./once"
+status_is 2
+has err "stick: each stick is written once: leave the second $T/./once away"
+if [ -z "$(ls "$T/once")" ]; then pass; else fail 'something was written'; fi
+
 try 'a copy is read from the stick, not from memory'
 mkdir "$T/settled"
 cp "$E/adze.3ds" "$T/settled"
