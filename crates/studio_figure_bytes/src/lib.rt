@@ -17,7 +17,7 @@ ghost use Rattle.studio_figure_rules.specs.Given.{over};
 ghost use Rattle.studio_figure_rules.specs.Judged.{total};
 ghost use Rattle.studio_figure_rules.specs.Described.{judgedFlat};
 ghost use Rattle.studio_figure_rows.specs.Rows.{flat, entry, sumTo, run};
-ghost use Rattle.studio_figure_objects.specs.Sizes.{between, objectBytes};
+ghost use Rattle.studio_figure_objects.specs.Sizes.{objectBytes};
 ghost use Rattle.studio_figure_bytes.specs.Objects.{At, Behind, Writable, flatBytes, pieces};
 
 const ANY: usize = 0x7FFF_FFFF_FFFF_FFFF;

@@ -17,7 +17,7 @@ ghost use lib.ListN.{length};
 ghost use Rattle.studio_figure_rules.specs.Described.{judgedFlat};
 ghost use Rattle.studio_figure_rows.specs.Rows.{flat, sumTo};
 ghost use Rattle.studio_figure_objects.specs.Asked.{answered};
-ghost use Rattle.studio_figure_judge.specs.Judged.{materialsAt, groupsAt, textAsked, sameAsked, materialAsked, namesAsked, objectsAsked, sizeIs, sizeAnswer};
+ghost use Rattle.studio_figure_judge.specs.Judged.{groupsAt, textAsked, sameAsked, materialAsked, namesAsked, objectsAsked, sizeIs, sizeAnswer};
 
 // The longest file, and more than any sum of lengths of rows.
 const LIMIT: usize = 1048576;

@@ -5,7 +5,7 @@ use Prim.Native.Nat.{ℕ, _+_, _<_}
 use lib.ListN.{length}
 use lib.Seq.{slice}
 use Rattle.studio_rules.specs.Rules.{Parent}
-use Rattle.studio_rules.specs.Walk.{Step, pass, step}
+use Rattle.studio_rules.specs.Walk.{pass, step}
 
 -- in the run of p that ends at `end` in the file s, after the children `seen`: from `at` on the walk skips chunk after chunk
 pub data Passes (p : Parent) (seen s : List ℕ) (at end : ℕ) : ℕ → Type 0 where
