@@ -9,7 +9,7 @@ use Rattle.shared_words.proofs.Bytes.{length-packed}
 use Rattle.studio_rules.specs.Layout.{bytes}
 use Rattle.studio_rules.proofs.Sound.{length-bytes}
 use Rattle.studio_figure_rules.specs.Given.{over}
-use Rattle.studio_figure_rules.specs.Judged.{total}
+use Rattle.shared_words.specs.Lists.{total}
 use Rattle.studio_figure_rules.specs.Built.{smoothingChunk}
 use Rattle.studio_figure_rows.specs.Rows.{entry, sumTo, run, part, nameAt}
 use Rattle.studio_figure_rows.proofs.Runs.{sum-next, sum-up}

@@ -14,7 +14,7 @@ ghost use lib.ListN.{length};
 ghost use Rattle.shared_words.specs.declared.Written.{Written};
 ghost use Rattle.shared_numbers.specs.Put.{Put};
 ghost use Rattle.studio_figure_rules.specs.Given.{over};
-ghost use Rattle.studio_figure_rules.specs.Judged.{total};
+ghost use Rattle.shared_words.specs.Lists.{total};
 ghost use Rattle.studio_figure_rules.specs.Described.{judgedFlat};
 ghost use Rattle.studio_figure_rows.specs.Rows.{flat, entry, sumTo, run};
 ghost use Rattle.studio_figure_objects.specs.Sizes.{objectBytes};

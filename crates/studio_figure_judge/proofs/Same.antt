@@ -11,7 +11,8 @@ use Rattle.studio_write.specs.ReadsBack.{Floats32}
 use Rattle.studio_figure_rules.specs.Given as given
 use Rattle.studio_figure_rules.specs.Given.{Group, Object, Material, over}
 use Rattle.studio_figure_rules.specs.Judged as judged
-use Rattle.studio_figure_rules.specs.Judged.{total, groupSize, smoothingSize, objectSize, materialSize, sizeOf, noZero, isLabel, differ, conditions}
+use Rattle.studio_figure_rules.specs.Judged.{groupSize, smoothingSize, objectSize, materialSize, sizeOf, noZero, isLabel, differ, conditions}
+use Rattle.shared_words.specs.Lists.{total}
 use Rattle.studio_figure_rules.specs.Described.{Flat}
 use Rattle.studio_figure_rules.proofs.AsBefore.{all-finite, first-finite}
 use Rattle.studio_figure_rows.specs.Rows as rows

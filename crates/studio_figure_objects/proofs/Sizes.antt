@@ -6,7 +6,7 @@ use mathlib.Core.Bool.{Bool, true, false}
 use mathlib.Core.List.{List, []}
 use lib.Dec.{leb}
 use borrow.Author.Tests.{leb-true, leb-false}
-use Rattle.studio_figure_rules.specs.Judged.{total}
+use Rattle.shared_words.specs.Lists.{total}
 use Rattle.studio_figure_rows.specs.Rows.{entry, sumTo, run, Capped}
 use Rattle.studio_figure_rows.proofs.Runs.{run-opened, run-none}
 use Rattle.studio_figure_objects.specs.Sizes.{wordsSize, groupBytes, objectBytes}

@@ -10,7 +10,7 @@ use lib.Seq.{drop-drop}
 use borrow.Author.Tests.{eqb-true}
 use Rattle.shared_words.specs.Conditions.{broken}
 use Rattle.shared_words.proofs.Conditions.{met}
-use Rattle.studio_figure_rules.specs.Judged.{total}
+use Rattle.shared_words.specs.Lists.{total}
 use Rattle.studio_figure_rules.specs.Described.{Flat, ObjectCounts, GroupCounts, objectsIn, groupsIn, objectNameBytes, materialNameBytes, groupNameBytes, groupsOf, materialsOf, fitConditions, described}
 use Rattle.studio_figure_rows.specs.Rows.{entry, sumTo, run, part, objectCount, groupCount, materialsFrom, groupsFrom, groupAt, objectAt, materialAt, figureOf}
 use Rattle.studio_figure_rows.specs.Same.{Fits, ByPosition}

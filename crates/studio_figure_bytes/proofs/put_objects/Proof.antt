@@ -6,7 +6,7 @@ use lib.ListN.{length}
 use Rattle.shared_numbers.specs.Put.{Put}
 use Rattle.shared_numbers.proofs.Put.{put-none, put-then}
 use Rattle.studio_figure_rules.specs.Given.{over}
-use Rattle.studio_figure_rules.specs.Judged.{total}
+use Rattle.shared_words.specs.Lists.{total}
 use Rattle.studio_figure_rows.specs.Rows.{run}
 use Rattle.studio_figure_objects.specs.Sizes.{objectBytes}
 use Rattle.studio_figure_chunks.proofs.Chunks.{over-last}
