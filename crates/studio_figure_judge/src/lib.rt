@@ -94,8 +94,10 @@ fn judge_all_objects(
     groups: &[u32],
     faces: &[u16],
 ) -> Written
-    requires { ⌜ (sumTo 5 1 (now objects) (length (now objects) / 5) ≤ length (now vertices)) × (sumTo 5 2 (now objects) (length (now objects) / 5) ≤ length (now corners)) ⌝ }
-    requires { ⌜ (2 * sumTo 5 4 (now objects) (length (now objects) / 5) ≤ length (now groups)) × (sumTo 2 1 (now groups) (sumTo 5 4 (now objects) (length (now objects) / 5)) ≤ length (now faces)) ⌝ }
+    requires { ⌜ (sumTo 5 1 (now objects) (length (now objects) / 5) ≤ length (now vertices)) ×
+        (sumTo 5 2 (now objects) (length (now objects) / 5) ≤ length (now corners)) ⌝ }
+    requires { ⌜ (2 * sumTo 5 4 (now objects) (length (now objects) / 5) ≤ length (now groups)) ×
+        (sumTo 2 1 (now groups) (sumTo 5 4 (now objects) (length (now objects) / 5)) ≤ length (now faces)) ⌝ }
     ensures { λ r. ⌜ r ≡ answered (objectsAsked (now (objects .entry)) (now (vertices .entry)) (now (corners .entry)) (now (groups .entry)) (now (faces .entry))) ⌝ }
 {
     let n = objects.len() / 5;
@@ -110,7 +112,8 @@ fn judge_all_objects(
 
 // 1 and 15, or the size.
 fn judge_size(objects: &[u32], groups: &[u32], materials: &[u32], room: usize) -> Written
-    requires { ⌜ (2 * sumTo 5 4 (now objects) (length (now objects) / 5) ≤ length (now groups)) × (sumTo 1 0 (now materials) (length (now materials)) < 9223372036854775808) ⌝ }
+    requires { ⌜ (2 * sumTo 5 4 (now objects) (length (now objects) / 5) ≤ length (now groups)) ×
+        (sumTo 1 0 (now materials) (length (now materials)) < 9223372036854775808) ⌝ }
     ensures { λ r. ⌜ r ≡ sizeAnswer (sizeIs (now (objects .entry)) (now (groups .entry)) (now (materials .entry))) room ⌝ }
 {
     let first = materials_size(

@@ -150,7 +150,8 @@ fn judge_group_indices(
     n: usize,
     start: usize,
 ) -> Written
-    requires { ⌜ (2 * (first + n) ≤ length (now groups)) × (start ≡ sumTo 2 1 (now groups) first) × (sumTo 2 1 (now groups) (first + n) ≤ length (now faces)) ⌝ }
+    requires { ⌜ (2 * (first + n) ≤ length (now groups)) × (start ≡ sumTo 2 1 (now groups) first) ×
+        (sumTo 2 1 (now groups) (first + n) ≤ length (now faces)) ⌝ }
     ensures { λ r. ⌜ r ≡ answered (groupIndices (now (groups .entry)) (now (faces .entry)) f first n) ⌝ }
 {
     let mut at = start;

@@ -159,4 +159,5 @@ at father depth = record { father = father; depth = depth }
 
 pub record Worked : Type 0 where
   -- father and depth of each part
-  pub tree : partsIn (reading (keyframer (part root then part 0 then part 1 then part 0 then part root))) ≡ at root 0 ∷ at 0 1 ∷ at 1 2 ∷ at 0 1 ∷ at root 0 ∷ []
+  pub tree : partsIn (reading (keyframer (part root then part 0 then part 1 then part 0 then part root))) ≡
+      at root 0 ∷ at 0 1 ∷ at 1 2 ∷ at 0 1 ∷ at root 0 ∷ []
