@@ -13,9 +13,9 @@ use Rattle.shared_words.specs.Conditions.{refused, accepted}
 use Rattle.shared_words.specs.declared.Refusal.the-variants.{NoRoom}
 use Rattle.shared_words.specs.Effects.{Effect, leaving, filled}
 use Rattle.shared_words.specs.Encodings.{Encoding}
-use Rattle.shared_words.specs.Lists.{All}
+use Rattle.shared_words.specs.Lists.{All, total}
 use Rattle.shared_words.proofs.Bools.{and-parts}
-use Rattle.shared_flat.specs.Flat.{total, records}
+use Rattle.shared_flat.specs.Flat.{records}
 use Rattle.cob_rules.specs.declared.Answered.{Answered}
 use Rattle.cob_rules.specs.declared.Kind.{Kind}
 use Rattle.cob_rules.specs.Fields.{negative}

@@ -20,7 +20,9 @@ abbrev pub ListProper : Type 0
 ListProper = (e : Encoding Record ℕ) (s row : List ℕ) (n : ℕ) → listCall e s row .answer ≡ Answered.Count n → countOr (listCall e s row .answer) < 2 ^ 32
 
 abbrev pub SizesProper : Type 0
-SizesProper = (e : Encoding ℕ ℕ) (s row : List ℕ) (mesh n : ℕ) → sizesCall e s mesh row .answer ≡ Answered.Count n → countOr (sizesCall e s mesh row .answer) < 2 ^ 32
+SizesProper =
+    (e : Encoding ℕ ℕ) (s row : List ℕ) (mesh n : ℕ) →
+    sizesCall e s mesh row .answer ≡ Answered.Count n → countOr (sizesCall e s mesh row .answer) < 2 ^ 32
 
 abbrev pub TablesProper : Type 0
 TablesProper = (e : Encoding ℕ ℕ) (s : List ℕ) (mesh : ℕ) (rows : Rows) (n : ℕ) → tablesCall e s mesh rows .answer ≡ Answered.Count n →

@@ -97,8 +97,10 @@ pub record Told : Type 1 where
   pub name : (s : List ℕ) (mesh : ℕ) (out : List ℕ) → NameTold (nameCall s mesh) (nameGiven out (nameCall s mesh) .answer)
   pub box : (s : List ℕ) (mesh : ℕ) (out : List ℕ) → BoxTold (boxCall s mesh) (boxGiven out (boxCall s mesh) .answer)
   pub parts : {A : Type 0} (e : Encoding Part A) (s : List ℕ) (row : List A) → CountedTold (partsCall e s row .answer) (countedOr (partsCall e s row .answer))
-  pub meshes : {A : Type 0} (e : Encoding Standing A) (s : List ℕ) (row : List A) → CountedTold (meshesCall e s row .answer) (countedOr (meshesCall e s row .answer))
-  pub rescue : {A : Type 0} (e : Encoding Cut A) (s : List ℕ) → Bytes s → (rows : Lent A) → RescueTold (rescueCall e s rows .answer) (cutsOr (rescueCall e s rows .answer))
+  pub meshes : {A : Type 0} (e : Encoding Standing A) (s : List ℕ) (row : List A) →
+      CountedTold (meshesCall e s row .answer) (countedOr (meshesCall e s row .answer))
+  pub rescue : {A : Type 0} (e : Encoding Cut A) (s : List ℕ) → Bytes s → (rows : Lent A) →
+      RescueTold (rescueCall e s rows .answer) (cutsOr (rescueCall e s rows .answer))
   pub write : (name : List ℕ) (vertices : List Float) (corners out : List ℕ) →
       WriteTold (writeCall name vertices corners out .answer) (sizeOr (writeCall name vertices corners out .answer))
   pub figure : (rows : Flat) (out : List ℕ) → WriteTold (writeFlat rows out .answer) (sizeOr (writeFlat rows out .answer))

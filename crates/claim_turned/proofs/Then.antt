@@ -1,7 +1,7 @@
 -- One run behind another: its records are those of the first, and then those of the second. A run without known chunks has no
 -- record and no mesh.
 use mathlib.Core.Path.{_≡_, refl}
-use Prim.Native.Nat.{ℕ, suc, _+_, _-_}
+use Prim.Native.Nat.{ℕ, suc, _+_}
 use native.Mathlib.Omega.{arith}
 use mathlib.Core.List.{[], _++_, append-assoc}
 use lib.ListN.{length}

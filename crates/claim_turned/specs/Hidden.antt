@@ -33,11 +33,14 @@ pub record Hidden : Type 0 where
   pub gone-bit : listIn (verdict (set with1420 14 0b1110)) ≡ 0x4D4D ∷ 0 ∷ 26 ∷ 0 ∷ 0 ∷ 0 ∷ 2 ∷ 0x3D3D ∷ 6 ∷ 20 ∷ 1 ∷ 0 ∷ 0 ∷ 2 ∷ []
   -- beside it the lengths of the known chunks, the 1470, the 3D3D and the 4D4D: refused
   pub known-refused :
-      showAll (checkCall (withLength 18 7 with1470) ∷ checkCall (withLength 6 12 with1470) ∷ checkCall (withLength 0 22 with1470) ∷ []) ≡ no 5 18 ∷ no 7 18 ∷ no 3 22 ∷ []
+      showAll (checkCall (withLength 18 7 with1470) ∷ checkCall (withLength 6 12 with1470) ∷ checkCall (withLength 0 22 with1470) ∷ []) ≡
+      no 5 18 ∷ no 7 18 ∷ no 3 22 ∷ []
   -- and a 3D3D that takes in the unlisted chunk behind it: accepted, one length is another
   pub apart : listIn (verdict beside) ≡ 0x4D4D ∷ 0 ∷ 18 ∷ 0 ∷ 0 ∷ 0 ∷ 2 ∷ 0x3D3D ∷ 6 ∷ 6 ∷ 1 ∷ 0 ∷ 0 ∷ 2 ∷ []
   pub taken-in : listIn (verdict (withLength 6 12 beside)) ≡ 0x4D4D ∷ 0 ∷ 18 ∷ 0 ∷ 0 ∷ 0 ∷ 2 ∷ 0x3D3D ∷ 6 ∷ 12 ∷ 1 ∷ 0 ∷ 0 ∷ 2 ∷ []
 
 -- NONE IS SMALLER: a file with an unlisted chunk and more known chunks than some other accepted file has 24 bytes or more.
 abbrev pub NoneSmaller : Type 0
-NoneSmaller = (s s′ : List ℕ) (kids kids′ : Run) → Meets s kids → Meets s′ kids′ → recordCount (figure kids′) < recordCount (figure kids) → 0 < skipped (figure kids) → 24 ≤ length s
+NoneSmaller =
+    (s s′ : List ℕ) (kids kids′ : Run) → Meets s kids → Meets s′ kids′ →
+    recordCount (figure kids′) < recordCount (figure kids) → 0 < skipped (figure kids) → 24 ≤ length s

@@ -8,7 +8,8 @@ use lib.ListN.{length, drop, getD, set, length-append}
 use Rattle.shared_words.specs.Effects.{filled}
 use Rattle.shared_numbers.specs.Put.{placed, Put}
 use Rattle.shared_numbers.proofs.Put.{put-none, put-front}
-use Rattle.shared_flat.specs.Flat.{afterAll, total, records}
+use Rattle.shared_flat.specs.Flat.{afterAll, records}
+use Rattle.shared_words.specs.Lists.{total}
 use Rattle.cob_rules.specs.declared.Record.{Record}
 use Rattle.cob_rules.specs.Kinds.{listed}
 use Rattle.cob_rules.specs.Layout.{Chunk, kind, parent, size, Layout, chunkBytes, allBytes, lastAt}

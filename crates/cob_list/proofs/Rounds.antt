@@ -6,7 +6,7 @@ use native.Mathlib.Omega.{arith}
 use mathlib.Core.List.{List, [], _∷_}
 use lib.ListN.{length, getD, set, length-set}
 use Rattle.shared_words.specs.Effects.{filled}
-use Rattle.shared_flat.specs.Flat.{total}
+use Rattle.shared_words.specs.Lists.{total}
 use Rattle.cob_rules.specs.Layout.{Chunk, kind, parent, size, Layout}
 use Rattle.cob_rules.specs.Kinds.{listed}
 use Rattle.cob_rules.specs.Rules.{AllPlaced, limit, Meets}

@@ -19,7 +19,6 @@ ghost use mathlib.Core.List.{[], _∷_};
 ghost use Prim.Native.Nat.{_+_, _-_, _<_, _≤_};
 ghost use lib.ListN.{length};
 ghost use Rattle.shared_numbers.specs.Put.{Put};
-ghost use Rattle.cob_rules.specs.Gives.{endRecord};
 ghost use Rattle.cob_rules.specs.Calls.{recordBytes, listCall};
 ghost use Rattle.cob_seen.specs.Tree.{Represents};
 ghost use Rattle.cob_chunk.specs.Chunks.{chunkIn};

@@ -11,11 +11,12 @@ use borrow.Author.Tests.{eq-eqb, ne-eqb, lt-leb}
 use Rattle.cob_rules.specs.Fields.{negative}
 use Rattle.cob_rules.specs.declared.Kind.{Kind}
 use Rattle.cob_rules.specs.declared.Kind.the-variants.{End, Grou, PolH, Mat1, Other}
-use Rattle.shared_words.specs.Lists.{All}
+use Rattle.shared_words.specs.Lists.{All, Pairwise, total}
 use Rattle.shared_words.proofs.Bools.{or-else}
-use Rattle.shared_flat.specs.Flat.{total, records}
-use Rattle.shared_flat.specs.Put.{Mark, put, keep, without, with, puts, LawfulThere, pieces, Moved, Pairwise, Shifted, Harmless, PutOrTaken}
-use Rattle.shared_flat.proofs.Put.{total-grows, pairwise-append, harmless-is-enough}
+use Rattle.shared_flat.specs.Flat.{records}
+use Rattle.shared_flat.specs.Put.{Mark, put, keep, without, with, puts, LawfulThere, pieces, Moved, Shifted, Harmless, PutOrTaken}
+use Rattle.shared_flat.proofs.Put.{total-grows, harmless-is-enough}
+use Rattle.shared_words.proofs.Lists.{pairwise-append}
 use Rattle.cob_rules.specs.declared.Record.{Record}
 use Rattle.cob_rules.specs.Kinds.{listed, isMesh}
 use Rattle.cob_rules.specs.Body.{behindAll}

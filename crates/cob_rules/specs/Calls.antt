@@ -78,7 +78,8 @@ abbrev pub tablesOf : Encoding ℕ ℕ → Rows → Mesh → Effect Answered Row
 tablesOf e rows m =
     cond (leb (length (m .vertices)) (e .room (length (rows .vertices))))
     (cond (leb (length (m .corners)) (e .room (length (rows .corners))))
-    (leaving (Answered.Count (m .vertexCount)) record { vertices = filled (e .encode (m .vertices)) (rows .vertices); corners = filled (e .encode (m .corners)) (rows .corners) })
+    (leaving (Answered.Count (m .vertexCount))
+    record { vertices = filled (e .encode (m .vertices)) (rows .vertices); corners = filled (e .encode (m .corners)) (rows .corners) })
     (leaving (Answered.Refused (NoRoom (length (m .corners)))) rows))
     (leaving (Answered.Refused (NoRoom (length (m .vertices)))) rows)
 

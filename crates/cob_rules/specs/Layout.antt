@@ -4,7 +4,7 @@ use mathlib.Core.List.{List, [], _∷_, _++_}
 use lib.ListN.{length, take}
 use Rattle.cob_rules.specs.Fields.{field}
 use Rattle.cob_rules.specs.declared.Kind.{Kind}
-use Rattle.shared_flat.specs.Flat.{total}
+use Rattle.shared_words.specs.Lists.{total}
 use Rattle.cob_rules.specs.Kinds.{kindOf}
 
 -- a chunk: the 20 bytes of its header, and its body

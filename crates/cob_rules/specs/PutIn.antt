@@ -4,8 +4,8 @@ use Prim.Native.Nat.{ℕ}
 use mathlib.Core.Bool.{true, false}
 use mathlib.Core.List.{List, [], _∷_}
 use lib.ListN.{length}
-use Rattle.shared_words.specs.Lists.{All}
-use Rattle.shared_flat.specs.Put.{Mark, without, with, puts, pieces, Moved, Pairwise}
+use Rattle.shared_words.specs.Lists.{All, Pairwise}
+use Rattle.shared_flat.specs.Put.{Mark, without, with, puts, pieces, Moved}
 use Rattle.cob_rules.specs.declared.Record.{Record}
 use Rattle.cob_rules.specs.Kinds.{listed}
 use Rattle.cob_rules.specs.Layout.{Chunk, kind, identifier, parent, sizeField, size, Layout}

@@ -60,7 +60,9 @@ material = replicate 37 0
 
 -- a group 5, in it a PolH 7 of size -1, in it a material 9; 101, 186 and 37 bytes of body
 abbrev pub triangle : List ℕ
-triangle = fileHeader ++ (chunk grouType 5 0 101 figureA ++ (chunk polhType 7 5 minusOne (mesh one 0 1 (faceTo 2 0)) ++ (chunk mat1Type 9 7 37 material ++ theEnd)))
+triangle =
+    fileHeader ++
+    (chunk grouType 5 0 101 figureA ++ (chunk polhType 7 5 minusOne (mesh one 0 1 (faceTo 2 0)) ++ (chunk mat1Type 9 7 37 material ++ theEnd)))
 
 -- one PolH in a file
 abbrev pub only : List ℕ → List ℕ

@@ -7,9 +7,9 @@ use mathlib.Core.List.{List}
 use lib.Dec.{eqb, leb}
 use lib.ListN.{length}
 use borrow.Author.Tests.{le-leb, leb-true, eqb-true, eqb-false}
-use Rattle.shared_words.specs.Lists.{every, firstFault}
+use Rattle.shared_words.specs.Lists.{every}
 use Rattle.shared_words.specs.Labels.{printable, fitsLabel, labelFault}
-use Rattle.shared_words.proofs.Bools.{both, and-parts}
+use Rattle.shared_words.proofs.Bools.{both}
 use Rattle.shared_words.proofs.FirstFault.{every-good, some-bad, fault-within}
 
 pub label-fits : (name : List ℕ) → labelFault name ≡ length name → fitsLabel name ≡ true

@@ -16,7 +16,7 @@ use Rattle.shared_numbers.proofs.Slices.{drop-take}
 use Rattle.slip_rules.specs.Slip.{entrySize}
 use Rattle.slip_rules.specs.Rules.{isLabelled}
 use Rattle.slip_rules.specs.Conditions.{labelConditions}
-use Rattle.slip_rules.specs.Walk.{Entries, behind, labelled}
+use Rattle.slip_rules.specs.Walk.{behind, labelled}
 use Rattle.slip_check.specs.Entries.{entryIn, nextAt, entriesIn, Whole}
 use Rattle.slip_check.proofs.Names.{name-is, name-length, whole-first, whole-on}
 

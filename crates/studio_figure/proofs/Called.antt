@@ -4,7 +4,6 @@ use Prim.Native.Nat.{ℕ}
 use mathlib.Core.List.{List}
 use lib.ListN.{length}
 use Rattle.shared_words.specs.declared.Written.{Written}
-use Rattle.shared_words.specs.Effects.{Effect}
 use Rattle.studio_rules.specs.Layout.{figure, bytes}
 use Rattle.studio_write.specs.Write.{writing}
 use Rattle.studio_figure_rules.specs.Built.{layout}

@@ -1,9 +1,9 @@
 -- What the judgement tells of rows: they fit, each object can be put, and the bytes of the figure are those pieces in order.
 use mathlib.Core.Path.{_≡_, refl, sym, ap, _∙_, subst}
-use Prim.Native.Nat.{ℕ, zero, suc, _+_, _-_, _*_, _/_, _%_, _^_, _<_, _≤_}
+use Prim.Native.Nat.{ℕ, zero, suc, _+_, _-_, _*_, _/_, _^_, _<_, _≤_}
 use native.Mathlib.Omega.{arith}
-use mathlib.Core.Bool.{Bool, true, false}
-use mathlib.Core.List.{List, [], _∷_, _++_, map, append-assoc, append-nil}
+use mathlib.Core.Bool.{Bool, true}
+use mathlib.Core.List.{List, [], _++_, append-assoc}
 use mathlib.Core.Option.{Option, none, some}
 use lib.Ieee.{Float, binary32, toBits, fits}
 use lib.ListN.{length, length-map}
@@ -14,17 +14,17 @@ use Rattle.shared_words.specs.Conditions.{Condition, broken}
 use Rattle.shared_words.proofs.Bools.{both}
 use Rattle.shared_words.proofs.Conditions.{met}
 use Rattle.studio_rules.specs.Layout.{Run, end, known, figure, size, header, bytes}
-use Rattle.studio_rules.specs.Rules.{limit, allBelow}
-use Rattle.studio_write_judge.specs.Judged.{triples, finiteFloat}
+use Rattle.studio_rules.specs.Rules.{allBelow}
+use Rattle.studio_write_judge.specs.Judged.{triples}
 use Rattle.studio_write_bytes.specs.Bare.{nameData, vertexData, faceData}
 use Rattle.studio_write.specs.ReadsBack.{Floats32}
 use Rattle.studio_write.proofs.Floats.{floats-small}
-use Rattle.studio_figure_rules.specs.Given.{Group, Object, Material, Figure, over, Bits32}
-use Rattle.studio_figure_rules.specs.Judged.{total, objectSize, sizeOf, conditions}
-use Rattle.studio_figure_rules.specs.Built.{vertexList, groupData, groupChunk, smoothingChunk, faceChildren, meshChildren, objectChunk, materialChunk, layout}
+use Rattle.studio_figure_rules.specs.Given.{Group, Object, Figure, over, Bits32}
+use Rattle.studio_figure_rules.specs.Judged.{sizeOf, conditions}
+use Rattle.studio_figure_rules.specs.Built.{vertexList, groupData, groupChunk, smoothingChunk, faceChildren, meshChildren, objectChunk, layout}
 use Rattle.studio_figure_rules.specs.Described.{Flat, fitConditions, described, judgedFlat}
 use Rattle.studio_figure_rules.proofs.Lists.{all-of}
-use Rattle.studio_figure_rules.proofs.Ready.{GroupReady, ObjectReady, Ready, ready}
+use Rattle.studio_figure_rules.proofs.Ready.{GroupReady, ObjectReady, ready}
 use Rattle.studio_figure_rules.proofs.Sizes.{object-size}
 use Rattle.studio_figure_rules.proofs.OwnData.{length-name-data, length-vertices}
 use Rattle.studio_figure_rules.proofs.InOrder.{chunk-bytes, each-bytes, in-order}
@@ -32,7 +32,7 @@ use Rattle.studio_figure_rules.proofs.ReadsBack.{answer-size}
 use Rattle.studio_figure_rules.proofs.AsBefore.{all-finite}
 use Rattle.studio_figure_rules.proofs.Described.{broken-first, broken-rest}
 use Rattle.studio_figure_rows.specs.Rows as rows
-use Rattle.studio_figure_rows.specs.Rows.{entry, sumTo, run, part, nameAt, objectCount, groupCount, groupAt, objectAt, materialAt, figureOf}
+use Rattle.studio_figure_rows.specs.Rows.{entry, sumTo, run, part, objectCount, groupCount, groupAt, objectAt, figureOf}
 use Rattle.studio_figure_rows.specs.Same.{Fits}
 use Rattle.studio_figure_rows.proofs.Same.{by-position}
 use Rattle.studio_figure_rows.proofs.Runs.{sum-inside, sum-up}
@@ -40,7 +40,7 @@ use Rattle.studio_figure_objects.specs.Sizes.{objectBytes}
 use Rattle.studio_figure_judge.specs.Judged.{sizeIs}
 use Rattle.studio_figure_judge.proofs.Things.{over-same, part-length, every-part}
 use Rattle.studio_figure_judge.proofs.Same.{size-same, size-all}
-use Rattle.studio_figure_chunks.specs.Chunks.{materialBytes, groupBytes, materialIn, groupIn, listsBytes}
+use Rattle.studio_figure_chunks.specs.Chunks.{materialBytes, groupBytes, materialIn, groupIn}
 use Rattle.studio_write_bytes.proofs.Bare.{last-chunk-bytes}
 use Rattle.studio_figure_bytes.specs.Objects.{Writable, pieces}
 use Rattle.studio_figure_bytes.proofs.Steps.{total-inside}

@@ -1,5 +1,5 @@
 -- One object between two places: the parts of the rows, and how many bytes its pieces take.
-use mathlib.Core.Path.{_≡_, refl, sym, ap, _∙_, subst}
+use mathlib.Core.Path.{_≡_, sym, ap, _∙_, subst}
 use Prim.Native.Nat.{ℕ, zero, suc, _+_, _-_, _*_, _/_, _%_, _<_, _≤_}
 use native.Mathlib.Omega.{arith}
 use mathlib.Core.Bool.{true}
@@ -11,7 +11,7 @@ use Rattle.studio_write_judge.specs.Judged.{triples, finiteFloat}
 use Rattle.studio_figure_rows.specs.Rows.{entry, sumTo, run, part, nameAt, Capped}
 use Rattle.studio_figure_rows.proofs.Runs.{sum-up, capped-under}
 use Rattle.studio_figure_objects.specs.Sizes as sizes
-use Rattle.studio_figure_objects.specs.Sizes.{wordsSize, between, objectBytes}
+use Rattle.studio_figure_objects.specs.Sizes.{wordsSize, objectBytes}
 use Rattle.studio_figure_chunks.specs.Chunks.{groupBytes, groupIn, listsBytes}
 use Rattle.studio_figure_chunks.proofs.Chunks.{group-length}
 use Rattle.studio_rules.specs.Layout.{end, known, header, bytes}

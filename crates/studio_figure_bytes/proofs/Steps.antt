@@ -1,6 +1,6 @@
 -- From one object to the next: the place behind it, and what the first of them take.
-use mathlib.Core.Path.{_≡_, refl, sym, ap, _∙_}
-use Prim.Native.Nat.{ℕ, zero, suc, _+_, _-_, _*_, _/_, _<_, _≤_}
+use mathlib.Core.Path.{_≡_, refl, ap, _∙_}
+use Prim.Native.Nat.{ℕ, zero, suc, _+_, _-_, _*_, _<_, _≤_}
 use native.Mathlib.Omega.{arith}
 use mathlib.Core.List.{List, [], _∷_}
 use lib.Ieee.{Float}
@@ -9,11 +9,11 @@ use Rattle.shared_words.proofs.Bytes.{length-packed}
 use Rattle.studio_rules.specs.Layout.{bytes}
 use Rattle.studio_rules.proofs.Sound.{length-bytes}
 use Rattle.studio_figure_rules.specs.Given.{over}
-use Rattle.studio_figure_rules.specs.Judged.{total}
+use Rattle.shared_words.specs.Lists.{total}
 use Rattle.studio_figure_rules.specs.Built.{smoothingChunk}
 use Rattle.studio_figure_rows.specs.Rows.{entry, sumTo, run, part, nameAt}
 use Rattle.studio_figure_rows.proofs.Runs.{sum-next, sum-up}
-use Rattle.studio_figure_objects.specs.Sizes.{wordsSize, between, objectBytes}
+use Rattle.studio_figure_objects.specs.Sizes.{wordsSize, objectBytes}
 use Rattle.studio_figure_chunks.specs.Chunks.{materialBytes, groupBytes, materialIn, groupIn, listsBytes}
 use Rattle.studio_figure_chunks.proofs.Chunks.{material-length}
 use Rattle.studio_figure_judge.proofs.Things.{part-length}

@@ -61,7 +61,8 @@ module _ (names objects : List ℕ) (vertices : List Float) (corners smoothing g
   -- its bytes
   abbrev pub pieces : ℕ → List ℕ
   pieces i =
-      listsBytes (nameAt 5 objects names 0 i) (part (sumTo 5 1 objects i) (entry 5 1 objects i) vertices) (part (sumTo 5 2 objects i) (entry 5 2 objects i) corners)
+      listsBytes (nameAt 5 objects names 0 i) (part (sumTo 5 1 objects i) (entry 5 1 objects i) vertices)
+      (part (sumTo 5 2 objects i) (entry 5 2 objects i) corners)
       (objectBytes objects groups i) ++
       (over (λ j. groupBytes (groupIn names groups faces from (sumTo 5 4 objects i + j))) (run (λ j. j) 0 (entry 5 4 objects i)) ++
       bytes (smoothingChunk (part (sumTo 5 3 objects i) (entry 5 3 objects i) smoothing)))

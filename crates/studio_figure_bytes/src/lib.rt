@@ -14,10 +14,10 @@ ghost use lib.ListN.{length};
 ghost use Rattle.shared_words.specs.declared.Written.{Written};
 ghost use Rattle.shared_numbers.specs.Put.{Put};
 ghost use Rattle.studio_figure_rules.specs.Given.{over};
-ghost use Rattle.studio_figure_rules.specs.Judged.{total};
+ghost use Rattle.shared_words.specs.Lists.{total};
 ghost use Rattle.studio_figure_rules.specs.Described.{judgedFlat};
 ghost use Rattle.studio_figure_rows.specs.Rows.{flat, entry, sumTo, run};
-ghost use Rattle.studio_figure_objects.specs.Sizes.{between, objectBytes};
+ghost use Rattle.studio_figure_objects.specs.Sizes.{objectBytes};
 ghost use Rattle.studio_figure_bytes.specs.Objects.{At, Behind, Writable, flatBytes, pieces};
 
 const ANY: usize = 0x7FFF_FFFF_FFFF_FFFF;
@@ -39,7 +39,8 @@ fn next_place(objects: &[u32], groups: &[u32], i: usize, p: Place) -> Place
     requires { ⌜ (5 * i + 5 ≤ length (now objects)) × (2 * (p .group + entry 5 4 (now objects) i) ≤ length (now groups)) ⌝ }
     requires { ⌜ (p .name + entry 5 0 (now objects) i < 9223372036854775808) × (p .vertex + entry 5 1 (now objects) i < 9223372036854775808) ⌝ }
     requires { ⌜ (p .corner + entry 5 2 (now objects) i < 9223372036854775808) × (p .word + entry 5 3 (now objects) i < 9223372036854775808) ⌝ }
-    requires { ⌜ (sumTo 2 0 (now groups) (p .group + entry 5 4 (now objects) i) < 9223372036854775808) × (sumTo 2 1 (now groups) (p .group + entry 5 4 (now objects) i) < 9223372036854775808) ⌝ }
+    requires { ⌜ (sumTo 2 0 (now groups) (p .group + entry 5 4 (now objects) i) < 9223372036854775808) ×
+        (sumTo 2 1 (now groups) (p .group + entry 5 4 (now objects) i) < 9223372036854775808) ⌝ }
     requires { ⌜ (p .label < 9223372036854775808) × (p .face < 9223372036854775808) ⌝ }
     ensures { λ r. ⌜ Behind (now (objects .entry)) (now (groups .entry)) i p r ⌝ }
 {
@@ -74,7 +75,8 @@ fn put_object(
     at: usize,
     out: &mut [u8],
 ) -> usize
-    requires { ⌜ At (now objects) (now groups) from i p × Behind (now objects) (now groups) i p q × Writable (now names) (now objects) (now vertices) (now corners) (now smoothing) (now groups) (now faces) from i ⌝ }
+    requires { ⌜ At (now objects) (now groups) from i p × Behind (now objects) (now groups) i p q ×
+        Writable (now names) (now objects) (now vertices) (now corners) (now smoothing) (now groups) (now faces) from i ⌝ }
     requires { ⌜ at + objectBytes (now objects) (now groups) i ≤ length (now out) ⌝ }
     ensures { λ r. ⌜ Put (now (out .entry)) at (pieces (now (names .entry)) (now (objects .entry)) (now (vertices .entry)) (now (corners .entry)) (now (smoothing .entry)) (now (groups .entry)) (now (faces .entry)) from i) (now (out .exit)) r ⌝ }
 {
@@ -124,7 +126,8 @@ fn put_objects(
     at: usize,
     out: &mut [u8],
 ) -> usize
-    requires { ⌜ ((i : ℕ) → i < n → Writable (now names) (now objects) (now vertices) (now corners) (now smoothing) (now groups) (now faces) from i) × (from < 9223372036854775808) ⌝ }
+    requires { ⌜ ((i : ℕ) → i < n → Writable (now names) (now objects) (now vertices) (now corners) (now smoothing) (now groups) (now faces) from i) ×
+        (from < 9223372036854775808) ⌝ }
     requires { ⌜ at + total (objectBytes (now objects) (now groups)) (run (λ i. i) 0 n) ≤ length (now out) ⌝ }
     ensures { λ r. ⌜ Put (now (out .entry)) at (over (pieces (now (names .entry)) (now (objects .entry)) (now (vertices .entry)) (now (corners .entry)) (now (smoothing .entry)) (now (groups .entry)) (now (faces .entry)) from) (run (λ i. i) 0 n)) (now (out .exit)) r ⌝ }
 {
@@ -176,7 +179,8 @@ pub fn put_figure(
     size: usize,
     out: &mut [u8],
 ) -> usize
-    requires { ⌜ judgedFlat (flat (now names) (now objects) (now vertices) (now corners) (now smoothing) (now groups) (now faces) (now materials) (now colours)) (length (now out)) ≡ Written.Size size ⌝ }
+    requires { ⌜ judgedFlat (flat (now names) (now objects) (now vertices) (now corners) (now smoothing) (now groups) (now faces) (now materials) (now colours))
+        (length (now out)) ≡ Written.Size size ⌝ }
     ensures { λ r. ⌜ Put (now (out .entry)) 0 (flatBytes (flat (now (names .entry)) (now (objects .entry)) (now (vertices .entry)) (now (corners .entry)) (now (smoothing .entry)) (now (groups .entry)) (now (faces .entry)) (now (materials .entry)) (now (colours .entry)))) (now (out .exit)) r ⌝ }
 {
     let n = objects.len() / 5;

@@ -1,14 +1,14 @@
 -- Chunks as bytes, piece by piece in the order in which they are put, and how long they are.
 use mathlib.Core.Path.{_≡_, refl, sym, ap, _∙_}
-use Prim.Native.Nat.{ℕ, zero, suc, _+_, _-_, _*_, _/_, _<_, _≤_}
+use Prim.Native.Nat.{ℕ, zero, suc, _+_, _*_, _≤_}
 use native.Mathlib.Omega.{arith}
 use mathlib.Core.List.{List, [], _∷_, _++_, append-assoc, append-nil}
-use lib.ListN.{length, set, length-set, length-append}
+use lib.ListN.{length, set, length-set}
 use Rattle.shared_words.specs.Bytes.{le, packed}
 use Rattle.shared_words.proofs.Bytes.{length-packed}
 use Rattle.shared_numbers.specs.Put.{Put}
 use Rattle.shared_numbers.proofs.Put.{put-byte, put-then}
-use Rattle.studio_rules.specs.Layout.{Run, end, known, size, header, bytes}
+use Rattle.studio_rules.specs.Layout.{Run, end, known, header, bytes}
 use Rattle.studio_rules.proofs.Sound.{length-bytes}
 use Rattle.studio_write_bytes.specs.Bare.{nameData}
 use Rattle.studio_write_bytes.proofs.Bare.{leaf-bytes, last-chunk-bytes}
@@ -18,7 +18,6 @@ use Rattle.studio_figure_rules.proofs.InOrder.{chunk-bytes}
 use Rattle.studio_figure_rules.proofs.OwnData.{length-name-data, length-group}
 use Rattle.studio_figure_rules.proofs.Sizes.{material-size}
 use Rattle.studio_figure_rows.specs.Rows.{run}
-use Rattle.studio_figure_rows.proofs.Runs.{run-joined}
 use Rattle.studio_figure_objects.specs.Sizes.{wordsSize}
 use Rattle.studio_figure_chunks.specs.Chunks.{materialBytes, groupBytes}
 

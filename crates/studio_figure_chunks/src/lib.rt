@@ -101,7 +101,8 @@ pub fn put_materials(
     out: &mut [u8],
 ) -> usize
     requires { ⌜ (first + sumTo 1 0 (now materials) (length (now materials)) ≤ length (now names)) × (9 * length (now materials) ≤ length (now colours)) ⌝ }
-    requires { ⌜ (sumTo 1 0 (now materials) (length (now materials)) ≤ 1048576) × (at + (58 * length (now materials) + sumTo 1 0 (now materials) (length (now materials))) ≤ length (now out)) ⌝ }
+    requires { ⌜ (sumTo 1 0 (now materials) (length (now materials)) ≤ 1048576) ×
+        (at + (58 * length (now materials) + sumTo 1 0 (now materials) (length (now materials))) ≤ length (now out)) ⌝ }
     ensures { λ r. ⌜ Put (now (out .entry)) at (over materialBytes (run (materialIn (now (names .entry)) (now (materials .entry)) (now (colours .entry)) first) 0 (length (now (materials .entry))))) (now (out .exit)) r ⌝ }
 {
     let mut label = first;
@@ -127,8 +128,10 @@ pub fn put_lists(
     at: usize,
     out: &mut [u8],
 ) -> usize
-    requires { ⌜ (length (now vertices) % 3 ≡ 0) × (length (now vertices) ≤ 196605) × (every finiteFloat (now vertices) ≡ true) × (length (now corners) ≤ 196605) ⌝ }
-    requires { ⌜ (29 + length (now name) + 12 * triples (now vertices) + 8 * triples (now corners) ≤ size) × (size ≤ 1048576) × (at + size ≤ length (now out)) ⌝ }
+    requires { ⌜ (length (now vertices) % 3 ≡ 0) × (length (now vertices) ≤ 196605) × (every finiteFloat (now vertices) ≡ true) ×
+        (length (now corners) ≤ 196605) ⌝ }
+    requires { ⌜ (29 + length (now name) + 12 * triples (now vertices) + 8 * triples (now corners) ≤ size) × (size ≤ 1048576) ×
+        (at + size ≤ length (now out)) ⌝ }
     ensures { λ r. ⌜ Put (now (out .entry)) at (listsBytes (now (name .entry)) (now (vertices .entry)) (now (corners .entry)) size) (now (out .exit)) r ⌝ }
 {
     let end = at + size;
@@ -167,7 +170,8 @@ pub fn put_groups(
 ) -> usize
     requires { ⌜ (2 * (first + n) ≤ length (now groups)) × (name ≡ from + sumTo 2 0 (now groups) first) × (face ≡ sumTo 2 1 (now groups) first) ⌝ }
     requires { ⌜ (from + sumTo 2 0 (now groups) (first + n) ≤ length (now names)) × (sumTo 2 1 (now groups) (first + n) ≤ length (now faces)) ⌝ }
-    requires { ⌜ ((j : ℕ) → j < n → entry 2 1 (now groups) (first + j) ≤ 65535) × (between 0 (now groups) first n ≤ 1048576) × (at + (9 * n + between 0 (now groups) first n + 2 * between 1 (now groups) first n) ≤ length (now out)) ⌝ }
+    requires { ⌜ ((j : ℕ) → j < n → entry 2 1 (now groups) (first + j) ≤ 65535) × (between 0 (now groups) first n ≤ 1048576) ×
+        (at + (9 * n + between 0 (now groups) first n + 2 * between 1 (now groups) first n) ≤ length (now out)) ⌝ }
     ensures { λ r. ⌜ Put (now (out .entry)) at (over (λ j. groupBytes (groupIn (now (names .entry)) (now (groups .entry)) (now (faces .entry)) from (first + j))) (run (λ j. j) 0 n)) (now (out .exit)) r ⌝ }
 {
     let mut label = name;

@@ -1,33 +1,28 @@
 -- What code asks of rows that fit is what is asked of the figure that they give.
-use mathlib.Core.Path.{_≡_, refl, sym, ap, _∙_}
+use mathlib.Core.Path.{_≡_, refl, ap, _∙_}
 use Prim.Native.Nat.{ℕ, zero, suc, _+_, _-_, _*_, _/_, _<_, _≤_}
 use native.Mathlib.Omega.{arith}
-use mathlib.Core.Bool.{Bool, true, false}
-use mathlib.Core.List.{List, [], _∷_, _++_, map, append-assoc, append-nil}
-use lib.Dec.{leb, ltb}
-use lib.Ieee.{Float, binary32, toBits, fits}
+use mathlib.Core.List.{List, [], _∷_, _++_, append-assoc, append-nil}
+use lib.Ieee.{binary32, toBits, fits}
 use lib.ListN.{length, length-map}
-use Rattle.shared_words.specs.declared.Refusal.the-variants.{TooLong, Number, NoRoom, NoMaterial}
-use Rattle.shared_words.specs.Floats.{finite}
-use Rattle.shared_words.specs.Lists.{every, firstFault}
-use Rattle.shared_words.specs.Conditions.{Condition, must}
-use Rattle.studio_write_judge.specs.Judged.{triples, eachMust, finiteFloat}
+use Rattle.shared_words.specs.Conditions.{Condition}
+use Rattle.studio_write_judge.specs.Judged.{triples}
 use Rattle.studio_write.specs.ReadsBack.{Floats32}
 use Rattle.studio_figure_rules.specs.Given as given
-use Rattle.studio_figure_rules.specs.Given.{Group, Object, Material, Figure, over}
+use Rattle.studio_figure_rules.specs.Given.{Group, Object, Material, over}
 use Rattle.studio_figure_rules.specs.Judged as judged
-use Rattle.studio_figure_rules.specs.Judged.{total, groupSize, smoothingSize, objectSize, materialSize, sizeOf, noZero, isLabel, oneOf, differ, conditions}
+use Rattle.studio_figure_rules.specs.Judged.{groupSize, smoothingSize, objectSize, materialSize, sizeOf, noZero, isLabel, differ, conditions}
+use Rattle.shared_words.specs.Lists.{total}
 use Rattle.studio_figure_rules.specs.Described.{Flat}
 use Rattle.studio_figure_rules.proofs.AsBefore.{all-finite, first-finite}
 use Rattle.studio_figure_rows.specs.Rows as rows
 use Rattle.studio_figure_rows.specs.Rows.{entry, sumTo, run, part, nameAt, objectCount, groupCount, groupAt, objectAt, materialAt, figureOf}
 use Rattle.studio_figure_rows.specs.Same.{Fits}
 use Rattle.studio_figure_rows.proofs.Runs.{run-map, sum-inside, sum-up}
-use Rattle.studio_figure_names.specs.Names.{nameAsked}
 use Rattle.studio_figure_objects.specs.Asked as asked
 use Rattle.studio_figure_objects.specs.Asked.{groupCounts, counts, floats, groupIndices, indices}
-use Rattle.studio_figure_objects.specs.Sizes.{wordsSize, groupBytes, objectBytes}
-use Rattle.studio_figure_judge.specs.Judged.{objectNames, materialNames, groupNames, textAsked, sameAsked, materialAsked, namesAsked, numbers, objectsAsked, sizeIs, sizeAsked}
+use Rattle.studio_figure_objects.specs.Sizes.{wordsSize, objectBytes}
+use Rattle.studio_figure_judge.specs.Judged.{objectNames, materialNames, groupNames, materialAsked, namesAsked, numbers, objectsAsked, sizeIs, sizeAsked}
 use Rattle.studio_figure_judge.proofs.Things.{over-append, over-shift, over-same, total-same, runs-joined, part-length, every-part}
 
 smoothing-words : (words : List ℕ) → smoothingSize words ≡ wordsSize (length words)

@@ -1,15 +1,14 @@
 -- Lists of conditions over things by number that are asked the same, and parts of rows.
 use mathlib.Core.Path.{_≡_, refl, sym, ap, _∙_}
-use Prim.Native.Nat.{ℕ, zero, suc, _+_, _-_, _*_, _/_, _<_, _≤_}
+use Prim.Native.Nat.{ℕ, zero, suc, _+_, _-_, _<_, _≤_}
 use native.Mathlib.Omega.{arith}
-use mathlib.Core.Bool.{Bool, true, false}
+use mathlib.Core.Bool.{Bool, true}
 use mathlib.Core.List.{List, [], _∷_, _++_, append-assoc}
 use lib.ListN.{length, take, drop, length-drop}
 use lib.Seq.{length-take-le}
-use Rattle.shared_words.specs.Lists.{every}
+use Rattle.shared_words.specs.Lists.{every, total}
 use Rattle.shared_words.proofs.Bools.{and-parts, both}
 use Rattle.studio_figure_rules.specs.Given.{over}
-use Rattle.studio_figure_rules.specs.Judged.{total}
 use Rattle.studio_figure_rows.specs.Rows.{entry, sumTo, run, part}
 use Rattle.studio_figure_rows.proofs.Runs.{run-joined, sum-up}
 

@@ -1,17 +1,15 @@
 -- The judgement of the whole: the rows first, then names, objects and the size of what they give.
 use mathlib.Core.Path.{_≡_, refl, sym, ap, _∙_}
-use Prim.Native.Nat.{ℕ, zero, suc, _+_, _*_, _<_, _≤_}
+use Prim.Native.Nat.{ℕ, suc, _+_, _<_, _≤_}
 use native.Mathlib.Omega.{arith}
 use mathlib.Core.Bool.{Bool, true, false}
 use mathlib.Core.List.{List, [], _∷_, _++_}
-use mathlib.Core.Option.{Option, none, some}
 use lib.Dec.{T, leb}
 use lib.Ieee.{Float, nan, binary32, fits}
-use lib.ListN.{length, getD}
+use lib.ListN.{getD}
 use borrow.Author.Tests.{le-leb, lt-leb, leb-true, leb-false}
 use Rattle.shared_words.specs.declared.Refusal.{Refusal}
 use Rattle.shared_words.specs.declared.Refusal.the-variants.{TooLong, NoRoom}
-use Rattle.shared_words.specs.declared.Written.{Written}
 use Rattle.shared_words.specs.declared.Written.the-variants.{Refused, Size}
 use Rattle.shared_words.specs.Lists.{every}
 use Rattle.shared_words.specs.Conditions.{Condition, must, broken}

@@ -11,7 +11,8 @@ use Rattle.shared_words.specs.Conditions.{Condition, must, broken}
 use Rattle.studio_rules.specs.Rules.{limit}
 use Rattle.studio_write_judge.specs.Judged.{eachMust, answerOf}
 use Rattle.studio_figure_rules.specs.Given.{over}
-use Rattle.studio_figure_rules.specs.Judged.{total, oneOf, differ}
+use Rattle.studio_figure_rules.specs.Judged.{oneOf, differ}
+use Rattle.shared_words.specs.Lists.{total}
 use Rattle.studio_figure_rows.specs.Rows.{sumTo, run}
 use Rattle.studio_figure_names.specs.Names.{namesIn, nameAsked}
 use Rattle.studio_figure_objects.specs.Asked.{counts, floats, indices}

@@ -125,7 +125,8 @@ pub fn first_unnamed(
     groups: &[u32],
     n: usize,
 ) -> usize
-    requires { ⌜ (first + sumTo 1 0 (now materials) (length (now materials)) ≤ length (now names)) × (2 * n ≤ length (now groups)) × (from + sumTo 2 0 (now groups) n ≤ length (now names)) ⌝ }
+    requires { ⌜ (first + sumTo 1 0 (now materials) (length (now materials)) ≤ length (now names)) × (2 * n ≤ length (now groups)) ×
+        (from + sumTo 2 0 (now groups) n ≤ length (now names)) ⌝ }
     ensures { λ r. ⌜ r ≡ firstFault (oneOf (namesIn 1 (now (materials .entry)) (now (names .entry)) first (length (now (materials .entry))))) (namesIn 2 (now (groups .entry)) (now (names .entry)) from n) ⌝ }
 {
     let mut at = from;

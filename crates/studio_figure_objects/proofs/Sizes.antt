@@ -1,15 +1,15 @@
 -- Sizes, as far as they matter: over the limit, or what is written.
-use mathlib.Core.Path.{_≡_, refl, sym, ap, _∙_}
+use mathlib.Core.Path.{_≡_, refl, ap}
 use Prim.Native.Nat.{ℕ, zero, suc, _+_, _-_, _*_, _/_, _<_, _≤_}
 use native.Mathlib.Omega.{arith}
 use mathlib.Core.Bool.{Bool, true, false}
 use mathlib.Core.List.{List, []}
 use lib.Dec.{leb}
 use borrow.Author.Tests.{leb-true, leb-false}
-use Rattle.studio_figure_rules.specs.Judged.{total}
+use Rattle.shared_words.specs.Lists.{total}
 use Rattle.studio_figure_rows.specs.Rows.{entry, sumTo, run, Capped}
 use Rattle.studio_figure_rows.proofs.Runs.{run-opened, run-none}
-use Rattle.studio_figure_objects.specs.Sizes.{wordsSize, between, groupBytes, objectBytes}
+use Rattle.studio_figure_objects.specs.Sizes.{wordsSize, groupBytes, objectBytes}
 
 pub words-size : (n : ℕ) → (n ≡ 0 → ⊥) → 6 + 4 * n ≡ wordsSize n
 words-size zero h = absurd (h refl)

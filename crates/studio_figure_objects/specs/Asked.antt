@@ -1,6 +1,5 @@
 -- The conditions of a figure, by position: what code asks of each object and group as it goes through the rows.
 use Prim.Native.Nat.{ℕ, _+_, _/_}
-use mathlib.Core.Bool.{Bool}
 use mathlib.Core.List.{List, [], _∷_}
 use lib.Dec.{leb, ltb}
 use lib.Ieee.{Float}

@@ -12,7 +12,8 @@ ghost use mathlib.Core.Path.{_≡_};
 ghost use Prim.Native.Nat.{_+_, _*_, _/_, _<_, _≤_};
 ghost use lib.ListN.{length};
 ghost use Rattle.studio_figure_rules.specs.Given.{over};
-ghost use Rattle.studio_figure_rules.specs.Judged.{total, noneOrEach};
+ghost use Rattle.studio_figure_rules.specs.Judged.{noneOrEach};
+ghost use Rattle.shared_words.specs.Lists.{total};
 ghost use Rattle.studio_figure_rows.specs.Rows.{entry, sumTo, run, Capped};
 ghost use Rattle.studio_figure_objects.specs.Asked.{answered, groupCounts, counts, allFinite, floats, allBelow, groupIndices, indices};
 ghost use Rattle.studio_figure_objects.specs.Sizes.{wordsSize, objectBytes};
@@ -149,7 +150,8 @@ fn judge_group_indices(
     n: usize,
     start: usize,
 ) -> Written
-    requires { ⌜ (2 * (first + n) ≤ length (now groups)) × (start ≡ sumTo 2 1 (now groups) first) × (sumTo 2 1 (now groups) (first + n) ≤ length (now faces)) ⌝ }
+    requires { ⌜ (2 * (first + n) ≤ length (now groups)) × (start ≡ sumTo 2 1 (now groups) first) ×
+        (sumTo 2 1 (now groups) (first + n) ≤ length (now faces)) ⌝ }
     ensures { λ r. ⌜ r ≡ answered (groupIndices (now (groups .entry)) (now (faces .entry)) f first n) ⌝ }
 {
     let mut at = start;

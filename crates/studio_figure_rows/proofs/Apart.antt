@@ -1,15 +1,14 @@
 -- Taken apart from the front, the rows give what stands at each position: counts, groups, objects, materials.
 use mathlib.Core.Path.{_≡_, refl, ap, _∙_, sym}
-use Prim.Native.Nat.{ℕ, zero, suc, _+_, _-_, _*_, _/_, _≤_, _<_}
+use Prim.Native.Nat.{ℕ, zero, suc, _+_, _*_}
 use native.Mathlib.Omega.{arith}
-use mathlib.Core.List.{List, [], _∷_, map}
-use lib.Ieee.{Float, binary32, toBits}
-use lib.ListN.{length, take, drop, getD}
-use lib.Seq.{drop-drop, getD-drop, drop-cons, ext-getD}
-use Rattle.studio_figure_rules.specs.Given.{Group, Object, Colour, Material}
-use Rattle.studio_figure_rules.specs.Judged.{total}
+use mathlib.Core.List.{List, [], _∷_}
+use lib.ListN.{length, drop, getD}
+use lib.Seq.{drop-drop, getD-drop, ext-getD}
+use Rattle.studio_figure_rules.specs.Given.{Group, Object, Material}
+use Rattle.shared_words.specs.Lists.{total}
 use Rattle.studio_figure_rules.specs.Described.{ObjectCounts, GroupCounts, objectCounts, groupCounts, groupsOf, materialsOf, objectsOf, colour}
-use Rattle.studio_figure_rows.specs.Rows.{entry, sumTo, run, part, nameAt}
+use Rattle.studio_figure_rows.specs.Rows.{entry, sumTo, run, part}
 use Rattle.studio_figure_rows.proofs.Runs.{run-length, run-get}
 
 -- ---- the numbers of the description

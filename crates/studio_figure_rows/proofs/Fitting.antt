@@ -1,8 +1,8 @@
 -- The conditions of the rows, by sums: which of them is answered, and that none is where all fit.
 use mathlib.Core.Path.{_≡_, refl, sym, ap, _∙_}
-use Prim.Native.Nat.{ℕ, _+_, _*_, _%_, _/_}
+use Prim.Native.Nat.{ℕ, _+_, _*_, _%_}
 use native.Mathlib.Omega.{arith}
-use mathlib.Core.Bool.{Bool, true, false}
+use mathlib.Core.Bool.{Bool, false}
 use mathlib.Core.List.{List, [], _∷_}
 use mathlib.Core.Option.{none}
 use lib.Dec.{eqb}
@@ -14,8 +14,7 @@ use Rattle.shared_words.specs.Conditions.{Condition, must, broken}
 use Rattle.shared_words.proofs.Conditions.{Met, unbroken}
 use Rattle.studio_write_judge.specs.Judged.{answerOf}
 use Rattle.studio_write_judge.proofs.Judged.{broken-at}
-use Rattle.studio_figure_rules.specs.Judged.{total}
-use Rattle.studio_figure_rules.specs.Described.{Flat, ObjectCounts, GroupCounts, objectsIn, groupsIn, objectNameBytes, materialNameBytes, groupNameBytes, longMust, fitConditions}
+use Rattle.studio_figure_rules.specs.Described.{Flat, ObjectCounts, GroupCounts, objectNameBytes, materialNameBytes, groupNameBytes, longMust, fitConditions}
 use Rattle.studio_figure_rows.specs.Rows.{sumTo, objectCount, groupCount, namesLength}
 use Rattle.studio_figure_rows.specs.Same.{fitAnswer}
 use Rattle.studio_figure_rows.proofs.Same.{object-total, group-total, object-names, material-names, group-names}

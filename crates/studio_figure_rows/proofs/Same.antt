@@ -1,19 +1,18 @@
 -- Rows that fit give the same figure by position as taken apart from the front.
-use mathlib.Core.Path.{_≡_, refl, ap, _∙_, sym}
-use Prim.Native.Nat.{ℕ, zero, suc, _+_, _*_, _/_, _≤_, _<_}
+use mathlib.Core.Path.{_≡_, refl, ap, _∙_}
+use Prim.Native.Nat.{ℕ, zero, suc, _+_, _*_, _<_}
 use native.Mathlib.Omega.{arith}
 use mathlib.Core.Option.{none}
 use mathlib.Core.List.{List, [], _∷_, map}
-use lib.Ieee.{Float, binary32, toBits}
+use lib.Ieee.{binary32, toBits}
 use lib.ListN.{length, take, drop}
 use lib.Seq.{drop-drop}
 use borrow.Author.Tests.{eqb-true}
 use Rattle.shared_words.specs.Conditions.{broken}
 use Rattle.shared_words.proofs.Conditions.{met}
-use Rattle.studio_figure_rules.specs.Given.{Group, Object, Material, Figure}
-use Rattle.studio_figure_rules.specs.Judged.{total}
+use Rattle.shared_words.specs.Lists.{total}
 use Rattle.studio_figure_rules.specs.Described.{Flat, ObjectCounts, GroupCounts, objectsIn, groupsIn, objectNameBytes, materialNameBytes, groupNameBytes, groupsOf, materialsOf, fitConditions, described}
-use Rattle.studio_figure_rows.specs.Rows.{entry, sumTo, run, part, nameAt, objectCount, groupCount, materialsFrom, groupsFrom, groupAt, objectAt, materialAt, figureOf}
+use Rattle.studio_figure_rows.specs.Rows.{entry, sumTo, run, part, objectCount, groupCount, materialsFrom, groupsFrom, groupAt, objectAt, materialAt, figureOf}
 use Rattle.studio_figure_rows.specs.Same.{Fits, ByPosition}
 use Rattle.studio_figure_rows.proofs.Runs.{run-part, run-same, sum-inside}
 use Rattle.studio_figure_rows.proofs.Apart.{countsAt, groupCountsAt, all-objects, all-groups, all-materials, total-run, groupCut, groups-cut, materialCut, materials-cut, objectCut, objects-cut}

@@ -1,6 +1,6 @@
 -- Rows that fit give the same figure by position as taken apart from the front; and what they must add up to.
 use mathlib.Core.Path.{_≡_}
-use Prim.Native.Nat.{ℕ, _+_, _*_, _%_}
+use Prim.Native.Nat.{_+_, _*_, _%_}
 use mathlib.Core.Option.{none}
 use lib.ListN.{length}
 use Rattle.shared_words.specs.Conditions.{broken}

@@ -9,7 +9,7 @@ use lib.Ieee.{binary32, toBits}
 use lib.ListN.{length, drop, length-append, length-map}
 use lib.Seq.{drop-at, drop-drop, take-append-seam, drop-append-seam}
 use borrow.Author.Tests.{eq-eqb}
-use Rattle.shared_words.specs.Lists.{every}
+use Rattle.shared_words.specs.Lists.{every, total}
 use Rattle.studio_rules.specs.Rules.{allBelow}
 use Rattle.shared_words.specs.Floats.{float}
 use Rattle.shared_words.specs.Conditions.{broken}
@@ -17,7 +17,6 @@ use Rattle.shared_words.proofs.Bools.{and-parts}
 use Rattle.shared_words.proofs.Conditions.{unbroken}
 use Rattle.studio_write.proofs.Floats.{patterns-back}
 use Rattle.studio_figure_rules.specs.Given.{Group, Object, Material, Figure, over, colours, Bits32}
-use Rattle.studio_figure_rules.specs.Judged.{total}
 use Rattle.studio_figure_rules.specs.Described.{Flat, ObjectCounts, GroupCounts, objectCounts, groupCounts, objectsIn, groupsIn, objectsOf, groupsOf, materialsOf, objectNameBytes, materialNameBytes, groupNameBytes, fitConditions, described}
 use Rattle.studio_figure_rules.specs.Flattened.{groupsOver, objectNumbers, groupNumbers, flattened, FiniteFloats, GivenFlat}
 use Rattle.studio_figure_rules.proofs.Lists.{every-both}

@@ -5,13 +5,13 @@ use native.Mathlib.Omega.{arith}
 use mathlib.Core.List.{List, [], _∷_, _++_, map, append-assoc, append-nil}
 use lib.ListN.{length, take, drop}
 use lib.Seq.{take-at}
-use Rattle.shared_words.specs.Lists.{All}
+use Rattle.shared_words.specs.Lists.{All, total}
 use Rattle.studio_rules.specs.Layout.{Run, end, known, size, bytes, figure}
 use Rattle.studio_rules.specs.Gives.{Mesh, meshOf, meshesOf, meshes}
 use Rattle.studio_write_bytes.specs.Bare.{nameData, faceData}
 use Rattle.studio_figure_rules.specs.Given.{Group, Object, Material, Figure}
 use Rattle.studio_figure_rules.specs.Built.{vertexList, each, groupChunk, smoothingChunk, meshChildren, objectChunk, materialChildren, materialChunk, scene, layout}
-use Rattle.studio_figure_rules.specs.Judged.{total, objectSize, materialSize}
+use Rattle.studio_figure_rules.specs.Judged.{objectSize, materialSize}
 use Rattle.studio_figure_rules.specs.ReadsBack.{meshGiven, meshesGiven, firstObject, nameIn}
 use Rattle.studio_figure_rules.proofs.Ready.{ObjectReady}
 use Rattle.studio_figure_rules.proofs.OwnData.{vertex-count, face-count, vertex-numbers, face-corners, length-name-data}

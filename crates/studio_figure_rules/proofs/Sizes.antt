@@ -4,14 +4,14 @@ use Prim.Native.Nat.{ℕ, _+_}
 use native.Mathlib.Omega.{arith}
 use mathlib.Core.List.{List, [], _∷_}
 use lib.ListN.{length}
-use Rattle.shared_words.specs.Lists.{All}
+use Rattle.shared_words.specs.Lists.{All, total}
 use Rattle.studio_rules.specs.Layout.{Run, end, figure, size, bytes}
 use Rattle.shared_words.proofs.Bytes.{length-packed}
 use Rattle.studio_rules.proofs.Sound.{length-bytes}
 use Rattle.studio_write_bytes.proofs.Bare.{length-face-data}
 use Rattle.studio_figure_rules.specs.Given.{Group, Object, Material, Figure}
 use Rattle.studio_figure_rules.specs.Built.{each, groupChunk, smoothingChunk, objectChunk, materialChunk, layout}
-use Rattle.studio_figure_rules.specs.Judged.{total, groupSize, smoothingSize, objectSize, materialSize, sizeOf}
+use Rattle.studio_figure_rules.specs.Judged.{groupSize, smoothingSize, objectSize, materialSize, sizeOf}
 use Rattle.studio_figure_rules.proofs.Lists.{all-of, all-map}
 use Rattle.studio_figure_rules.proofs.Ready.{ObjectReady}
 use Rattle.studio_figure_rules.proofs.OwnData.{length-name-data, length-vertices, length-group}

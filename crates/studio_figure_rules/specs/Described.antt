@@ -18,7 +18,8 @@ use Rattle.studio_write_judge.specs.Judged.{answerOf}
 use Rattle.studio_write.specs.Write.{writing}
 use Rattle.studio_figure_rules.specs.Given.{Group, Object, Colour, Material, Figure}
 use Rattle.studio_figure_rules.specs.Built.{layout}
-use Rattle.studio_figure_rules.specs.Judged.{total, sizeOf, conditions}
+use Rattle.studio_figure_rules.specs.Judged.{sizeOf, conditions}
+use Rattle.shared_words.specs.Lists.{total}
 use Rattle.studio_figure_rules.specs.Write.{writeFigure}
 
 -- the rows; those of several objects, groups or materials stand one after another

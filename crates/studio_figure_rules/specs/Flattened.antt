@@ -23,7 +23,9 @@ groupNumbers g = length (g .name) ∷ length (g .faces) ∷ []
 
 abbrev pub flattened : Figure → Flat
 flattened f = record {
-  names = over (λ (o : Object). o .name) (f .objects) ++ (over (λ (m : Material). m .name) (f .materials) ++ over (λ (g : Group). g .name) (groupsOver (f .objects)));
+  names =
+      over (λ (o : Object). o .name) (f .objects) ++
+      (over (λ (m : Material). m .name) (f .materials) ++ over (λ (g : Group). g .name) (groupsOver (f .objects)));
   objects = over objectNumbers (f .objects);
   vertices = map float (over (λ (o : Object). o .vertices) (f .objects));
   corners = over (λ (o : Object). o .corners) (f .objects);

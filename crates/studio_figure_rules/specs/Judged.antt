@@ -7,8 +7,7 @@ use lib.ListN.{length}
 use Rattle.shared_words.specs.declared.Refusal.the-variants.{TooLong, Name, Number, Index, Count, NoRoom, SameName, NoMaterial, Text}
 use Rattle.shared_words.specs.Floats.{finite}
 use Rattle.shared_words.specs.Labels.{fitsLabel, labelFault}
-pub use Rattle.shared_words.specs.Lists.{total}
-use Rattle.shared_words.specs.Lists.{same}
+use Rattle.shared_words.specs.Lists.{total, same}
 use Rattle.studio_rules.specs.Rules.{limit}
 use Rattle.shared_words.specs.Conditions.{Condition, must, broken}
 use Rattle.shared_words.specs.declared.Written.{Written}

@@ -25,7 +25,8 @@ use Rattle.studio_write_bytes.specs.Bare.{nameData, faceData}
 use Rattle.studio_write.specs.ReadsBack.{Floats32}
 use Rattle.studio_figure_rules.specs.Given.{Group, Object, Colour, Material, Figure, over, objectNames, rgb, Bits32, Colours8}
 use Rattle.studio_figure_rules.specs.Built.{vertexList, groupData, layout}
-use Rattle.studio_figure_rules.specs.Judged.{total, objectSize, materialSize, sizeOf}
+use Rattle.studio_figure_rules.specs.Judged.{objectSize, materialSize, sizeOf}
+use Rattle.shared_words.specs.Lists.{total}
 use Rattle.studio_figure_rules.specs.Write.{writeFigure}
 use Rattle.studio_figure_rules.specs.Described.{Flat, described, writeFlat}
 

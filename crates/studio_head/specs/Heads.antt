@@ -40,7 +40,8 @@ abbrev pub HeadIs : Parent → List ℕ → ℕ → Step → Head → Type 0
 HeadIs p seen at (stop x) r = r ≡ Head.Fault x
 HeadIs p seen at (pass id body rest) r = r ≡ Head.Skip (at + (6 + length body))
 HeadIs p seen at (enter id own kids rest) r =
-    r ≡ cond (plus id) (Head.Enter id (rowOf id) (boundOf (inside p seen id own)) (at + (6 + length own)) (at + (6 + length own + length kids))) (Head.Leaf (at + (6 + length own + length kids)))
+    r ≡ cond (plus id) (Head.Enter id (rowOf id) (boundOf (inside p seen id own)) (at + (6 + length own)) (at + (6 + length own + length kids)))
+    (Head.Leaf (at + (6 + length own + length kids)))
 
 -- the step that enters a listed chunk whose place is fine, if its own data is
 abbrev pub openedBy : Parent → ℕ → ℕ → List ℕ → List ℕ → Step

@@ -3,7 +3,6 @@ use mathlib.Core.Path.{_≡_, refl, subst}
 use mathlib.Core.List.{List}
 use Prim.Native.Nat.{ℕ, _+_, _≤_}
 use native.Mathlib.Omega.{arith}
-use lib.ListN.{length}
 use Rattle.studio_rules.specs.Layout.{Run}
 use Rattle.studio_rules.specs.Parses.{Place}
 use Rattle.studio_rules.specs.Gives.{recordCount}

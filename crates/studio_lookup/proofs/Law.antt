@@ -1,7 +1,6 @@
 -- The slot of an identifier has its row: two tests, one computed over the rows and one over the slots.
-use mathlib.Core.Path.{_≡_, refl, sym, ap, _∙_}
-use mathlib.Core.Bool.{Bool, true, false, not, _||_, cond, false≢true, true≢false}
-use mathlib.Core.List.{List}
+use mathlib.Core.Path.{_≡_, refl, sym, _∙_}
+use mathlib.Core.Bool.{Bool, true, false, _||_, cond}
 use Prim.Native.Nat.{ℕ, _%_, _^_, _<_}
 use lib.Dec.{T, eqb}
 use lib.ListN.{length, getD}

@@ -77,7 +77,9 @@ pub record MeshPlaced (s marks : List ℕ) : Type 0 where
 
 abbrev pub meshBroken : List ℕ → Bool → List ℕ → Option Refusal
 meshBroken s asMany marks =
-    broken (must (cornersAt s (getD marks 1 0) (countAt s (getD marks 0 0))) (Index (getD marks 1 0)) ∷ must (pairsAt s (getD marks 2 0) asMany (countAt s (getD marks 0 0))) (Count (getD marks 2 0)) ∷ [])
+    broken
+    (must (cornersAt s (getD marks 1 0) (countAt s (getD marks 0 0))) (Index (getD marks 1 0)) ∷
+    must (pairsAt s (getD marks 2 0) asMany (countAt s (getD marks 0 0))) (Count (getD marks 2 0)) ∷ [])
 
 -- what the conditions at a chunk's end come to
 abbrev pub ShutIs : Option Refusal → Shut → Type 0
@@ -97,4 +99,5 @@ RuleIs q asMany = asManyPairs (q .version) ≡ asMany
 -- what its conditions come to, where it stands at `at` in the file s
 abbrev pub EndIs : List ℕ → ℕ → ℕ → Bool → List ℕ → Shut → Type 0
 EndIs s id at asMany marks r =
-    (q : Parent) (t : Run) (stop : ℕ) → q .id ≡ id → RuleIs q asMany → Kept q t s (at + (6 + length (q .own))) stop marks → ShutIs (broken (endConditions q at t)) r
+    (q : Parent) (t : Run) (stop : ℕ) → q .id ≡ id → RuleIs q asMany → Kept q t s (at + (6 + length (q .own))) stop marks →
+    ShutIs (broken (endConditions q at t)) r

@@ -4,7 +4,6 @@ use mathlib.Core.List.{List, [], _∷_}
 use Prim.Native.Nat.{ℕ}
 use Rattle.shared_words.specs.Floats.{float}
 use Rattle.studio_rules.specs.declared.Corner.{Corner}
-use Rattle.studio_rules.specs.declared.BoundingBox.{BoundingBox}
 use Rattle.studio_rules.specs.Box.{boxOf, middle, centreOf}
 
 -- numbers by their bits

@@ -12,4 +12,6 @@ use Rattle.shared_words.specs.Floats.{float}
 
 -- what is in a row of floats, read back as bits, is what stands in the file
 abbrev pub BitForBit : Type 0
-BitForBit = (s : List ℕ) → Bytes s → (at n : ℕ) → every finite (numbers 4 n (drop at s)) ≡ true → map (toBits binary32) (map float (numbers 4 n (drop at s))) ≡ numbers 4 n (drop at s)
+BitForBit =
+    (s : List ℕ) → Bytes s → (at n : ℕ) →
+    every finite (numbers 4 n (drop at s)) ≡ true → map (toBits binary32) (map float (numbers 4 n (drop at s))) ≡ numbers 4 n (drop at s)

@@ -13,7 +13,7 @@ use studio_rules::Checked;
 use studio_rules::Counted;
 ghost use mathlib.Core.Path.{_≡_};
 ghost use mathlib.Core.List.{List, [], _∷_};
-ghost use Prim.Native.Nat.{ℕ, _+_, _-_, _*_, _/_, _≤_, _<_, _^_};
+ghost use Prim.Native.Nat.{ℕ, _+_, _/_, _≤_, _<_, _^_};
 ghost use lib.ListN.{length};
 ghost use Rattle.shared_words.specs.Bytes.{packed};
 ghost use Rattle.shared_words.specs.Effects.{filled};

@@ -3,10 +3,9 @@
 use mathlib.Core.Path.{_≡_, refl, sym, ap, _∙_, subst}
 use mathlib.Core.Bool.{Bool, true, false, not, _||_, false≢true}
 use mathlib.Core.List.{List}
-use Prim.Native.Nat.{ℕ, _+_, _*_, _<_, min}
+use Prim.Native.Nat.{ℕ, _*_, _<_, min}
 use native.Mathlib.Omega.{arith}
 use lib.Dec.{eqb, ltb}
-use lib.ListN.{length}
 use borrow.Author.Tests.{eqb-true, eqb-false, eq-eqb, ne-eqb, lt-ltb, le-ltb, ltb-true, ltb-false}
 use Rattle.shared_words.specs.Bytes.{le}
 use Rattle.shared_words.specs.Lists.{every}
@@ -19,7 +18,7 @@ use Rattle.studio_row.specs.Packed.{rowOf, shapeIn}
 use Rattle.studio_row.proofs.Facts.{shape-is}
 use Rattle.studio_own_size.specs.declared.Own.{Own}
 use Rattle.studio_own_size.specs.Own.{FitIs, CountIs}
-use Rattle.studio_own_data.specs.Bounds.{boundOf, BoundIs}
+use Rattle.studio_own_data.specs.Bounds.{BoundIs}
 use Rattle.studio_own_data.proofs.Conditions.{some-around}
 
 -- only a B010 stands in a B002

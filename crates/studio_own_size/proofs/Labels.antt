@@ -1,12 +1,12 @@
 -- A name in a body, by how much of the body a label takes: it fits exactly where its zero stands right behind that.
 use mathlib.Core.Path.{_≡_, refl, ap, _∙_}
-use Prim.Native.Nat.{ℕ, zero, suc, _+_, _-_, _<_, _≤_}
+use Prim.Native.Nat.{ℕ, zero, suc, _+_, _<_, _≤_}
 use native.Mathlib.Omega.{arith}
 use mathlib.Core.Bool.{Bool, true, false, cond}
 use mathlib.Core.List.{List, [], _∷_}
-use lib.Dec.{eqb, leb}
+use lib.Dec.{eqb}
 use lib.ListN.{length, getD}
-use borrow.Author.Tests.{eqb-true, eq-eqb, ne-eqb, le-leb}
+use borrow.Author.Tests.{eqb-true, eq-eqb, ne-eqb}
 use Rattle.shared_words.specs.Lists.{firstFault}
 use Rattle.shared_words.specs.Labels.{printable, fitsLabel, labelFault}
 use Rattle.shared_words.proofs.FirstFault.{fault-within}

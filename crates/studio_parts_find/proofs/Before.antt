@@ -7,7 +7,6 @@ use Prim.Native.Nat.{ℕ, _+_, _≤_, _<_}
 use native.Mathlib.Omega.{arith}
 use lib.Dec.{eqb}
 use lib.ListN.{length, length-append}
-use borrow.Author.Tests.{eqb-true}
 use Rattle.studio_rules.specs.OwnData.{father}
 use Rattle.studio_rules.specs.Layout.{Run, end, skip, known, size, child, offsetOf}
 use Rattle.studio_rules.specs.Rules.{Parent}

@@ -1,8 +1,8 @@
 -- The B000 of a figure, the B010 of a part, and where they stand in the file.
 use mathlib.Core.Path.{_≡_, refl, sym, ap, _∙_, subst}
-use mathlib.Core.Bool.{Bool, true, false, _||_, cond, false≢true}
-use mathlib.Core.List.{List, [], _∷_}
-use Prim.Native.Nat.{ℕ, _+_, _-_, _≤_, _<_, _^_}
+use mathlib.Core.Bool.{Bool, true, false, cond, false≢true}
+use mathlib.Core.List.{List, []}
+use Prim.Native.Nat.{ℕ, _+_, _-_, _≤_, _<_}
 use native.Mathlib.Omega.{arith}
 use lib.Dec.{eqb}
 use lib.ListN.{length}
@@ -10,12 +10,12 @@ use lib.Seq.{slice, slice-empty}
 use borrow.Author.Tests.{eqb-true}
 use Rattle.studio_rules.specs.Table.{Shape, fixed, named, rows, listed, shape, plus}
 use Rattle.studio_rules.specs.OwnData.{ownSize, nameSize, father}
-use Rattle.studio_rules.specs.Layout.{Run, end, skip, known, size, identifiers, child, held, offsetOf}
-use Rattle.studio_rules.specs.Rules.{Parent, inside, tally, noChild, Meets}
+use Rattle.studio_rules.specs.Layout.{Run, end, skip, known, size, child, held, offsetOf}
+use Rattle.studio_rules.specs.Rules.{Parent, inside, noChild, Meets}
 use Rattle.studio_rules.proofs.Parts.{has-father}
 use Rattle.shared_numbers.specs.Numbers.{wordAt, longAt}
 use Rattle.studio_own_data.proofs.Numbers.{father-last}
-use Rattle.studio_child.specs.Runs.{Spans, Begins, onward}
+use Rattle.studio_child.specs.Runs.{Spans, onward}
 use Rattle.studio_child.proofs.Runs.{header-here, own-here, kids-at, First, first-there, first-nowhere, first-some, child-onward}
 use Rattle.studio_child.proofs.Figure.{figureTop, figure-kids}
 use Rattle.studio_parts_find.specs.Parts.{PartsAt}

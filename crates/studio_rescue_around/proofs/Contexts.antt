@@ -14,7 +14,7 @@ use Rattle.studio_rules.specs.Table.{rows, listed, under}
 use Rattle.studio_rules.specs.Layout.{Run, end, skip, known, size}
 use Rattle.studio_rules.specs.Rules.{Parent, few, Obeys}
 use Rattle.studio_rules.specs.Walk.{walk, top}
-use Rattle.studio_rules.proofs.Sound.{length-bytes, Tells}
+use Rattle.studio_rules.proofs.Sound.{length-bytes, Tells, walk-tells}
 use Rattle.studio_row.specs.Packed.{rowOf, slotIn, slotOf}
 use Rattle.studio_marks.specs.Marks.{free, noted, noMarks, marksAfter, RuleIs}
 use Rattle.studio_marks.proofs.Noted.{noted-length}
@@ -23,7 +23,7 @@ use Rattle.studio_head.proofs.Places.{few-is}
 use Rattle.studio_walk.specs.declared.Ran.{Ran}
 use Rattle.studio_walk.specs.Runs.{RunIs}
 use Rattle.studio_walk.proofs.Contexts.{context-next}
-use Rattle.studio_walk.proofs.Chunks.{clash, walk-tells}
+use Rattle.studio_walk.proofs.Chunks.{clash}
 use Rattle.studio_walk.proofs.Parts.{bytes-slice}
 use Rattle.studio_check.proofs.Files.{figure-row, top-context}
 use Rattle.studio_scene.specs.Passed.{passed}

@@ -41,4 +41,6 @@ rescueCall e s rows = callOf e rows (rescue s)
 
 -- A REFUSAL LEAVES WHAT IS LENT as it was
 abbrev pub RefusalLeaves : Type 1
-RefusalLeaves = (A : Type 0) (e : Encoding Cut A) (s : List ℕ) (rows : Lent A) (r : Refusal) → rescueCall e s rows .answer ≡ Mended.Refused r → rescueCall e s rows ≡ leaving (Mended.Refused r) rows
+RefusalLeaves =
+    (A : Type 0) (e : Encoding Cut A) (s : List ℕ) (rows : Lent A) (r : Refusal) →
+    rescueCall e s rows .answer ≡ Mended.Refused r → rescueCall e s rows ≡ leaving (Mended.Refused r) rows

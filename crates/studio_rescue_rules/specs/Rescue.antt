@@ -12,7 +12,8 @@ use Rattle.shared_words.specs.Refusals.{numberOf}
 use Rattle.studio_rules.specs.Layout.{Run, end, _then_, figure, bytes, withLength, offsetOf}
 use Rattle.studio_rules.specs.Rules.{Parent, inside}
 use Rattle.shared_words.specs.Conditions.{broken, Answer, refused, accepted, unless}
-use Rattle.studio_rules.specs.Walk.{fileConditions, headerConditions, lengthField, Step, stop, pass, enter, step, ended, withSkip, withKnown, walk, versionIn, top}
+use Rattle.studio_rules.specs.Walk.{fileConditions, headerConditions, lengthField, Step, stop, pass, enter}
+use Rattle.studio_rules.specs.Walk.{step, ended, withSkip, withKnown, walk, versionIn, top}
 
 -- the version that a file tells, damaged or not: a child judged alone is judged with it. (The rescue keeps it: 4D4D's children
 -- keep their identifiers and order.)
@@ -72,9 +73,11 @@ sift v o s = siftRun v (suc (length s)) o s
 -- second one is 8 there). Every other chunk is walked as ever, and `go` mends what follows.
 abbrev pub around : ℕ → Bool → (List ℕ → ℕ → List ℕ → Answer Run) → List ℕ → ℕ → ℕ → List ℕ → List ℕ → List ℕ → Answer Run
 around v true go seen o id own kids rest =
-    withKnown id own (ended (scene v) o (accepted (sift v (o + (6 + length own)) kids .kept))) (walk (top v) (id ∷ seen) (o + (6 + length own + length kids)) rest)
+    withKnown id own (ended (scene v) o (accepted (sift v (o + (6 + length own)) kids .kept)))
+    (walk (top v) (id ∷ seen) (o + (6 + length own + length kids)) rest)
 around v false go seen o id own kids rest =
-    withKnown id own (ended (inside (top v) seen id own) o (walk (inside (top v) seen id own) [] (o + (6 + length own)) kids)) (go (id ∷ seen) (o + (6 + length own + length kids)) rest)
+    withKnown id own (ended (inside (top v) seen id own) o (walk (inside (top v) seen id own) [] (o + (6 + length own)) kids))
+    (go (id ∷ seen) (o + (6 + length own + length kids)) rest)
 
 abbrev pub mendStep : ℕ → (List ℕ → ℕ → List ℕ → Answer Run) → List ℕ → ℕ → Step → Answer Run
 mendStep v go seen o (stop r) = refused r

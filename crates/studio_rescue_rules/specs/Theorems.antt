@@ -93,7 +93,8 @@ pub record FaultInScene (s : List ℕ) : Type 0 where
   pub obeys : Obeys (top (versionOf s)) [] before
   pub refuses : walk (scene (versionOf s)) [] (6 + size before + 6) body ≡ refused fault
   -- then the rescue goes on behind 3D3D: the first fault there is its answer
-  pub goes-on : (r : Refusal) → walk (top (versionOf s)) (0x3D3D ∷ passed [] before) (6 + size before + (6 + length body)) back ≡ refused r → rescue s ≡ beyond r
+  pub goes-on : (r : Refusal) →
+      walk (top (versionOf s)) (0x3D3D ∷ passed [] before) (6 + size before + (6 + length body)) back ≡ refused r → rescue s ≡ beyond r
   -- and where there is none the file is saved, with what is kept
   pub saves : (after : Run) → walk (top (versionOf s)) (0x3D3D ∷ passed [] before) (6 + size before + (6 + length body)) back ≡ accepted after →
       (cuts : List Cut) × (rescue s ≡ saved (fileOf before (sift (versionOf s) (6 + size before + 6) body .kept) after) cuts)

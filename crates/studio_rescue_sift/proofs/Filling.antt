@@ -12,12 +12,11 @@ use Rattle.shared_words.proofs.Bytes.{length-packed, packed-append}
 use Rattle.shared_numbers.specs.Put.{Put}
 use Rattle.shared_numbers.proofs.Put.{put-none, put-then, put-front}
 use Rattle.shared_numbers.proofs.Slices.{drop-take}
-use Rattle.studio_rules.specs.Layout.{Run, size, bytes}
-use Rattle.studio_rules.specs.Readings.{_then_}
+use Rattle.studio_rules.specs.Layout.{Run, size, bytes, _then_}
 use Rattle.studio_rules.specs.Walk.{walk}
-use Rattle.studio_rules.proofs.Sound.{length-bytes, Tells}
-use Rattle.studio_scene.proofs.Then.{bytes-then}
-use Rattle.studio_walk.proofs.Chunks.{clash, walk-tells}
+use Rattle.studio_rules.proofs.Sound.{length-bytes, Tells, walk-tells}
+use Rattle.studio_rules.proofs.Then.{bytes-then}
+use Rattle.studio_walk.proofs.Chunks.{clash}
 use Rattle.studio_walk.proofs.Parts.{bytes-slice}
 use Rattle.studio_rescue_rules.specs.Rescue.{scene, Cut, Sifted, cutting, judged, sift, gone}
 use Rattle.studio_rescue_rules.specs.Call.{flat}

@@ -72,8 +72,8 @@ sizeOf (named k) = k
 
 abbrev pub packed : ℕ → Row → ℕ
 packed x r =
-    placeFrom 1 (r .parents) places + 2 ^ 4 * holdsFrom 1 x places + 2 ^ 20 * slotUnder x (r .parents) + 2 ^ 24 * kindOf (r .shape) + 2 ^ 28 * cond (r .plus) 1 0 +
-    2 ^ 32 * sizeOf (r .shape)
+    placeFrom 1 (r .parents) places + 2 ^ 4 * holdsFrom 1 x places + 2 ^ 20 * slotUnder x (r .parents) +
+    2 ^ 24 * kindOf (r .shape) + 2 ^ 28 * cond (r .plus) 1 0 + 2 ^ 32 * sizeOf (r .shape)
 
 -- the packed row of an identifier, 0 where it has none
 unfoldable pub rowOf : ℕ → ℕ

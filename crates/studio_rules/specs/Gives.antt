@@ -26,7 +26,15 @@ recordCount (known id own kids rest) = suc (recordCount kids + recordCount rest)
 -- The seventh number: its own, plus one, plus the count of records inside it at any depth.
 abbrev pub recordOf : ℕ → ℕ → ℕ → ℕ → ℕ → List ℕ → Run → Record
 recordOf o depth parent number id own kids =
-    record { identifier = id; offset = o; len = 6 + length own + size kids; depth = depth; parent = parent; own = length own; next = number + 1 + recordCount kids }
+    record {
+      identifier = id;
+      offset = o;
+      len = 6 + length own + size kids;
+      depth = depth;
+      parent = parent;
+      own = length own;
+      next = number + 1 + recordCount kids;
+    }
 
 -- the records of a run that begins at offset o, at a depth, in the chunk of record `parent`; the first has number `next`
 abbrev pub recordsOf : ℕ → ℕ → ℕ → ℕ → Run → List Record

@@ -7,8 +7,7 @@ use mathlib.Core.List.{List, [], _∷_, _++_, map}
 use lib.ListN.{replicate}
 use Rattle.studio_rules.specs.OwnData.{root}
 use Rattle.shared_words.specs.Bytes.{le}
-pub use Rattle.studio_rules.specs.Layout.{_then_}
-use Rattle.studio_rules.specs.Layout.{Run, end, skip, known, figure, bytes}
+use Rattle.studio_rules.specs.Layout.{Run, end, skip, known, figure, bytes, _then_}
 use Rattle.shared_words.specs.Conditions.{Answer, refused, accepted}
 use Rattle.studio_rules.specs.Walk.{verdict}
 use Rattle.studio_rules.specs.Gives.{Part, parts, meshes}
@@ -160,4 +159,5 @@ at father depth = record { father = father; depth = depth }
 
 pub record Worked : Type 0 where
   -- father and depth of each part
-  pub tree : partsIn (reading (keyframer (part root then part 0 then part 1 then part 0 then part root))) ≡ at root 0 ∷ at 0 1 ∷ at 1 2 ∷ at 0 1 ∷ at root 0 ∷ []
+  pub tree : partsIn (reading (keyframer (part root then part 0 then part 1 then part 0 then part root))) ≡
+      at root 0 ∷ at 0 1 ∷ at 1 2 ∷ at 0 1 ∷ at root 0 ∷ []

@@ -61,7 +61,9 @@ BranchesNest = (kids : Run) (i j : ℕ) (r q : Record) → getElem? (list kids) 
 
 -- So the branches of two siblings are apart. (Number 0 is 4D4D, which has none.)
 abbrev pub SiblingsApart : Type 0
-SiblingsApart = (kids : Run) (i j : ℕ) (r q : Record) → getElem? (list kids) i ≡ some r → getElem? (list kids) j ≡ some q → 0 < i → i < j → q .parent ≡ r .parent → r .next ≤ j
+SiblingsApart =
+    (kids : Run) (i j : ℕ) (r q : Record) →
+    getElem? (list kids) i ≡ some r → getElem? (list kids) j ≡ some q → 0 < i → i < j → q .parent ≡ r .parent → r .next ≤ j
 
 -- record j is inside record i, at any depth: i is its parent, or its parent is inside i
 pub data Inside (rs : List Record) (i : ℕ) : ℕ → Type 0 where

@@ -1,12 +1,11 @@
 -- One run behind another: its identifiers, its counts, and whether it obeys the rules. (Its bytes and meshes: studio_rules/proofs/Then.)
 use mathlib.Core.Path.{_≡_, refl}
-use Prim.Native.Nat.{ℕ, _+_, _-_}
+use Prim.Native.Nat.{ℕ, _+_}
 use native.Mathlib.Omega.{arith}
 use mathlib.Core.List.{List, _∷_, _++_}
 use Rattle.studio_rules.specs.Layout.{Run, end, skip, known, identifiers, _then_}
 use Rattle.studio_rules.specs.Rules.{Parent, Obeys}
 use Rattle.studio_rules.specs.Gives.{recordCount, headers, owned, skipped}
-pub use Rattle.studio_rules.proofs.Then.{bytes-then}
 use Rattle.studio_scene.specs.Passed.{passed}
 
 pub identifiers-then : (a t : Run) → identifiers (a then t) ≡ identifiers a ++ identifiers t

@@ -1,9 +1,9 @@
 -- The first chunk of a run that stands in a file: its header, its own data, its children and what follows it. That the run
 -- parses says that each identifier fits its two bytes.
-use mathlib.Core.Path.{_≡_, refl, sym, ap, _∙_}
-use mathlib.Core.Bool.{true, false, not, true≢false, false≢true}
+use mathlib.Core.Path.{_≡_, sym, ap, _∙_}
+use mathlib.Core.Bool.{true, false, not, true≢false}
 use mathlib.Core.List.{List, []}
-use Prim.Native.Nat.{ℕ, _+_, _≤_, _<_, _^_}
+use Prim.Native.Nat.{ℕ, _+_, _<_, _^_}
 use native.Mathlib.Omega.{arith}
 use lib.Dec.{ltb}
 use lib.ListN.{length}
@@ -11,7 +11,7 @@ use lib.Seq.{slice, length-slice}
 use borrow.Author.Tests.{ltb-true, not-true}
 use Rattle.shared_words.proofs.Bools.{and-parts}
 use Rattle.studio_rules.specs.Table.{listed}
-use Rattle.studio_rules.specs.Layout.{Run, end, skip, known, size}
+use Rattle.studio_rules.specs.Layout.{Run, skip, known, size}
 use Rattle.studio_rules.specs.Rules.{unlisted}
 use Rattle.studio_rules.specs.Parses.{Place, Parses, Fits}
 use Rattle.studio_rules.proofs.Rows.{under-listed, listed-small}

@@ -20,7 +20,7 @@ use Rattle.studio_rules.specs.Walk.{Step, stop, pass, enter, endConditions, end
 use Rattle.shared_words.proofs.Bools.{every-weaker}
 use Rattle.shared_words.proofs.Conditions.{unbroken}
 use Rattle.studio_rules.proofs.Rows.{under-listed}
-use Rattle.studio_rules.proofs.Sound.{Tells}
+use Rattle.studio_rules.proofs.Sound.{Tells, walk-tells}
 use Rattle.studio_rules.proofs.Steps.{Says}
 use Rattle.studio_rules.proofs.Fuel.{walk-nil}
 use Rattle.studio_row.specs.Packed.{rowOf, slotOf}
@@ -33,7 +33,6 @@ use Rattle.studio_walk.specs.declared.Ran.{Ran}
 use Rattle.studio_head.specs.Heads.{HeadIs, MarksAre}
 use Rattle.studio_walk.specs.Runs.{ClosedIs, closedTo, ChunkIs, RunIs}
 use Rattle.studio_walk.proofs.Parts.{bytes-slice}
-pub use Rattle.studio_rules.proofs.Sound.{walk-tells}
 
 -- nothing is two things at once
 pub clash : _≡_ {A = ℕ} 0 1 → ⊥

@@ -1,5 +1,5 @@
 -- Chunks that are passed over one after another: the run goes on behind them, and nothing but the skipped bytes has changed.
-use mathlib.Core.Path.{_≡_, refl, sym, subst}
+use mathlib.Core.Path.{_≡_, sym, subst}
 use mathlib.Core.Bool.{Bool}
 use mathlib.Core.List.{List}
 use Prim.Native.Nat.{ℕ, _+_, _-_, _≤_, _<_}

@@ -12,7 +12,7 @@ use Rattle.studio_rules.specs.Rules.{Parent, inside}
 use Rattle.studio_rules.specs.Gives.{recordCount, skipped}
 use Rattle.shared_words.specs.Conditions.{Answer, refused, accepted}
 use Rattle.studio_rules.specs.Walk.{Step, stop, pass, enter, ended, withSkip, withKnown, step, taken, walk}
-use Rattle.studio_rules.proofs.Sound.{length-bytes, Closes, ended-closes}
+use Rattle.studio_rules.proofs.Sound.{length-bytes, Closes, ended-closes, walk-tells}
 use Rattle.studio_rules.proofs.Steps.{Says, step-says}
 use Rattle.studio_rules.proofs.Fuel.{walk-nil}
 use Rattle.studio_row.specs.Packed.{slotOf}
@@ -22,7 +22,7 @@ use Rattle.studio_head.specs.Contexts.{Context}
 use Rattle.studio_walk.specs.Runs.{ClosedIs, ChunkIs, RunIs}
 use Rattle.studio_walk.proofs.Contexts.{context-next}
 use Rattle.studio_walk.proofs.Parts.{bytes-slice, PartsAt, step-parts, walk-part}
-use Rattle.studio_walk.proofs.Chunks.{clash, walk-tells}
+use Rattle.studio_walk.proofs.Chunks.{clash}
 
 module _ (end records skips at : ℕ) (ms : List ℕ) (r : Ran) (ms′ : List ℕ) where
   -- a chunk that is skipped, and the rest

@@ -33,7 +33,8 @@ closedTo past records bytes none = Ran.Done past (records + 1) bytes
 -- a chunk of an identifier at its end, in whatever it stands: its children left these marks
 abbrev pub ClosesBy : List ℕ → ℕ → ℕ → Bool → List ℕ → ℕ → ℕ → ℕ → Ran → Type 0
 ClosesBy s id at asMany marks past records bytes r =
-    (q : Parent) (t : Run) (stop : ℕ) → q .id ≡ id → RuleIs q asMany → Kept q t s (at + (6 + length (q .own))) stop marks → r ≡ closedTo past records bytes (broken (endConditions q at t))
+    (q : Parent) (t : Run) (stop : ℕ) → q .id ≡ id → RuleIs q asMany → Kept q t s (at + (6 + length (q .own))) stop marks →
+    r ≡ closedTo past records bytes (broken (endConditions q at t))
 
 abbrev pub ClosesWith : ℕ → ℕ → ℕ → Ran → Type 0
 ClosesWith past records bytes (Ran.Refused x) = Unit
@@ -44,7 +45,8 @@ abbrev pub ChunkIs : Parent → List ℕ → ℕ → Step → Ran → List ℕ �
 ChunkIs p seen at (stop x) r marks marks′ = r ≡ Ran.Refused x
 ChunkIs p seen at (pass id body rest) r marks marks′ = (r ≡ Ran.Done (at + (6 + length body)) 0 (6 + length body)) × (marks′ ≡ marks)
 ChunkIs p seen at (enter id own kids rest) r marks marks′ =
-    ClosedIs (at + (6 + length own + length kids)) (ended (inside p seen id own) at (walk (inside p seen id own) [] (at + (6 + length own)) kids)) r × (marks′ ≡ noted (slotOf id) at marks)
+    ClosedIs (at + (6 + length own + length kids)) (ended (inside p seen id own) at (walk (inside p seen id own) [] (at + (6 + length own)) kids)) r ×
+    (marks′ ≡ noted (slotOf id) at marks)
 
 -- a run from o to `end`, where so many records and skipped bytes came before it
 abbrev pub RunIs : ℕ → ℕ → ℕ → ℕ → List ℕ → Answer Run → Ran → List ℕ → Type 0

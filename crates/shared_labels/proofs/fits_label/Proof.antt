@@ -1,5 +1,4 @@
 -- A name fits where a label takes all of it.
-use mathlib.Core.Path.{sym}
 use native.Mathlib.Omega.{arith}
 use borrow.Author.Needs.{needs}
 use lib.Seq.{slice, length-slice}

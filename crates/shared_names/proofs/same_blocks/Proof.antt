@@ -2,7 +2,6 @@
 use mathlib.Core.Path.{sym, _∙_}
 use Prim.Native.Nat.{_+_, _-_, _≤_}
 use native.Mathlib.Omega.{arith}
-use lib.ListN.{length}
 use Rattle.shared_names.specs.Alike.{AlikeFor}
 use Rattle.shared_names.proofs.Same.{alike-none, alike-four, longs-differ}
 use Rattle.shared_names.proofs.same_blocks.Statement.{statement}

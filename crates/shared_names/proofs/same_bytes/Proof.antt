@@ -1,8 +1,7 @@
 -- The loop's invariant: the names are the same exactly where what follows their first i bytes is.
 use mathlib.Core.Path.{_≡_, refl, sym, _∙_}
-use Prim.Native.Nat.{_+_, _-_, _≤_}
+use Prim.Native.Nat.{_+_, _-_}
 use native.Mathlib.Omega.{arith}
-use lib.ListN.{length}
 use Rattle.shared_names.specs.Alike.{AlikeFor}
 use Rattle.shared_names.proofs.Same.{alike-on, same-off}
 use Rattle.shared_names.proofs.same_bytes.Statement.{statement}

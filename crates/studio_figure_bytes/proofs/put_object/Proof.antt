@@ -1,17 +1,13 @@
 -- `studio_figure_bytes::put_object` meets its contract: the lists, the groups, then the smoothing words.
-use mathlib.Core.Path.{_≡_, sym, ap, _∙_, subst}
-use Prim.Native.Nat.{ℕ, _+_, _-_, _*_, _/_, _≤_}
+use mathlib.Core.Path.{_≡_, ap, _∙_, subst}
+use Prim.Native.Nat.{ℕ, _+_, _-_, _≤_}
 use native.Mathlib.Omega.{arith}
 use mathlib.Core.List.{List}
-use lib.Ieee.{Float}
 use lib.ListN.{length}
 use Rattle.shared_numbers.specs.Put.{Put}
 use Rattle.shared_numbers.proofs.Put.{put-then}
-use Rattle.studio_figure_rules.specs.Built.{smoothingChunk}
-use Rattle.studio_rules.specs.Layout.{bytes}
-use Rattle.studio_figure_rows.specs.Rows.{entry, sumTo, run, part, nameAt}
-use Rattle.studio_figure_rules.specs.Given.{over}
-use Rattle.studio_figure_objects.specs.Sizes.{wordsSize, between, groupBytes, objectBytes}
+use Rattle.studio_figure_rows.specs.Rows.{entry, part}
+use Rattle.studio_figure_objects.specs.Sizes.{wordsSize, between, groupBytes}
 use Rattle.studio_figure_bytes.proofs.Objects.{Pieces, pieces-of, pieces-same, groups-length, pieces-room, words-small, labels-small}
 use borrow.Author.Needs.{needs}
 use Rattle.studio_figure_bytes.proofs.put_object.Statement.{statement}

@@ -1,17 +1,16 @@
 -- `studio_figure_bytes::put_objects` meets its contract: after i turns the first i objects are put.
-use mathlib.Core.Path.{_≡_, refl, sym, ap, _∙_, subst}
-use Prim.Native.Nat.{ℕ, _+_, _-_, _*_, _≤_}
+use mathlib.Core.Path.{_≡_, refl}
+use Prim.Native.Nat.{ℕ, _+_, _-_, _≤_}
 use native.Mathlib.Omega.{arith}
-use mathlib.Core.List.{List}
 use lib.ListN.{length}
 use Rattle.shared_numbers.specs.Put.{Put}
 use Rattle.shared_numbers.proofs.Put.{put-none, put-then}
 use Rattle.studio_figure_rules.specs.Given.{over}
-use Rattle.studio_figure_rules.specs.Judged.{total}
-use Rattle.studio_figure_rows.specs.Rows.{entry, sumTo, run}
+use Rattle.shared_words.specs.Lists.{total}
+use Rattle.studio_figure_rows.specs.Rows.{run}
 use Rattle.studio_figure_objects.specs.Sizes.{objectBytes}
 use Rattle.studio_figure_chunks.proofs.Chunks.{over-last}
-use Rattle.studio_figure_bytes.specs.Objects.{At, Behind, Writable, pieces}
+use Rattle.studio_figure_bytes.specs.Objects.{At, pieces}
 use Rattle.studio_figure_bytes.proofs.Steps.{at-first, at-next, place-small, pieces-length, total-next, total-inside}
 use Rattle.studio_figure_bytes.proofs.put_objects.Statement.{statement}
 use Rattle.studio_figure_bytes.proofs.put_objects.Tie as tie

@@ -1,10 +1,9 @@
 -- `studio_figure_chunks::put_lists` meets its contract: the chunks one behind the other, each length that of what is left.
-use mathlib.Core.Path.{_≡_, sym, subst}
-use Prim.Native.Nat.{ℕ, _+_, _-_, _*_, _/_}
+use mathlib.Core.Path.{_≡_}
+use Prim.Native.Nat.{_+_, _-_, _*_}
 use native.Mathlib.Omega.{arith}
-use mathlib.Core.List.{List, [], _∷_}
+use mathlib.Core.List.{[], _∷_}
 use lib.ListN.{length, length-append}
-use Rattle.shared_numbers.specs.Put.{Put}
 use Rattle.shared_numbers.proofs.Put.{put-then}
 use Rattle.studio_write_judge.specs.Judged.{triples}
 use Rattle.studio_rules.specs.Layout.{end, known, bytes}

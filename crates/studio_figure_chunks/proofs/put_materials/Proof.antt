@@ -1,5 +1,5 @@
 -- `studio_figure_chunks::put_materials` meets its contract: after i turns the first i materials are put.
-use mathlib.Core.Path.{_≡_, refl, ap, subst}
+use mathlib.Core.Path.{_≡_, refl, subst}
 use Prim.Native.Nat.{ℕ, _+_, _-_, _*_, _≤_}
 use native.Mathlib.Omega.{arith}
 use mathlib.Core.List.{List}
@@ -7,7 +7,7 @@ use lib.ListN.{length}
 use Rattle.shared_numbers.specs.Put.{Put}
 use Rattle.shared_numbers.proofs.Put.{put-none, put-then}
 use Rattle.studio_figure_rules.specs.Given.{over}
-use Rattle.studio_figure_rows.specs.Rows.{entry, sumTo, run, part, nameAt}
+use Rattle.studio_figure_rows.specs.Rows.{entry, sumTo, run}
 use Rattle.studio_figure_rows.proofs.Runs.{sum-next, sum-inside, part-is}
 use Rattle.studio_figure_judge.proofs.Things.{part-length}
 use Rattle.studio_figure_chunks.specs.Chunks.{materialBytes, materialWith, materialIn}

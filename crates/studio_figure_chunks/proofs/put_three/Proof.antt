@@ -1,6 +1,6 @@
 -- `studio_figure_chunks::put_three` meets its contract.
 use mathlib.Core.Path.{_≡_, ap, _∙_}
-use Prim.Native.Nat.{ℕ, _+_}
+use Prim.Native.Nat.{ℕ}
 use native.Mathlib.Omega.{arith}
 use lib.ListN.{drop, getD, length-set}
 use lib.Seq.{getD-drop}

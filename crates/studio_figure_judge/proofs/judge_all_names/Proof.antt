@@ -1,5 +1,5 @@
 -- `studio_figure_judge::judge_all_names` meets its contract: 9, 24, 29, 30.
-use mathlib.Core.Path.{_≡_, sym, ap, _∙_}
+use mathlib.Core.Path.{sym, _∙_}
 use mathlib.Core.Bool.{true, false}
 use mathlib.Core.List.{List, _++_}
 use Rattle.shared_words.specs.Conditions.{Condition}

@@ -1,5 +1,5 @@
 -- `studio_figure_judge::judge_all_objects` meets its contract: 13, 11, 12.
-use mathlib.Core.Path.{_≡_, sym, ap, _∙_}
+use mathlib.Core.Path.{sym, _∙_}
 use mathlib.Core.List.{List, _++_}
 use Rattle.shared_words.specs.Conditions.{Condition}
 use Rattle.studio_figure_rules.specs.Given.{over}

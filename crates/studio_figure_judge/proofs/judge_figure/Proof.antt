@@ -1,6 +1,6 @@
 -- `studio_figure_judge::judge_figure` meets its contract: the rows, then the names, the objects and the size of what they give.
 use mathlib.Core.Path.{_≡_, sym, ap, _∙_}
-use Prim.Native.Nat.{ℕ, _+_, _*_, _/_}
+use Prim.Native.Nat.{_/_}
 use native.Mathlib.Omega.{arith}
 use lib.ListN.{length}
 use Rattle.studio_figure_rules.specs.Described.{Flat}

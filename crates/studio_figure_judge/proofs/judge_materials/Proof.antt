@@ -1,13 +1,13 @@
 -- `studio_figure_judge::judge_materials` meets its contract.
-use mathlib.Core.Path.{_≡_, sym, ap, _∙_}
-use Prim.Native.Nat.{ℕ, _+_, _*_, _/_}
+use mathlib.Core.Path.{_≡_, ap, _∙_}
+use Prim.Native.Nat.{ℕ, _+_, _/_}
 use native.Mathlib.Omega.{arith}
-use mathlib.Core.List.{List, []}
+use mathlib.Core.List.{[]}
 use lib.ListN.{length}
 use Rattle.shared_words.specs.declared.Refusal.the-variants.{NoMaterial}
 use Rattle.shared_words.specs.Lists.{firstFault}
 use Rattle.studio_figure_rules.specs.Judged.{oneOf}
-use Rattle.studio_figure_rows.specs.Rows.{sumTo, nameAt}
+use Rattle.studio_figure_rows.specs.Rows.{nameAt}
 use Rattle.studio_figure_rows.proofs.Runs.{capped-under, run-length}
 use Rattle.studio_figure_names.specs.Names.{namesIn}
 use Rattle.studio_figure_objects.proofs.Answers.{none-broken, row-found, row-through}

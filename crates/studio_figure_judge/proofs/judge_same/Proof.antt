@@ -1,17 +1,16 @@
 -- `studio_figure_judge::judge_same` meets its contract: the objects, then the materials.
 use mathlib.Core.Path.{_≡_, sym, ap, _∙_}
-use Prim.Native.Nat.{ℕ, _+_, _*_, _/_}
+use Prim.Native.Nat.{ℕ}
 use native.Mathlib.Omega.{arith}
-use mathlib.Core.List.{List, []}
+use mathlib.Core.List.{[]}
 use lib.ListN.{length}
-use Rattle.studio_figure_rules.specs.Given.{over}
 use Rattle.studio_figure_rules.specs.Judged.{differ}
 use Rattle.studio_figure_rows.proofs.Runs.{capped-under}
-use Rattle.studio_figure_names.specs.Names.{nameAsked, namesIn}
+use Rattle.studio_figure_names.specs.Names.{namesIn}
 use Rattle.studio_figure_objects.specs.Asked.{answered}
 use Rattle.studio_figure_objects.proofs.Answers.{front-refused, front-passed}
 use Rattle.studio_figure_judge.specs.Judged.{objectNames, materialsAt, materialNames}
-use Rattle.studio_figure_judge.proofs.Whole.{text-answer, same-answer}
+use Rattle.studio_figure_judge.proofs.Whole.{same-answer}
 use borrow.Author.Needs.{needs}
 use Rattle.studio_figure_judge.proofs.judge_same.Statement.{statement}
 use Rattle.studio_figure_judge.proofs.judge_same.Tie as tie

@@ -1,9 +1,9 @@
 -- `studio_figure_judge::judge_size` meets its contract.
-use mathlib.Core.Path.{_≡_, sym, ap, _∙_, subst}
-use Prim.Native.Nat.{ℕ, _+_, _*_, _/_}
+use mathlib.Core.Path.{_≡_, subst}
+use Prim.Native.Nat.{ℕ, _+_, _*_}
 use native.Mathlib.Omega.{arith}
 use lib.ListN.{length}
-use Rattle.studio_figure_rules.specs.Judged.{total}
+use Rattle.shared_words.specs.Lists.{total}
 use Rattle.studio_figure_rows.specs.Rows.{sumTo, Capped}
 use Rattle.studio_figure_rows.proofs.Runs.{capped-under}
 use Rattle.studio_figure_objects.specs.Sizes.{objectBytes}

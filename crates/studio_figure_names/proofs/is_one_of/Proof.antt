@@ -3,7 +3,7 @@ use mathlib.Core.Path.{_≡_, sym, ap, _∙_}
 use Prim.Native.Nat.{ℕ, _+_, _-_, _≤_}
 use native.Mathlib.Omega.{arith}
 use Rattle.shared_words.specs.Lists.{same}
-use Rattle.studio_figure_rows.specs.Rows.{entry, sumTo, part, nameAt}
+use Rattle.studio_figure_rows.specs.Rows.{sumTo, part, nameAt}
 use Rattle.studio_figure_rows.proofs.Runs.{stride, sum-next, sum-inside}
 use Rattle.studio_figure_names.proofs.Judging.{Looked, looked-none, looked-here, looked-on, looked-all}
 use Rattle.studio_figure_names.proofs.is_one_of.Statement.{statement}

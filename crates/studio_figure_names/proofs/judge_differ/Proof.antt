@@ -3,7 +3,7 @@ use mathlib.Core.Path.{_≡_, sym, ap, _∙_}
 use Prim.Native.Nat.{ℕ, _+_, _-_, _≤_}
 use native.Mathlib.Omega.{arith}
 use Rattle.studio_figure_rules.specs.Judged.{oneOf}
-use Rattle.studio_figure_rows.specs.Rows.{entry, sumTo, part, nameAt}
+use Rattle.studio_figure_rows.specs.Rows.{sumTo, part, nameAt}
 use Rattle.studio_figure_rows.proofs.Runs.{stride, sum-next, sum-up, sum-inside}
 use Rattle.studio_figure_names.specs.Names.{namesIn}
 use Rattle.studio_figure_names.proofs.Judging.{Differing, differing-none, differing-on, differing-said, differing-end}

@@ -1,6 +1,6 @@
 -- `studio_figure_names::judge_names` meets its contract: what is left to judge is judged as all of it.
 use mathlib.Core.Path.{_≡_, sym, ap, _∙_}
-use Prim.Native.Nat.{ℕ, _+_, _-_, _≤_}
+use Prim.Native.Nat.{_+_, _-_, _≤_}
 use native.Mathlib.Omega.{arith}
 use Rattle.studio_figure_rows.specs.Rows.{sumTo, nameAt}
 use Rattle.studio_figure_rows.proofs.Runs.{stride, sum-next, sum-inside, part-is}

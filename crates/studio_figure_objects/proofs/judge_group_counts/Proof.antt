@@ -1,5 +1,5 @@
 -- `studio_figure_objects::judge_group_counts` meets its contract: the groups that the loop has passed have few faces.
-use mathlib.Core.Path.{_≡_, sym, ap, _∙_}
+use mathlib.Core.Path.{ap, _∙_}
 use Prim.Native.Nat.{ℕ, _+_, _-_, _≤_}
 use native.Mathlib.Omega.{arith}
 use mathlib.Core.List.{[]}

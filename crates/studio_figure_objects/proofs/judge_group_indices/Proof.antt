@@ -1,9 +1,9 @@
 -- `studio_figure_objects::judge_group_indices` meets its contract: what is left to judge is judged as all of it.
 use mathlib.Core.Path.{_≡_, sym, ap, _∙_}
-use Prim.Native.Nat.{ℕ, _+_, _-_, _*_, _≤_}
+use Prim.Native.Nat.{ℕ, _+_, _-_, _≤_}
 use native.Mathlib.Omega.{arith}
 use mathlib.Core.List.{List}
-use Rattle.studio_figure_rows.specs.Rows.{entry, sumTo, part}
+use Rattle.studio_figure_rows.specs.Rows.{sumTo}
 use Rattle.studio_figure_rows.proofs.Runs.{sum-next, sum-inside, part-is}
 use Rattle.studio_figure_names.proofs.Judging.{Left, left-all}
 use Rattle.studio_figure_objects.specs.Asked.{answered, from, allBelow, groupIndex}

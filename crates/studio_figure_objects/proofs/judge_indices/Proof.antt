@@ -1,6 +1,6 @@
 -- `studio_figure_objects::judge_indices` meets its contract: what is left to judge is judged as all of it.
-use mathlib.Core.Path.{_≡_, refl, sym, ap, _∙_}
-use Prim.Native.Nat.{ℕ, _+_, _-_, _*_, _≤_}
+use mathlib.Core.Path.{_≡_, sym, _∙_}
+use Prim.Native.Nat.{ℕ, _+_, _-_, _≤_}
 use native.Mathlib.Omega.{arith}
 use Rattle.studio_figure_rows.specs.Rows.{entry, sumTo}
 use Rattle.studio_figure_rows.proofs.Runs.{sum-next, sum-inside, sum-up, capped-under}

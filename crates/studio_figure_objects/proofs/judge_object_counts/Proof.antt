@@ -1,8 +1,7 @@
 -- `studio_figure_objects::judge_object_counts` meets its contract: its tests are the conditions in their order.
 use mathlib.Core.Path.{_≡_, sym, ap, _∙_}
-use Prim.Native.Nat.{ℕ, _+_, _*_, _/_}
+use Prim.Native.Nat.{ℕ, _/_}
 use native.Mathlib.Omega.{arith}
-use mathlib.Core.Bool.{true}
 use mathlib.Core.List.{List, _∷_}
 use borrow.Author.Tests.{not-true, not-false}
 use Rattle.shared_words.specs.declared.Refusal.the-variants.{Count}

@@ -1,9 +1,8 @@
 -- `studio_figure_objects::judge_object_indices` meets its contract: the corners first, then the groups.
 use mathlib.Core.Path.{_≡_, sym, ap, _∙_}
-use Prim.Native.Nat.{ℕ, _+_, _-_, _*_, _/_, _≤_}
+use Prim.Native.Nat.{ℕ, _+_, _-_, _/_}
 use native.Mathlib.Omega.{arith}
 use mathlib.Core.List.{List}
-use Rattle.shared_words.specs.declared.Written.{Written}
 use Rattle.shared_words.specs.Conditions.{Condition}
 use Rattle.studio_figure_rows.specs.Rows.{entry, sumTo, part}
 use Rattle.studio_figure_rows.proofs.Runs.{part-is}

@@ -1,7 +1,4 @@
 -- `studio_figure_objects::none_or_each` meets its contract.
-use mathlib.Core.Path.{_≡_, sym, ap}
-use mathlib.Core.Bool.{Bool, _||_}
-use lib.Dec.{eqb}
 use borrow.Author.Tests.{eq-eqb, ne-eqb}
 use Rattle.studio_figure_objects.proofs.none_or_each.Statement.{statement}
 use Rattle.studio_figure_objects.proofs.none_or_each.Tie as tie

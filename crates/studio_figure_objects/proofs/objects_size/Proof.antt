@@ -1,6 +1,6 @@
 -- `studio_figure_objects::objects_size` meets its contract: the size so far, with what is left, is all.
 use mathlib.Core.Path.{_≡_}
-use Prim.Native.Nat.{ℕ, _+_, _-_, _*_, _≤_}
+use Prim.Native.Nat.{_-_, _≤_}
 use native.Mathlib.Omega.{arith}
 use Rattle.studio_figure_rows.specs.Rows.{sumTo}
 use Rattle.studio_figure_rows.proofs.Runs.{sum-next, sum-inside}

@@ -1,10 +1,4 @@
-use mathlib.Core.Path.{_≡_, ap}
-use Prim.Native.Nat.{ℕ}
-use mathlib.Core.List.{List}
-use lib.ListN.{getD}
 use borrow.Author.Needs.{needs}
-use Rattle.studio_row.specs.Packed.{rowOf}
-use Rattle.studio_lookup.specs.Slots.{slots, place, found}
 use Rattle.studio_lookup.proofs.Law.{slot-law}
 use Rattle.studio_lookup.proofs.slot.Statement.{statement}
 use Rattle.studio_lookup.proofs.slot.Tie as tie

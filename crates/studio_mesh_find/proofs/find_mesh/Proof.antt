@@ -3,7 +3,7 @@ use mathlib.Core.Path.{ap, sym, _∙_, subst}
 use mathlib.Core.List.{List, map}
 use borrow.Author.Needs.{needs}
 use Rattle.studio_rules.specs.Gives.{Mesh}
-use Rattle.studio_meshes_rules.specs.Standing.{Standing, meshIn}
+use Rattle.studio_meshes_rules.specs.Standing.{meshIn}
 use Rattle.studio_meshes_rules.proofs.Same.{same-meshes}
 use Rattle.studio_mesh_find.specs.Places.{FoundIs}
 use Rattle.studio_mesh_find.proofs.find_mesh.Statement.{statement}

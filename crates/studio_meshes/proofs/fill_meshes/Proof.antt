@@ -1,6 +1,5 @@
 -- The loop's invariant: the meshes of the objects passed stand at the row's front.
-use mathlib.Core.Path.{_≡_}
-use Prim.Native.Nat.{ℕ, _+_, _*_, _-_, _/_, _≤_}
+use Prim.Native.Nat.{_-_, _/_, _≤_}
 use native.Mathlib.Omega.{arith}
 use lib.ListN.{length}
 use Rattle.studio_rules.specs.Layout.{Run}

@@ -1,16 +1,11 @@
 -- The mesh, or nothing.
-use mathlib.Core.Path.{_≡_, sym, ap, _∙_, subst}
-use mathlib.Core.List.{List}
-use Prim.Native.Nat.{ℕ}
+use mathlib.Core.Path.{ap}
 use native.Mathlib.Omega.{arith}
 use borrow.Author.Needs.{needs}
 use lib.ListN.{length}
-use Rattle.shared_words.specs.Bytes.{packed}
-use Rattle.shared_numbers.specs.Put.{Put}
 use Rattle.shared_numbers.proofs.Put.{put-none}
-use Rattle.studio_meshes_rules.specs.Standing.{Standing, meshNumbers, flatMeshes}
 use Rattle.studio_child.proofs.Runs.{header-here}
-use Rattle.studio_mesh_find.proofs.Objects.{none-in, one-in, stood, mesh-begins, mesh-place, mesh-numbers}
+use Rattle.studio_mesh_find.proofs.Objects.{none-in, one-in, mesh-begins, mesh-place, mesh-numbers}
 use Rattle.studio_meshes.proofs.Filling.{place-small, one-put}
 use Rattle.studio_meshes.proofs.put_held.Statement.{statement}
 use Rattle.studio_meshes.proofs.put_held.Tie as tie

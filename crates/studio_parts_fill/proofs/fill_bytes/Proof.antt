@@ -1,7 +1,6 @@
 -- The loop's invariant: the parts passed stand at the row's front.
-use mathlib.Core.Path.{_≡_, refl, ap, _∙_}
 use native.Mathlib.Omega.{arith}
-use Prim.Native.Nat.{ℕ, _+_, _*_, _-_, _/_, _≤_}
+use Prim.Native.Nat.{_-_, _/_, _≤_}
 use lib.ListN.{length}
 use Rattle.studio_rules.specs.Layout.{Run}
 use Rattle.studio_rules.specs.Gives.{parts}

@@ -1,7 +1,7 @@
 -- Behind the part at hand, by its length.
 use mathlib.Core.Path.{refl, ap, _∙_}
 use native.Mathlib.Omega.{arith}
-use Prim.Native.Nat.{ℕ, _+_}
+use Prim.Native.Nat.{ℕ}
 use borrow.Author.Needs.{needs}
 use Rattle.studio_rules.specs.Layout.{offsetOf}
 use Rattle.studio_child.proofs.Runs.{after-known}
