@@ -72,6 +72,7 @@ BoxTold (Boxed.Refused r) n = Tells r n
 
 pub record StudioTold : Type 1 where
   pub check : (s : List ℕ) → CheckTold (checkCall s) (recordsOr (checkCall s))
+  -- as numbers, as bytes, and as a table of structs beside a row
   pub list : {A : Type 0} (e : Encoding Record A) (s : List ℕ) (row : List A) → CheckTold (listCall e s row .answer) (recordsOr (listCall e s row .answer))
   pub tables : {A B C : Type 0} (t : Tables A B C) (s : List ℕ) → Bytes s → (mesh : ℕ) (rows : Rows A B C) →
       TablesTold (tablesCall t s mesh rows .answer) (sizesOr (tablesCall t s mesh rows .answer))
