@@ -16,7 +16,7 @@ use Rattle.cob_rules.specs.Kinds.{Part, plain, natural, times, faces, optional,
 use Rattle.cob_rules.specs.Body.{Reading, andThen, skip, counted, hole, face, faceRun, mapData, behind, behindAll, nothing}
 use Rattle.cob_rules.specs.Mesh.{listBehind}
 use Rattle.cob_rules.proofs.Body.{skip-left, counted-left, then-left, nothing-left}
-use Rattle.cob_body.proofs.Parts.{behind-append}
+use Rattle.cob_rules.proofs.Body.{behind-append}
 
 -- ---- how many bytes a reading takes, at least
 

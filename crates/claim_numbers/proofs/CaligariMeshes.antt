@@ -13,7 +13,7 @@ use Rattle.cob_rules.specs.Body.{skip, face, faceRun, exact}
 use Rattle.cob_rules.specs.Mesh.{countOf, vertexList, faceList, Face, faceFirst, facesAt, facesOf, triangle, triangles}
 use Rattle.cob_rules.specs.Gives.{Mesh, meshIn}
 use Rattle.cob_rules.proofs.Body.{skip-left, counted-left}
-use Rattle.cob_tables.proofs.Faces.{three-each}
+use Rattle.cob_rules.proofs.Triangles.{three-each}
 use Rattle.claim_numbers.proofs.CaligariBodies.{run-takes, stands}
 
 vertices-few : (body : List ℕ) → exact Kind.PolH body ≡ true → 12 * countOf (vertexList body) ≤ length body

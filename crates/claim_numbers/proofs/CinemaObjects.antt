@@ -18,7 +18,7 @@ use Rattle.c4d_rules.specs.Walk.{verdict}
 use Rattle.c4d_rules.specs.Gives.{Object, materialsOf, objectAt, objectsFrom, objectsInside, cinema, objects}
 use Rattle.c4d_rules.specs.Calls.{allMaterials}
 use Rattle.c4d_rules.proofs.Verdict.{accepted-exactly}
-use Rattle.c4d_objects.proofs.Notes.{materials-append}
+use Rattle.c4d_rules.proofs.Objects.{materials-append}
 
 -- how many objects and materials
 abbrev pub many : List Object → ℕ
