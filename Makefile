@@ -69,7 +69,8 @@ include stick/Makefile.inc
 
 # under valgrind too, where it is on the machine
 c-check: c-test
-	@if command -v valgrind > /dev/null; then $(MAKE) --no-print-directory -o target/staticlib/libtds.a c-memcheck; else echo 'valgrind is not here: memory was not checked'; fi
+	@if command -v valgrind > /dev/null; then $(MAKE) --no-print-directory -o target/staticlib/libtds.a c-memcheck; \
+	else echo 'valgrind is not here: memory was not checked'; fi
 
 clean:
 	rm -rf target build second/target bench/target

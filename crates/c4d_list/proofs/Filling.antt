@@ -13,7 +13,8 @@ use Rattle.shared_numbers.proofs.Put.{put-none, put-then, put-front}
 use Rattle.c4d_rules.specs.Gives.{Object}
 use Rattle.c4d_rules.specs.Calls.{allMaterials, flat}
 use Rattle.c4d_objects.specs.Notes.{front, notesOf, allNotes, Small}
-use Rattle.c4d_objects.proofs.Notes.{materials-append, notes-append, materials-more, notes-more}
+use Rattle.c4d_rules.proofs.Objects.{materials-append}
+use Rattle.c4d_objects.proofs.Notes.{notes-append, materials-more, notes-more}
 use Rattle.c4d_list.specs.Filled.{Fillable, FilledWith}
 use Rattle.c4d_list.proofs.Noted.{reach, second, those, pair-long, has-none, has-some, offset-of, number-of}
 

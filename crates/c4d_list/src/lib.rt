@@ -70,7 +70,8 @@ fn fill(notes: &[u32], count: usize, objects: &mut [u8], materials: &mut [u8])
 fn list_with(file: &[u8], notes: &mut [u32], objects: &mut [u8], materials: &mut [u8]) -> Found
     requires { ⌜ (length (now file) ≤ limit → length (now file) ≤ 8 * length (now notes)) ⌝ }
     ensures answer { λ r. ⌜ r ≡ c4dListCall objectBytes (numberBytes 4) (now (file .entry)) (now (objects .entry)) (now (materials .entry)) .answer ⌝ }
-    ensures rows { λ _. ⌜ twoRows (now (objects .exit)) (now (materials .exit)) ≡ c4dListCall objectBytes (numberBytes 4) (now (file .entry)) (now (objects .entry)) (now (materials .entry)) .rows ⌝ }
+    ensures rows { λ _. ⌜ twoRows (now (objects .exit)) (now (materials .exit)) ≡
+        c4dListCall objectBytes (numberBytes 4) (now (file .entry)) (now (objects .entry)) (now (materials .entry)) .rows ⌝ }
 {
     match read(file, notes) {
         Checked::Refused(r) => Found::Refused(r),
@@ -93,7 +94,8 @@ fn list_with(file: &[u8], notes: &mut [u32], objects: &mut [u8], materials: &mut
 // refusal; a refusal leaves both rows as they were. A short file needs few notes, which are quicker made.
 pub fn list(file: &[u8], objects: &mut [u8], materials: &mut [u8]) -> Found
     ensures answer { λ r. ⌜ r ≡ c4dListCall objectBytes (numberBytes 4) (now (file .entry)) (now (objects .entry)) (now (materials .entry)) .answer ⌝ }
-    ensures rows { λ _. ⌜ twoRows (now (objects .exit)) (now (materials .exit)) ≡ c4dListCall objectBytes (numberBytes 4) (now (file .entry)) (now (objects .entry)) (now (materials .entry)) .rows ⌝ }
+    ensures rows { λ _. ⌜ twoRows (now (objects .exit)) (now (materials .exit)) ≡
+        c4dListCall objectBytes (numberBytes 4) (now (file .entry)) (now (objects .entry)) (now (materials .entry)) .rows ⌝ }
 {
     if file.len() <= 16384 {
         let mut few = [0u32; 2048];

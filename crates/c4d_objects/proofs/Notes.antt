@@ -10,11 +10,8 @@ use Rattle.shared_numbers.specs.Put.{Put}
 use Rattle.shared_numbers.proofs.Put.{put-none}
 use Rattle.c4d_rules.specs.Gives.{Object}
 use Rattle.c4d_rules.specs.Calls.{allMaterials}
+use Rattle.c4d_rules.proofs.Objects.{materials-append}
 use Rattle.c4d_objects.specs.Notes.{front, notesOf, allNotes}
-
-pub materials-append : (a b : List Object) → allMaterials (a ++ b) ≡ allMaterials a ++ allMaterials b
-materials-append [] b = refl
-materials-append (r ∷ a) b = ap (λ (l : List ℕ). r .materials ++ l) (materials-append a b) ∙ sym (append-assoc (r .materials) (allMaterials a) (allMaterials b))
 
 pub notes-append : (a b : List Object) → allNotes (a ++ b) ≡ allNotes a ++ allNotes b
 notes-append [] b = refl

@@ -35,7 +35,8 @@ fn note_object(
 ) -> usize
     requires { ⌜ (offset ≤ limit) × (number ≤ 9) × (textures ≤ limit) × (row ≤ limit) ⌝ }
     ensures is { λ r. ⌜ r ≡ row + length (front offset number textures) + textures ⌝ }
-    ensures noted { λ _. ⌜ (row + length (front offset number textures) ≤ length (now (notes .entry)) → Put (now (notes .entry)) row (front offset number textures) (now (notes .exit)) (row + length (front offset number textures))) ⌝ }
+    ensures noted { λ _. ⌜ (row + length (front offset number textures) ≤ length (now (notes .entry)) →
+        Put (now (notes .entry)) row (front offset number textures) (now (notes .exit)) (row + length (front offset number textures))) ⌝ }
 {
     if textures == 0 {
         note(32 * offset + number, row, notes);
@@ -50,7 +51,8 @@ fn note_object(
 pub fn objects(file: &[u8], chunk: usize, to: usize, below: usize, notes: &mut [u32]) -> Tally
     requires { ⌜ (chunk + 8 ≤ to) × (to ≤ length (now file)) × (to ≤ limit) × (below ≤ 0x8000_0000) ⌝ }
     ensures is { λ r. ⌜ r ≡ tallied (ahead (now (file .entry)) (lastOf below) chunk to (chunk + 8) none (chunk + 8)) ⌝ }
-    ensures noted { λ _. ⌜ Notes (now (file .entry)) (ahead (now (file .entry)) (lastOf below) chunk to (chunk + 8) none (chunk + 8)) (now (notes .entry)) (now (notes .exit)) ⌝ }
+    ensures noted { λ _. ⌜ Notes (now (file .entry)) (ahead (now (file .entry)) (lastOf below) chunk to (chunk + 8) none (chunk + 8)) (now (notes .entry))
+        (now (notes .exit)) ⌝ }
 {
     let mut at = chunk + 8;
     let mut count = 0usize;

@@ -7,4 +7,5 @@ pub mod Verdict
 pub mod PutIn
 pub mod Grouped
 pub mod Combinations
+pub mod Objects
 pub mod Samples

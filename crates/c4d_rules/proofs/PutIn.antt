@@ -2,28 +2,23 @@
 -- there is a chunk, which matters to PLTF alone.
 use mathlib.Core.Path.{_≡_, refl, sym, ap, _∙_, subst}
 use mathlib.Core.Logic.{_⊎_, inl, inr}
-use Prim.Native.Nat.{ℕ, suc, _+_, _≤_}
+use Prim.Native.Nat.{ℕ, _+_, _≤_}
 use native.Mathlib.Omega.{arith}
 use mathlib.Core.Bool.{Bool, true, false, cond, true≢false, false≢true}
 use mathlib.Core.List.{List, [], _∷_}
-use mathlib.Core.Option.{Option, none, some}
+use mathlib.Core.Option.{Option, none}
 use lib.Dec.{eqb}
 use lib.ListN.{length, length-append}
 use Rattle.shared_flat.specs.Flat.{Obeys, total}
-use Rattle.shared_flat.specs.Put.{Mark, put, keep, without, with, puts, LawfulThere, Piece, pieces, Pairwise, Shifted, Harmless, PutOrTaken}
+use Rattle.shared_flat.specs.Put.{Mark, put, keep, without, with, puts, LawfulThere, Pairwise, Shifted, Harmless, PutOrTaken}
 use Rattle.shared_flat.proofs.Put.{total-grows, pairwise-append, harmless-is-enough}
 use Rattle.shared_words.specs.Lists.{All}
-use Rattle.shared_words.specs.declared.Refusal.{Refusal}
-use Rattle.c4d_rules.specs.declared.Found.{Found}
 use Rattle.c4d_rules.specs.Blocks.{Block, size, blockBytes, allBytes, itself}
 use Rattle.c4d_rules.specs.Kinds.{Kind, Platform, Materials, Objects, Other, tEnd, tObject}
 use Rattle.c4d_rules.specs.Layout.{Inside, plain, subs, Chunk, kind, subChunks, insideBytes, block, chunkSize, bytes}
 use Rattle.c4d_rules.specs.Rules.{Open, soFar, objectId, afterObject, Before, start, afterKind, after, inOrder, InsideObeys, ChunkRules}
-use Rattle.shared_words.specs.Conditions.{broken, accepted, unless}
-use Rattle.c4d_rules.specs.Walk.{verdict}
-use Rattle.c4d_rules.specs.Gives.{Object, objectAt, objectsFrom, objectsInside, cinema, objects}
-use Rattle.c4d_rules.specs.Calls.{allMaterials, roomConditions, c4dCheckCall, objectsCall}
-use Rattle.c4d_rules.specs.PutIn.{isPlain, Unlisted, isPlatform, NotPlatform, BehindPlatform, SameObject, ObjectsMoved, AnswerMoved, SameAnswers}
+use Rattle.c4d_rules.specs.Gives.{Object, objectAt, objectsFrom, objectsInside, cinema}
+use Rattle.c4d_rules.specs.PutIn.{isPlain, Unlisted, isPlatform, NotPlatform, BehindPlatform, SameObject}
 use Rattle.c4d_rules.specs.Theorems.{PutIn, TakenOut}
 use Rattle.c4d_rules.proofs.Verdict.{accepted-exactly, verdict-good}
 
@@ -201,60 +196,31 @@ taken-behind p [] h = tt
 taken-behind p (put c ∷ m) h = none-later (after p c) m (any-after p (kind c) (c .inside)) (h .1)
 taken-behind p (keep c ∷ m) h = taken-behind (after p c) m (h .1)
 
--- ---- the answers
-
-count-same : (ps : List Piece) (rs rs′ : List Object) → ObjectsMoved ps rs rs′ → length rs′ ≡ length rs
-count-same ps [] [] h = refl
-count-same ps [] (r′ ∷ rs′) h = absurd h
-count-same ps (r ∷ rs) [] h = absurd h
-count-same ps (r ∷ rs) (r′ ∷ rs′) h = ap suc (count-same ps rs rs′ (h .1))
-
-materials-same : (ps : List Piece) (rs rs′ : List Object) → ObjectsMoved ps rs rs′ → allMaterials rs′ ≡ allMaterials rs
-materials-same ps [] [] h = refl
-materials-same ps [] (r′ ∷ rs′) h = absurd h
-materials-same ps (r ∷ rs) [] h = absurd h
-materials-same ps (r ∷ rs) (r′ ∷ rs′) h = rw (h .0 .else-same .materials-same, materials-same ps rs rs′ (h .1))
-
-given-moved : (ps : List Piece) (n k : ℕ) (rs rs′ : List Object) → ObjectsMoved ps rs rs′ →
-    AnswerMoved ps (unless (broken (roomConditions n k rs)) (accepted rs)) (unless (broken (roomConditions n k rs′)) (accepted rs′))
-given-moved ps n k rs rs′ h = rw (count-same ps rs rs′ h, materials-same ps rs rs′ h) (go (broken (roomConditions n k rs)))
-  where
-    go : (x : Option Refusal) → AnswerMoved ps (unless x (accepted rs)) (unless x (accepted rs′))
-    go (some r) = refl
-    go none = h
-
-answers : (m : List (Mark Chunk)) (s s′ : List ℕ) → Like start start m → Obeys after ChunkRules start (without m) →
-    verdict s ≡ accepted (without m) → verdict s′ ≡ accepted (with m) → SameAnswers m s s′
-unfolding c4dCheckCall objectsCall
-answers m s s′ l g e e′ = record {
-  accepted-without = e;
-  accepted-with = e′;
-  check-same =
-      rw (e, e′) (ap Found.Objects (count-same (pieces chunkSize 12 m) (objects (without m)) (objects (with m)) (enough .records-moved start start 12 m l g)));
-  answers-moved = λ n k. rw (e, e′) (given-moved (pieces chunkSize 12 m) n k (objects (without m)) (objects (with m)) (enough .records-moved start start 12 m l g));
-}
-
 -- ---- the theorems
 
 pub put-in : PutIn
 put-in m s e h n =
     let g = accepted-exactly s (without m) .0 e in
-    let l = alike m (all-other (puts m) (h .each)) (h .spots) in
-    answers m s (bytes (with m)) l (g .chunks) e (verdict-good (bytes (with m)) (with m) record {
-      is = refl;
-      within-limit = n;
-      chunks = enough .put-in start start m l (lawful-there start m (h .each)) (g .chunks);
-    })
+    let l = alike m (all-other (puts m) (h .each)) (h .spots) in (
+      verdict-good (bytes (with m)) (with m) record {
+        is = refl;
+        within-limit = n;
+        chunks = enough .put-in start start m l (lawful-there start m (h .each)) (g .chunks);
+      },
+      enough .records-moved start start 12 m l (g .chunks),
+    )
 
 pub taken-out : TakenOut
-taken-out m s′ e h =
-    let g = accepted-exactly s′ (with m) .0 e in
+taken-out m s e h =
+    let g = accepted-exactly s (with m) .0 e in
     let l = alike m h (taken-behind start m (g .chunks)) in
     let i = ap length (g .is) in
     let w = g .within-limit in
-    let r = enough .taken-out start start m l (g .chunks) in
-    answers m (bytes (without m)) s′ l r (verdict-good (bytes (without m)) (without m) record {
-      is = refl;
-      within-limit = omega (arith, length-all block (with m), length-all block (without m), total-grows chunkSize m);
-      chunks = r;
-    }) e
+    let r = enough .taken-out start start m l (g .chunks) in (
+      verdict-good (bytes (without m)) (without m) record {
+        is = refl;
+        within-limit = omega (arith, length-all block (with m), length-all block (without m), total-grows chunkSize m);
+        chunks = r;
+      },
+      enough .records-moved start start 12 m l r,
+    )

@@ -4,7 +4,8 @@ use mathlib.Core.Bool.{Bool, true, false, _&&_, _||_, not, cond}
 use mathlib.Core.List.{List, [], _∷_}
 use lib.Dec.{eqb}
 use Rattle.shared_words.specs.Lists.{every, among}
-use Rattle.c4d_rules.specs.Kinds.{tPoints, tTriangles, tQuadrangles, tEdges, tPolygon, tLight, tCamera, tTexture, tGround, tSky, tSphere, tEnvironment, tHermite, exclusive, parts}
+use Rattle.c4d_rules.specs.Kinds.{tPoints, tTriangles, tQuadrangles, tEdges, tPolygon, tLight, tCamera, tTexture, tGround, tSky, tSphere, tEnvironment}
+use Rattle.c4d_rules.specs.Kinds.{tHermite, exclusive, parts}
 
 pub data Part : Type 0 where
   required : ℕ → Part

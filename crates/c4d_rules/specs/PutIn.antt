@@ -1,17 +1,13 @@
 -- Demand 3 for Cinema 4D files, in Q-12's words: which chunks may be put in or taken out, and what stays the same.
 use mathlib.Core.Path.{_≡_}
-use Prim.Native.Nat.{ℕ}
 use mathlib.Core.Bool.{Bool, true, false}
 use mathlib.Core.List.{List, [], _∷_}
-use Rattle.shared_flat.specs.Put.{Mark, put, keep, without, with, puts, Piece, pieces, Moved, Pairwise}
+use Rattle.shared_flat.specs.Put.{Mark, put, keep, without, with, puts, pieces, Moved, Pairwise}
 use Rattle.shared_words.specs.Lists.{All}
 use Rattle.c4d_rules.specs.Blocks.{chunkHeader, Framed}
 use Rattle.c4d_rules.specs.Kinds.{Kind, Platform, Materials, Objects, Other}
 use Rattle.c4d_rules.specs.Layout.{Inside, plain, subs, Chunk, kind, block, chunkSize}
-use Rattle.shared_words.specs.Conditions.{Answer, refused, accepted}
-use Rattle.c4d_rules.specs.Walk.{verdict}
-use Rattle.c4d_rules.specs.Gives.{Object}
-use Rattle.c4d_rules.specs.Calls.{c4dCheckCall, objectsCall}
+use Rattle.c4d_rules.specs.Gives.{Object, objects}
 
 -- ---- put in
 
@@ -57,19 +53,5 @@ pub record SameObject (old new : Object) : Type 0 where
   pub materials-same : new .materials ≡ old .materials
 
 -- the same objects in the same order, each moved by the bytes put in before it
-abbrev pub ObjectsMoved : List Piece → List Object → List Object → Type 0
-ObjectsMoved ps old new = Pairwise (Moved (λ r. r .offset) SameObject ps) old new
-
--- With the same room both are given, or neither is.
-abbrev pub AnswerMoved : List Piece → Answer (List Object) → Answer (List Object) → Type 0
-AnswerMoved ps (refused r) new = new ≡ refused r
-AnswerMoved ps (accepted old) (refused r) = ⊥
-AnswerMoved ps (accepted old) (accepted new) = ObjectsMoved ps old new
-
--- s is the file without the chunks that m marks, and s′ the file with them
-pub record SameAnswers (m : List (Mark Chunk)) (s s′ : List ℕ) : Type 0 where
-  pub accepted-without : verdict s ≡ accepted (without m)
-  pub accepted-with : verdict s′ ≡ accepted (with m)
-  pub check-same : c4dCheckCall s′ ≡ c4dCheckCall s
-  pub answers-moved : (objectRoom materialRoom : ℕ) →
-      AnswerMoved (pieces chunkSize 12 m) (objectsCall objectRoom materialRoom s) (objectsCall objectRoom materialRoom s′)
+abbrev pub Unchanged : List (Mark Chunk) → Type 0
+Unchanged m = Pairwise (Moved (λ r. r .offset) SameObject (pieces chunkSize 12 m)) (objects (without m)) (objects (with m))

@@ -16,7 +16,7 @@ use Rattle.c4d_rules.specs.Rules.{MaterialsObey, ObjectsObey, limit, Mee
 use Rattle.shared_words.specs.Conditions.{accepted}
 use Rattle.c4d_rules.specs.Walk.{verdict}
 use Rattle.c4d_rules.specs.Gives.{objectsFrom}
-use Rattle.c4d_rules.specs.PutIn.{MayPut, MayTake, SameAnswers}
+use Rattle.c4d_rules.specs.PutIn.{MayPut, MayTake, Unchanged}
 use Rattle.c4d_rules.specs.Grouped.{EndsOnce, Item, allBlocks, ItemRules, Grouped, itemObjects}
 
 -- A file is accepted, with a layout, exactly when it meets the rules with that layout. (For every list of numbers, so for every
@@ -55,13 +55,14 @@ GroupedExactly = (last : Option ℕ) (bs : List Block) → ObjectsObey last bs �
 abbrev pub ObjectsGrouped : Type 0
 ObjectsGrouped = (last : Option ℕ) (items : List Item) → All (ItemRules last) items → (o : ℕ) → objectsFrom o none o (allBlocks items) ≡ itemObjects o items
 
--- ---- demand 3: of the chunks m of a file, some of them marked; for all marked chunks together and both ways
+-- ---- demand 3: for all marked chunks together and both ways. (Crate claim_demands says it of the calls.)
 
--- chunks put into an accepted file, the result within the length limit. (`bytes` raises the size in the file's header.)
+-- an accepted file, with chunks put in, is accepted within the length limit. (`bytes` raises the size in the file's header.)
 abbrev pub PutIn : Type 0
 PutIn = (m : List (Mark Chunk)) (s : List ℕ) → verdict s ≡ accepted (without m) → MayPut m → length (bytes (with m)) ≤ limit →
-    SameAnswers m s (bytes (with m))
+    (verdict (bytes (with m)) ≡ accepted (with m)) × Unchanged m
 
--- chunks taken out of an accepted file
+-- an accepted file, with chunks taken out, is accepted
 abbrev pub TakenOut : Type 0
-TakenOut = (m : List (Mark Chunk)) (s′ : List ℕ) → verdict s′ ≡ accepted (with m) → MayTake m → SameAnswers m (bytes (without m)) s′
+TakenOut = (m : List (Mark Chunk)) (s : List ℕ) → verdict s ≡ accepted (with m) → MayTake m →
+    (verdict (bytes (without m)) ≡ accepted (without m)) × Unchanged m

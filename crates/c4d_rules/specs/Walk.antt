@@ -11,7 +11,8 @@ use Rattle.shared_words.specs.Lists.{same}
 use Rattle.c4d_rules.specs.Blocks.{Block, chunkHeader, materialHeader, objectHeader, identifier}
 use Rattle.c4d_rules.specs.Kinds.{Kind, Platform, Materials, Objects, Other, kindOf}
 use Rattle.c4d_rules.specs.Layout.{plain, subs, Chunk, Layout, fileHeader}
-use Rattle.c4d_rules.specs.Rules.{afterMaterial, Open, isOpen, afterObject, textureWhole, inPlace, materialThere, combinationHolds, Before, start, after, inOrder, limit}
+use Rattle.c4d_rules.specs.Rules.{afterMaterial, Open, isOpen, afterObject, textureWhole, inPlace, materialThere, combinationHolds, Before, start, after}
+use Rattle.c4d_rules.specs.Rules.{inOrder, limit}
 use Rattle.shared_words.specs.Conditions.{Condition, must, broken, Answer, refused, accepted, unless}
 use Rattle.c4d_rules.specs.Read.{Grammar, walk}
 

@@ -1,5 +1,5 @@
 -- Sums handed on as numbers.
-use mathlib.Core.Path.{_≡_, refl, sym, ap, subst, _∙_}
+use mathlib.Core.Path.{_≡_, refl, sym, ap, _∙_}
 use mathlib.Core.List.{List, [], _∷_}
 use mathlib.Core.Bool.{Bool, true, false, cond}
 use mathlib.Core.Logic.{inl, inr}
@@ -13,12 +13,12 @@ use Rattle.shared_words.specs.declared.Refusal.the-variants.{TooLong}
 use Rattle.slip_sums.specs.declared.Sum.{Sum}
 use Rattle.slip_sums.specs.declared.Summed.{Summed}
 use Rattle.slip_sums.specs.Fletcher.{sumOf}
-use Rattle.slip_sums.specs.Joined.{join, Proper, capped, withPart, withParts}
+use Rattle.slip_sums.specs.Joined.{join, capped, withPart, withParts}
 use Rattle.slip_sums.specs.Passes.{sumsCall, otherSums, matchOf}
 use Rattle.slip_sums.proofs.Remainders.{sum-same}
 use Rattle.slip_sums.proofs.Joined.{join-law, cap-first, part-by-part, associative-within}
 use Rattle.slip_sums.proofs.Passes.{same-part-by-part}
-use Rattle.c_sums.specs.Numbers.{SumsProper, SumsSmall, NoFileHas, numberOf, sumIn, Handed, ReadsBack, partNumber, byParts, NumberByParts, MatchesByParts, NumbersJoin, NumbersAssociate}
+use Rattle.c_sums.specs.Numbers.{SumsProper, NoFileHas, numberOf, sumIn, Handed, ReadsBack, partNumber, byParts, NumberByParts, MatchesByParts, NumbersJoin, NumbersAssociate}
 
 -- the sums of a file are remainders, where it has any
 pub sums-proper : (file : List ℕ) → SumsProper (sumsCall file)
@@ -27,11 +27,6 @@ sums-proper file = go (ltb 1_048_576 (length file))
     go : (t : Bool) → SumsProper (cond t (Summed.Refused TooLong) (Summed.Sums (sumOf file)))
     go true = tt
     go false = record { first-small = omega arith; second-small = omega arith }
-
-pub sums-small : SumsSmall
-sums-small file a e =
-    let p : Proper a = subst SumsProper e (sums-proper file) in
-    rw e (omega (arith, p .first-small, p .second-small))
 
 pub no-file-has : NoFileHas
 no-file-has s sums (inl e) = rw (eq-eqb (length s) (length s) refl, ne-eqb (sumOf s .first) (sums % 256) (omega arith))

@@ -1,4 +1,5 @@
--- The checksum's answers as the one number that C gets.
+-- The checksum's answers as the one number that C gets. (That an answer proper is below 2^32, and so never taken for a refusal, is
+-- said in crate claim_numbers.)
 use mathlib.Core.Path.{_≡_}
 use mathlib.Core.List.{List, [], _∷_, _++_, flatten}
 use mathlib.Core.Logic.{_⊎_}
@@ -9,7 +10,7 @@ use Rattle.slip_sums.specs.declared.Summed.{Summed}
 use Rattle.slip_sums.specs.declared.Matched.{Matched}
 use Rattle.slip_sums.specs.Fletcher.{sumOf}
 use Rattle.slip_sums.specs.Joined.{join, Proper, capped, withPart}
-use Rattle.slip_sums.specs.Passes.{sumsCall, otherSums, matchOf}
+use Rattle.slip_sums.specs.Passes.{otherSums, matchOf}
 use Rattle.c_codes.specs.Codes.{refusalCode}
 
 -- ---- of a whole file
@@ -26,10 +27,6 @@ sumsOr (Summed.Refused r) = refusalCode r
 abbrev pub SumsProper : Summed → Type 0
 SumsProper (Summed.Sums a) = Proper a
 SumsProper (Summed.Refused r) = Unit
-
--- AN ANSWER PROPER has 16 bits, so it is never mistaken for a refusal.
-abbrev pub SumsSmall : Type 0
-SumsSmall = (file : List ℕ) (a : Sum) → sumsCall file ≡ Summed.Sums a → sumsOr (sumsCall file) < 2 ^ 16
 
 abbrev pub zeroOr : Matched → ℕ
 zeroOr Matched.Same = 0

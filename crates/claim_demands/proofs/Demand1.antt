@@ -1,8 +1,8 @@
 -- Demand 1, of the calls. A call is a fold of the walk's answer, and each line of each fold accepts, or refuses and gives
--- back what was lent; every refusal has a number of the table, and an answer is no two refusals.
-use mathlib.Core.Path.{_≡_, refl, sym, ap, subst}
+-- back what was lent. (Those of the other formats: Formats.)
+use mathlib.Core.Path.{refl, sym, subst}
 use mathlib.Core.List.{List}
-use mathlib.Core.Logic.{inl, inr}
+use mathlib.Core.Logic.{inl}
 use mathlib.Core.Option.{Option, none, some}
 use Prim.Native.Nat.{ℕ}
 use lib.Dec.{eqb, leb}
@@ -16,7 +16,7 @@ use Rattle.studio_rules.specs.declared.Counted.{Counted}
 use Rattle.studio_rules.specs.declared.Named.{Named}
 use Rattle.studio_rules.specs.declared.Boxed.{Boxed}
 use Rattle.studio_rules.specs.Layout.{Run, figure}
-use Rattle.shared_words.specs.Conditions.{Answer, refused, accepted}
+use Rattle.shared_words.specs.Conditions.{Answer, refused, accepted, broken}
 use Rattle.studio_rules.specs.Walk.{verdict}
 use Rattle.studio_rules.specs.Gives.{recordCount, Mesh, meshes, parts}
 use Rattle.shared_words.specs.Encodings.{Encoding}
@@ -25,7 +25,6 @@ use Rattle.studio_rules.specs.Calls.{countsOf, checkOf, checkCall, listOf, list
 use Rattle.studio_counted.proofs.All.{all-parts}
 use Rattle.studio_meshes_rules.specs.Standing.{standing}
 use Rattle.studio_meshes_rules.specs.Calls.{meshesCall}
-use Rattle.shared_words.proofs.Refusals.{numbered}
 use Rattle.studio_rescue_rules.specs.declared.Mended.{Mended}
 use Rattle.studio_rescue_rules.specs.Rescue.{Cut, Rescued, beyond, saved, rescue}
 use Rattle.studio_rescue_rules.specs.Call.{Lent, callOf, rescueCall}
@@ -34,26 +33,19 @@ use Rattle.shared_words.specs.declared.Written.the-variants.{Size, Refused}
 use Rattle.studio_write_judge.specs.Judged.{judged}
 use Rattle.studio_figure_rules.specs.Described.{judgedFlat, writeFlat}
 use Rattle.studio_write.specs.Write.{writing, writeCall}
-use Rattle.shared_words.specs.Refusals.{codeOf}
-use Rattle.claim_demands.specs.Demand1.{RefusedWith, Answered, AnsweredOn, around, mended, Demand1}
+use Rattle.slip_rules.specs.Walk.{verdict as slipVerdict}
+use Rattle.slip_rules.specs.Calls.{writeConditions, slipReadCall, slipWriteCall}
+use Rattle.cob_rules.specs.declared.Answered.{Answered as CobAnswered}
+use Rattle.cob_rules.specs.Walk.{verdict as cobVerdict}
+use Rattle.cob_rules.specs.Calls.{checkCall as cobCheckCall, give, listCall as cobListCall, sizesOf as cobSizesOf, sizesCall, tablesOf as cobTablesOf, tablesCall as cobTablesCall}
+use Rattle.c4d_rules.specs.Walk.{verdict as c4dVerdict}
+use Rattle.c4d_rules.specs.Calls.{objectsCall, c4dCheckCall, c4dListCall}
+use Rattle.claim_demands.specs.Demand1.{Answered, AnsweredOn, around, mended, Demand1}
+use Rattle.claim_demands.proofs.Refused.{Apart, refuses, leaves}
+use Rattle.claim_demands.proofs.Formats.{summed, matched, slip-given, slip-written, cob-leaves, cob-checked, cob-given, cob-listed, cob-tabled, cob-by-mesh, c4d-checked, c4d-listed}
 use Rattle.shared_words.proofs.Bools.{by-test}
 
--- ---- a refusal
-
--- an answer that is a refusal is no other one
-abbrev Apart : {A : Type 0} → (Refusal → A) → Type 0
-Apart refuse = (r q : Refusal) → refuse r ≡ refuse q → r ≡ q
-
-with-code : {A : Type 0} (refuse : Refusal → A) → Apart refuse → (r : Refusal) → RefusedWith refuse (refuse r) (codeOf r)
-with-code refuse apart r =
-    record { refusal = r; is = refl; number-and-place = refl; no-other = λ q e. ap codeOf (sym (apart r q e)); of-table = numbered r }
-
-refuses : {X A : Type 0} (accept : X → A) (refuse : Refusal → A) → Apart refuse → (r : Refusal) → Answered accept refuse (refuse r)
-refuses accept refuse apart r = inr (codeOf r, with-code refuse apart r)
-
-leaves : {X A R : Type 0} (accept : X → A) (refuse : Refusal → A) → Apart refuse → (lent : R) (r : Refusal) →
-    AnsweredOn accept refuse lent (leaving (refuse r) lent)
-leaves accept refuse apart lent r = inr (codeOf r, with-code refuse apart r, refl)
+-- ---- an answer is no two refusals
 
 check-apart : Apart Checked.Refused
 check-apart r q e = cc
@@ -134,7 +126,7 @@ written file out (Size size) = inl (size, refl)
 -- ---- the demand
 
 pub demand1 : Demand1
-unfolding checkCall listCall tablesCall nameCall boxCall meshesCall rescueCall writeCall writeFlat
+unfolding checkCall listCall tablesCall nameCall boxCall meshesCall rescueCall writeCall writeFlat slipReadCall slipWriteCall cobCheckCall cobListCall sizesCall cobTablesCall c4dCheckCall c4dListCall
 demand1 = record {
   check = λ s. checked (verdict s);
   list = λ e s row. listed e row (verdict s);
@@ -150,4 +142,18 @@ demand1 = record {
   rescue = λ e s rows. rescued e rows (rescue s);
   write = λ name vertices corners out. written _ out (judged name vertices corners (length out));
   figure = λ rows out. written _ out (judgedFlat rows (length out));
+  sums = summed;
+  matches = matched;
+  slip-read = λ e s row. slip-given e row (slipVerdict s);
+  slip-write = λ names given out. slip-written _ out (broken (writeConditions names given (length out)));
+  cob-check = λ s. cob-checked (cobVerdict s);
+  cob-list = λ e s row. cob-listed e row (cobVerdict s);
+  cob-sizes = λ e s mesh row.
+      cob-by-mesh (AnsweredOn CobAnswered.Count CobAnswered.Refused row) (λ r. leaving (CobAnswered.Refused r) row) (λ m. give e (cobSizesOf m) row)
+      (cob-leaves row) (λ m. cob-given e (cobSizesOf m) row) mesh (cobVerdict s);
+  cob-tables = λ e s mesh rows.
+      cob-by-mesh (AnsweredOn CobAnswered.Count CobAnswered.Refused rows) (λ r. leaving (CobAnswered.Refused r) rows) (cobTablesOf e rows)
+      (cob-leaves rows) (cob-tabled e rows) mesh (cobVerdict s);
+  c4d-check = λ s. c4d-checked (c4dVerdict s);
+  c4d-list = λ e m s os ms. c4d-listed e m os ms (objectsCall (e .room (length os)) (m .room (length ms)) s);
 }

@@ -1,9 +1,9 @@
 -- Demand 3, of the calls. The rules' demand 3 relates the two layouts element by element; the meshes of one number are so
 -- related, or there is none in both, and a call about a mesh answers the two alike.
-use mathlib.Core.Path.{_≡_, refl, ap}
-use mathlib.Core.List.{List, [], _∷_}
+use mathlib.Core.Path.{_≡_, refl}
+use mathlib.Core.List.{List, []}
 use mathlib.Core.Option.{Option, none, some}
-use Prim.Native.Nat.{ℕ, zero, suc}
+use Prim.Native.Nat.{ℕ}
 use native.Mathlib.Omega.{arith}
 use lib.ListN.{length, getElem?}
 use borrow.Author.Tests.{le-leb, lt-leb}
@@ -29,26 +29,8 @@ use Rattle.studio_rules.proofs.Gaps.{record-count-same, obeys-taken}
 use Rattle.studio_rules.proofs.Pieces.{none-before, holds-all}
 use Rattle.studio_rules.proofs.Theorems.{put-in-or-taken-out}
 use Rattle.claim_demands.specs.Demand3.{NameMoved, StandingMoved, SameAnswers, Demand3}
+use Rattle.claim_demands.proofs.Related.{Both, both-at, equally-long}
 use Rattle.claim_demands.proofs.Standing.{standing-moved}
-
--- ---- lists that are related element by element
-
-module _ {A : Type 0} (R : A → A → Type 0) where
-  -- two elements, or none in both
-  abbrev Both : Option A → Option A → Type 0
-  Both none none = Unit
-  Both none (some y) = ⊥
-  Both (some x) none = ⊥
-  Both (some x) (some y) = R x y
-
-  both-at : (xs ys : List A) → Pairwise R xs ys → (i : ℕ) → Both (getElem? xs i) (getElem? ys i)
-  both-at [] [] p i = tt
-  both-at (x ∷ xs) (y ∷ ys) p zero = p .0
-  both-at (x ∷ xs) (y ∷ ys) p (suc i) = both-at xs ys (p .1) i
-
-  equally-long : (xs ys : List A) → Pairwise R xs ys → length ys ≡ length xs
-  equally-long [] [] p = refl
-  equally-long (x ∷ xs) (y ∷ ys) p = ap suc (equally-long xs ys (p .1))
 
 -- ---- two files, by their layouts
 

@@ -28,6 +28,19 @@ use Rattle.studio_rescue_rules.specs.Call.{Lent, rescueCall}
 use Rattle.shared_words.specs.declared.Written.{Written}
 use Rattle.studio_write.specs.Write.{writeCall}
 use Rattle.studio_figure_rules.specs.Described.{Flat, writeFlat}
+use Rattle.slip_sums.specs.declared.Sum.{Sum}
+use Rattle.slip_sums.specs.declared.Summed.{Summed}
+use Rattle.slip_sums.specs.declared.Matched.{Matched}
+use Rattle.slip_sums.specs.Passes.{sumsCall, matchOf}
+use Rattle.slip_rules.specs.declared.Numbers.{Numbers}
+use Rattle.slip_rules.specs.declared.Found.{Found as SlipFound}
+use Rattle.slip_rules.specs.Calls.{Given, slipReadCall, slipWriteCall}
+use Rattle.cob_rules.specs.declared.Record.{Record as CobRecord}
+use Rattle.cob_rules.specs.declared.Answered.{Answered as CobAnswered}
+use Rattle.cob_rules.specs.Calls.{checkCall as cobCheckCall, listCall as cobListCall, sizesCall, Rows as CobRows, tablesCall as cobTablesCall}
+use Rattle.c4d_rules.specs.declared.Found.{Found as C4dFound}
+use Rattle.c4d_rules.specs.Gives.{Object}
+use Rattle.c4d_rules.specs.Calls.{twoRows, c4dCheckCall, c4dListCall}
 
 -- A REFUSAL WITH ONE NUMBER AND ONE PLACE: the answer is a refusal, c is its number and place, and the answer has no other;
 -- the number is of the table
@@ -55,6 +68,10 @@ around b = Boxed.Around (b .0) (b .1)
 abbrev pub mended : ℕ × ℕ → Mended
 mended x = Mended.Written (x .0) (x .1)
 
+-- a file passes against its entry
+abbrev pub passes : Unit {0} → Matched
+passes u = Matched.Same
+
 pub record Demand1 : Type 1 where
   pub check : (s : List ℕ) → Answered Checked.Accepted Checked.Refused (checkCall s)
   pub list : {A : Type 0} (e : Encoding Record A) (s : List ℕ) (row : List A) →
@@ -71,3 +88,19 @@ pub record Demand1 : Type 1 where
   pub write : (name : List ℕ) (vertices : List Float) (corners out : List ℕ) →
       AnsweredOn Written.Size Written.Refused out (writeCall name vertices corners out)
   pub figure : (rows : Flat) (out : List ℕ) → AnsweredOn Written.Size Written.Refused out (writeFlat rows out)
+  -- slips: the sums of a file, sums against an entry, a slip read and written
+  pub sums : (s : List ℕ) → Answered Summed.Sums Summed.Refused (sumsCall s)
+  pub matches : (a : Sum) (length first second : ℕ) → Answered passes Matched.Refused (matchOf a length first second)
+  pub slip-read : (e : Encoding Numbers ℕ) (s row : List ℕ) → AnsweredOn SlipFound.Entries SlipFound.Refused row (slipReadCall e s row)
+  pub slip-write : (names : List ℕ) (given : Given) (out : List ℕ) → AnsweredOn Written.Size Written.Refused out (slipWriteCall names given out)
+  -- Caligari files
+  pub cob-check : (s : List ℕ) → Answered CobAnswered.Count CobAnswered.Refused (cobCheckCall s)
+  pub cob-list : (e : Encoding CobRecord ℕ) (s row : List ℕ) → AnsweredOn CobAnswered.Count CobAnswered.Refused row (cobListCall e s row)
+  pub cob-sizes : (e : Encoding ℕ ℕ) (s : List ℕ) (mesh : ℕ) (row : List ℕ) →
+      AnsweredOn CobAnswered.Count CobAnswered.Refused row (sizesCall e s mesh row)
+  pub cob-tables : (e : Encoding ℕ ℕ) (s : List ℕ) (mesh : ℕ) (rows : CobRows) →
+      AnsweredOn CobAnswered.Count CobAnswered.Refused rows (cobTablesCall e s mesh rows)
+  -- Cinema 4D files
+  pub c4d-check : (s : List ℕ) → Answered C4dFound.Objects C4dFound.Refused (c4dCheckCall s)
+  pub c4d-list : {A B : Type 0} (e : Encoding Object A) (m : Encoding ℕ B) (s : List ℕ) (objects : List A) (materials : List B) →
+      AnsweredOn C4dFound.Objects C4dFound.Refused (twoRows objects materials) (c4dListCall e m s objects materials)

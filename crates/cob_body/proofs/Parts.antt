@@ -6,7 +6,7 @@ use native.Mathlib.Nat.{one-mul}
 use native.Mathlib.Numerals.{add-one}
 use mathlib.Core.Bool.{Bool, true, false, cond, and-false}
 use mathlib.Core.List.{List, [], _∷_, _++_}
-use mathlib.Core.Option.{Option, none, some}
+use mathlib.Core.Option.{some}
 use lib.Dec.{eqb}
 use lib.ListN.{length, take, drop, getD, length-drop, drop-of-length-le}
 use lib.Seq.{drop-cons, drop-length}
@@ -16,6 +16,7 @@ use Rattle.shared_words.specs.Lists.{same}
 use Rattle.cob_rules.specs.declared.Kind.{Kind}
 use Rattle.cob_rules.specs.Kinds.{Part, optional, string, parts}
 use Rattle.cob_rules.specs.Body.{andThen, skip, counted, hole, face, faceRun, mapData, behind, behindAll}
+use Rattle.cob_rules.proofs.Body.{behind-append}
 use Rattle.cob_body.specs.declared.Place.{Place}
 use Rattle.cob_body.specs.Ends.{Ends, proper, Of}
 use Rattle.cob_body.proofs.Ends.{between-earlier, all-ends, counted-ends, counted-not, then-ends, then-not}
@@ -119,15 +120,6 @@ module _ {s : List ℕ} {i : ℕ} where
   unfolding behindAll
   last-part p (Place.At j) h = then-ends h (all-ends s j (h .within .1))
   last-part p Place.Nowhere h = then-not some h
-
-pub behind-append : (ps qs : List Part) (s : List ℕ) → behindAll (ps ++ qs) s ≡ andThen (behindAll ps s) (behindAll qs)
-unfolding behindAll
-behind-append [] qs s = refl
-behind-append (p ∷ ps) qs s = go (behind-append ps qs) (behind p s)
-  where
-    go : ((t : List ℕ) → behindAll (ps ++ qs) t ≡ andThen (behindAll ps t) (behindAll qs)) → (o : Option (List ℕ)) → andThen o (behindAll (ps ++ qs)) ≡ andThen (andThen o (behindAll ps)) (behindAll qs)
-    go ih none = refl
-    go ih (some t) = ih t
 
 module _ {s : List ℕ} {i : ℕ} (ps qs : List Part) where
   pub parts-ends : {j : ℕ} {r : Place} → Ends (behindAll ps) s i (Place.At j) → Ends (behindAll qs) s j r → Ends (behindAll (ps ++ qs)) s i r

@@ -19,7 +19,7 @@ use Rattle.cob_rules.specs.Mesh.{countOf}
 use Rattle.cob_rules.proofs.Body.{skip-left, counted-left, then-left, nothing-left}
 use Rattle.cob_body.specs.declared.Place.{Place}
 use Rattle.cob_body.specs.Ends.{Ends}
-use Rattle.cob_body.proofs.Parts.{behind-append}
+use Rattle.cob_rules.proofs.Body.{behind-append}
 use Rattle.cob_mesh.specs.Laid.{Whole, Laid}
 
 module _ (body : List ℕ) (h : exact Kind.PolH body ≡ true) where

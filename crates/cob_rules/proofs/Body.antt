@@ -32,6 +32,16 @@ pub record Told (f : Reading) : Type 0 where
   pub grows : Grows f
   pub splits : (s left : List ℕ) → f s ≡ some left → Split f s left
 
+-- parts behind parts
+pub behind-append : (ps qs : List Part) (s : List ℕ) → behindAll (ps ++ qs) s ≡ andThen (behindAll ps s) (behindAll qs)
+unfolding behindAll
+behind-append [] qs s = refl
+behind-append (p ∷ ps) qs s = go (behind-append ps qs) (behind p s)
+  where
+    go : ((t : List ℕ) → behindAll (ps ++ qs) t ≡ andThen (behindAll ps t) (behindAll qs)) → (o : Option (List ℕ)) → andThen o (behindAll (ps ++ qs)) ≡ andThen (andThen o (behindAll ps)) (behindAll qs)
+    go ih none = refl
+    go ih (some t) = ih t
+
 -- ---- so many bytes
 
 skip-fits : (k : ℕ) (s : List ℕ) → k ≤ length s → skip k s ≡ some (drop k s)

@@ -4,6 +4,7 @@ pub mod Complete
 pub mod Verdict
 pub mod Fuel
 pub mod Owners
+pub mod Triangles
 pub mod Apart
 pub mod PutIn
 pub mod Samples

@@ -46,7 +46,7 @@ OwnersFound = (s : List ℕ) (l : Layout) → Meets s l → All (Owned (seenIn l
 abbrev pub OneOwner : Type 0
 OneOwner = (cs : List Chunk) (x t t′ : ℕ) → WayUp cs t x → WayUp cs t′ x → t ≡ t′
 
--- ---- demand 3: for all marked chunks together, put before any chunk and never after END
+-- ---- demand 3: for all marked chunks together, put before any chunk and never after END. (Crate claim_demands says it of the calls.)
 
 -- an accepted file, with chunks put in, is accepted within the length limit
 abbrev pub PutIn : Type 0

@@ -26,7 +26,7 @@ use Rattle.cob_tables.specs.declared.Asked.{Asked}
 use Rattle.cob_tables.specs.Asked.{bodyIn, Stands, bad, good, AskedTold, AskedIs}
 use Rattle.cob_tables.specs.Rows.{rows, TablesAre}
 use Rattle.cob_tables.proofs.Picks.{of-picked}
-use Rattle.cob_tables.proofs.Faces.{three-each}
+use Rattle.cob_rules.proofs.Triangles.{three-each}
 
 -- ---- the sizes of a body
 

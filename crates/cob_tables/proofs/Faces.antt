@@ -1,16 +1,14 @@
--- The faces with three corners and no holes, one more of them; and how many corners they have.
+-- The faces with three corners and no holes, one more of them; and their corners put into a row.
 use mathlib.Core.Path.{_≡_, refl, sym, ap, subst, _∙_}
 use Prim.Native.Nat.{ℕ, zero, suc, _+_, _-_, _*_, _<_, _≤_}
 use native.Mathlib.Omega.{arith}
 use mathlib.Core.Bool.{Bool, true, false, not, _&&_, cond, false≢true}
 use mathlib.Core.List.{List, [], _∷_, _++_, append-assoc, append-nil}
-use lib.Dec.{eqb}
 use lib.ListN.{length, drop, length-append}
 use lib.Seq.{drop-drop}
-use borrow.Author.Tests.{eqb-true, eq-eqb, ne-eqb}
+use borrow.Author.Tests.{eq-eqb, ne-eqb}
 use Rattle.shared_words.specs.Bytes.{packed, le}
 use Rattle.shared_words.specs.Effects.{filled}
-use Rattle.shared_words.proofs.Bools.{and-parts}
 use Rattle.shared_words.proofs.Bytes.{length-packed, packed-append}
 use Rattle.shared_numbers.specs.Numbers.{longAt}
 use Rattle.shared_numbers.specs.Put.{Put}
@@ -90,19 +88,6 @@ count-more {s} {at} {count} {o} {left} {n} {t} one c l h e b = record {
 
 pub counted-all : {s : List ℕ} {at count o left n : ℕ} → Counted s at count o left n → left ≡ 0 → n ≡ length (triangles (facesAt count (drop at s)))
 counted-all c e = sym (c .is ∙ rw e (omega arith))
-
--- three corners each
-pub three-each : (fs : List Face) → length (cornersOf (triangles fs)) ≡ 3 * length (triangles fs)
-three-each [] = refl
-three-each (f ∷ fs) = go (triangle f && faceFirst fs) refl (three-each fs)
-  where
-    go : (b : Bool) → (triangle f && faceFirst fs) ≡ b → length (cornersOf (triangles fs)) ≡ 3 * length (triangles fs) →
-        length (cornersOf (cond b (f ∷ []) [] ++ triangles fs)) ≡ 3 * length (cond b (f ∷ []) [] ++ triangles fs)
-    go true e ih =
-        let t = and-parts (triangle f) (faceFirst fs) e .0 in
-        let n = eqb-true (length (f .corners)) 3 (and-parts (not (f .isHole)) (eqb (length (f .corners)) 3) t .1) in
-        omega (arith, length-append (f .corners) (cornersOf (triangles fs)))
-    go false e ih = ih
 
 -- ---- put into a row
 

@@ -245,7 +245,8 @@ pub fn sizes(file: &[u8], mesh: u32, row: &mut [u8]) -> Answered
 // rows as they were.
 pub fn tables(file: &[u8], mesh: u32, vertices: &mut [u8], corners: &mut [u8]) -> Answered
     ensures answer { λ r. ⌜ r ≡ tablesCall (numberBytes 4) (now (file .entry)) mesh (rows (now (vertices .entry)) (now (corners .entry))) .answer ⌝ }
-    ensures rows { λ _. ⌜ rows (now (vertices .exit)) (now (corners .exit)) ≡ tablesCall (numberBytes 4) (now (file .entry)) mesh (rows (now (vertices .entry)) (now (corners .entry))) .rows ⌝ }
+    ensures rows { λ _. ⌜ rows (now (vertices .exit)) (now (corners .exit)) ≡
+        tablesCall (numberBytes 4) (now (file .entry)) mesh (rows (now (vertices .entry)) (now (corners .entry))) .rows ⌝ }
 {
     match ask(file, mesh) {
         Asked::Refused(r) => Answered::Refused(r),

@@ -2,8 +2,10 @@
 use mathlib.Core.Path.{_≡_}
 use Prim.Native.Nat.{ℕ, _≤_}
 use Rattle.shared_words.specs.declared.Refusal.{Refusal}
-use Rattle.shared_words.specs.declared.Refusal.the-variants.{TooLong, NotAFigure, Trailing, Short, Overrun, Stray, Misplaced, Twice, Name, Length, Number, Index, Count, Missing, NoRoom, NoSuchMesh, Empty}
-use Rattle.shared_words.specs.declared.Refusal.the-variants.{Slip, Differs, Header, Owner, Size, Father, Text, Form, Order, Combination, Material, SameName, NoMaterial}
+use Rattle.shared_words.specs.declared.Refusal.the-variants.{TooLong, NotAFigure, Trailing, Short, Overrun, Stray, Misplaced, Twice, Name, Length, Number}
+use Rattle.shared_words.specs.declared.Refusal.the-variants.{Index, Count, Missing, NoRoom, NoSuchMesh, Empty}
+use Rattle.shared_words.specs.declared.Refusal.the-variants.{Slip, Differs, Header, Owner, Size, Father, Text, Form, Order, Combination, Material}
+use Rattle.shared_words.specs.declared.Refusal.the-variants.{SameName, NoMaterial}
 
 -- a refusal as the caller sees it
 pub record Code : Type 0 where

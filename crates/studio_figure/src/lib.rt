@@ -19,8 +19,10 @@ pub fn write_figure(
     colours: &[u8],
     out: &mut [u8],
 ) -> Written
-    ensures answer { λ r. ⌜ r ≡ writeFlat (flat (now (names .entry)) (now (objects .entry)) (now (vertices .entry)) (now (corners .entry)) (now (smoothing .entry)) (now (groups .entry)) (now (faces .entry)) (now (materials .entry)) (now (colours .entry))) (now (out .entry)) .answer ⌝ }
-    ensures out { λ _. ⌜ now (out .exit) ≡ writeFlat (flat (now (names .entry)) (now (objects .entry)) (now (vertices .entry)) (now (corners .entry)) (now (smoothing .entry)) (now (groups .entry)) (now (faces .entry)) (now (materials .entry)) (now (colours .entry))) (now (out .entry)) .rows ⌝ }
+    ensures answer { λ r. ⌜ r ≡ writeFlat (flat (now (names .entry)) (now (objects .entry)) (now (vertices .entry)) (now (corners .entry))
+        (now (smoothing .entry)) (now (groups .entry)) (now (faces .entry)) (now (materials .entry)) (now (colours .entry))) (now (out .entry)) .answer ⌝ }
+    ensures out { λ _. ⌜ now (out .exit) ≡ writeFlat (flat (now (names .entry)) (now (objects .entry)) (now (vertices .entry)) (now (corners .entry))
+        (now (smoothing .entry)) (now (groups .entry)) (now (faces .entry)) (now (materials .entry)) (now (colours .entry))) (now (out .entry)) .rows ⌝ }
 {
     match judge_figure(
         names,

@@ -78,7 +78,8 @@ fn put_object(
     requires { ⌜ At (now objects) (now groups) from i p × Behind (now objects) (now groups) i p q ×
         Writable (now names) (now objects) (now vertices) (now corners) (now smoothing) (now groups) (now faces) from i ⌝ }
     requires { ⌜ at + objectBytes (now objects) (now groups) i ≤ length (now out) ⌝ }
-    ensures { λ r. ⌜ Put (now (out .entry)) at (pieces (now (names .entry)) (now (objects .entry)) (now (vertices .entry)) (now (corners .entry)) (now (smoothing .entry)) (now (groups .entry)) (now (faces .entry)) from i) (now (out .exit)) r ⌝ }
+    ensures { λ r. ⌜ Put (now (out .entry)) at (pieces (now (names .entry)) (now (objects .entry)) (now (vertices .entry)) (now (corners .entry))
+        (now (smoothing .entry)) (now (groups .entry)) (now (faces .entry)) from i) (now (out .exit)) r ⌝ }
 {
     let size = object_size(objects, groups, i, p.group);
     let name = p.name;
@@ -129,7 +130,8 @@ fn put_objects(
     requires { ⌜ ((i : ℕ) → i < n → Writable (now names) (now objects) (now vertices) (now corners) (now smoothing) (now groups) (now faces) from i) ×
         (from < 9223372036854775808) ⌝ }
     requires { ⌜ at + total (objectBytes (now objects) (now groups)) (run (λ i. i) 0 n) ≤ length (now out) ⌝ }
-    ensures { λ r. ⌜ Put (now (out .entry)) at (over (pieces (now (names .entry)) (now (objects .entry)) (now (vertices .entry)) (now (corners .entry)) (now (smoothing .entry)) (now (groups .entry)) (now (faces .entry)) from) (run (λ i. i) 0 n)) (now (out .exit)) r ⌝ }
+    ensures { λ r. ⌜ Put (now (out .entry)) at (over (pieces (now (names .entry)) (now (objects .entry)) (now (vertices .entry)) (now (corners .entry))
+        (now (smoothing .entry)) (now (groups .entry)) (now (faces .entry)) from) (run (λ i. i) 0 n)) (now (out .exit)) r ⌝ }
 {
     let mut p = Place {
         name: 0,
@@ -181,7 +183,8 @@ pub fn put_figure(
 ) -> usize
     requires { ⌜ judgedFlat (flat (now names) (now objects) (now vertices) (now corners) (now smoothing) (now groups) (now faces) (now materials) (now colours))
         (length (now out)) ≡ Written.Size size ⌝ }
-    ensures { λ r. ⌜ Put (now (out .entry)) 0 (flatBytes (flat (now (names .entry)) (now (objects .entry)) (now (vertices .entry)) (now (corners .entry)) (now (smoothing .entry)) (now (groups .entry)) (now (faces .entry)) (now (materials .entry)) (now (colours .entry)))) (now (out .exit)) r ⌝ }
+    ensures { λ r. ⌜ Put (now (out .entry)) 0 (flatBytes (flat (now (names .entry)) (now (objects .entry)) (now (vertices .entry)) (now (corners .entry))
+        (now (smoothing .entry)) (now (groups .entry)) (now (faces .entry)) (now (materials .entry)) (now (colours .entry)))) (now (out .exit)) r ⌝ }
 {
     let n = objects.len() / 5;
     let first = sum(objects, 5, 0, 0, n, ANY);

@@ -103,7 +103,8 @@ pub fn put_materials(
     requires { ⌜ (first + sumTo 1 0 (now materials) (length (now materials)) ≤ length (now names)) × (9 * length (now materials) ≤ length (now colours)) ⌝ }
     requires { ⌜ (sumTo 1 0 (now materials) (length (now materials)) ≤ 1048576) ×
         (at + (58 * length (now materials) + sumTo 1 0 (now materials) (length (now materials))) ≤ length (now out)) ⌝ }
-    ensures { λ r. ⌜ Put (now (out .entry)) at (over materialBytes (run (materialIn (now (names .entry)) (now (materials .entry)) (now (colours .entry)) first) 0 (length (now (materials .entry))))) (now (out .exit)) r ⌝ }
+    ensures { λ r. ⌜ Put (now (out .entry)) at (over materialBytes (run
+        (materialIn (now (names .entry)) (now (materials .entry)) (now (colours .entry)) first) 0 (length (now (materials .entry))))) (now (out .exit)) r ⌝ }
 {
     let mut label = first;
     let mut next = at;
@@ -172,7 +173,8 @@ pub fn put_groups(
     requires { ⌜ (from + sumTo 2 0 (now groups) (first + n) ≤ length (now names)) × (sumTo 2 1 (now groups) (first + n) ≤ length (now faces)) ⌝ }
     requires { ⌜ ((j : ℕ) → j < n → entry 2 1 (now groups) (first + j) ≤ 65535) × (between 0 (now groups) first n ≤ 1048576) ×
         (at + (9 * n + between 0 (now groups) first n + 2 * between 1 (now groups) first n) ≤ length (now out)) ⌝ }
-    ensures { λ r. ⌜ Put (now (out .entry)) at (over (λ j. groupBytes (groupIn (now (names .entry)) (now (groups .entry)) (now (faces .entry)) from (first + j))) (run (λ j. j) 0 n)) (now (out .exit)) r ⌝ }
+    ensures { λ r. ⌜ Put (now (out .entry)) at (over (λ j. groupBytes
+        (groupIn (now (names .entry)) (now (groups .entry)) (now (faces .entry)) from (first + j))) (run (λ j. j) 0 n)) (now (out .exit)) r ⌝ }
 {
     let mut label = name;
     let mut place = face;

@@ -212,7 +212,8 @@ pub fn judge_indices(
 ) -> Written
     requires { ⌜ (5 * n ≤ length (now objects)) × (sumTo 5 2 (now objects) n ≤ length (now corners)) × (2 * sumTo 5 4 (now objects) n ≤ length (now groups)) ⌝ }
     requires { ⌜ sumTo 2 1 (now groups) (sumTo 5 4 (now objects) n) ≤ length (now faces) ⌝ }
-    ensures { λ r. ⌜ r ≡ answered (over (indices (now (objects .entry)) (now (corners .entry)) (now (groups .entry)) (now (faces .entry))) (run (λ i. i) 0 n)) ⌝ }
+    ensures { λ r. ⌜ r ≡ answered (over (indices (now (objects .entry)) (now (corners .entry)) (now (groups .entry)) (now (faces .entry)))
+        (run (λ i. i) 0 n)) ⌝ }
 {
     let mut at = 0usize;
     let mut group = 0usize;

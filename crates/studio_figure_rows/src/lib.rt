@@ -90,7 +90,8 @@ pub fn fits(
     materials: &[u32],
     colours: &[u8],
 ) -> Written
-    ensures { λ r. ⌜ r ≡ fitAnswer (flat (now (names .entry)) (now (objects .entry)) (now (vertices .entry)) (now (corners .entry)) (now (smoothing .entry)) (now (groups .entry)) (now (faces .entry)) (now (materials .entry)) (now (colours .entry))) ⌝ }
+    ensures { λ r. ⌜ r ≡ fitAnswer (flat (now (names .entry)) (now (objects .entry)) (now (vertices .entry)) (now (corners .entry)) (now (smoothing .entry))
+        (now (groups .entry)) (now (faces .entry)) (now (materials .entry)) (now (colours .entry))) ⌝ }
 {
     if objects.len() % 5 != 0 {
         return Written::Refused(Refusal::Count(objects.len()));

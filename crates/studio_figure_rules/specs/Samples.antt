@@ -74,7 +74,8 @@ cases =
     -- 29: objects first, at the later; before 30
     gives (given (bareObject a ∷ bareObject b ∷ bareObject a ∷ []) (material a ∷ material a ∷ [])) 0 (no 29 2) ∷
     gives (given (meshed a [] (group a [] ∷ []) ∷ []) (material b ∷ material b ∷ [])) 0 (no 29 1) ∷
-    -- 30: the groups counted through the figure; before 13
+    -- 30: by nothing else is a group's name judged; the groups counted through the figure; before 13
+    gives (given (meshed a [] (group (0x42 ∷ 0 ∷ []) [] ∷ []) ∷ []) (material b ∷ [])) 0 (no 30 0) ∷
     gives (given (meshed a (1 ∷ 2 ∷ []) (group b [] ∷ group b [] ∷ []) ∷ meshed b [] (group a [] ∷ []) ∷ []) (material b ∷ [])) 0 (no 30 2) ∷
     -- 13: the corners before the smoothing words, which come before 11; one word for no face
     gives (given (object a (infinite ∷ 0 ∷ 0 ∷ []) (0 ∷ 0 ∷ []) (1 ∷ []) [] ∷ []) []) 0 (no 13 2) ∷

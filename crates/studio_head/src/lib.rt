@@ -28,7 +28,8 @@ pub enum Header {
 
 fn read_header(file: &[u8], at: usize, end: usize) -> Header
     requires { ⌜ (at < end) × (end ≤ length (now file)) ⌝ }
-    ensures is { λ r. ⌜ HeaderIs (now (file .entry)) at (broken (headerConditions at (slice at end (now (file .entry))) (lengthField (slice at end (now (file .entry)))))) r ⌝ }
+    ensures is { λ r. ⌜ HeaderIs (now (file .entry)) at (broken
+        (headerConditions at (slice at end (now (file .entry))) (lengthField (slice at end (now (file .entry)))))) r ⌝ }
     ensures within { λ r. ⌜ HeaderWithin at end r ⌝ }
 {
     if end - at < 6 {
@@ -87,7 +88,8 @@ fn look_listed(
     stop: usize,
 ) -> Head
     requires { ⌜ (at + 6 ≤ stop) × (stop ≤ length (now file)) × (count < 65536) × (listed id ≡ true) × (row ≡ rowOf id) ⌝ }
-    ensures is { λ r. ⌜ ((p : Parent) (seen rest : List ℕ) → under (p .id) id ≡ true → BoundIs p count → OrderIs id seen order → HeadIs p seen at (openedBy p at id (slice (at + 6) stop (now (file .entry))) rest) r) ⌝ }
+    ensures is { λ r. ⌜ ((p : Parent) (seen rest : List ℕ) → under (p .id) id ≡ true → BoundIs p count → OrderIs id seen order →
+        HeadIs p seen at (openedBy p at id (slice (at + 6) stop (now (file .entry))) rest) r) ⌝ }
     ensures within { λ r. ⌜ HeadWithin at stop r ⌝ }
 {
     match studio_own_data::judge(file, id, row, count, at, stop) {
@@ -121,8 +123,10 @@ pub fn look(
     marks: &mut [u32],
 ) -> Head
     requires { ⌜ (at < end) × Room end count (now file) (now marks) × (now table ≡ slots) ⌝ }
-    ensures is { λ r. ⌜ ((p : Parent) (seen : List ℕ) → Context p seen parent count (now (marks .entry)) → HeadIs p seen at (step p seen at (slice at end (now (file .entry)))) r) ⌝ }
-    ensures marks { λ r. ⌜ ((p : Parent) (seen : List ℕ) → Context p seen parent count (now (marks .entry)) → MarksAre at (step p seen at (slice at end (now (file .entry)))) (now (marks .entry)) (now (marks .exit))) ⌝ }
+    ensures is { λ r. ⌜ ((p : Parent) (seen : List ℕ) → Context p seen parent count (now (marks .entry)) →
+        HeadIs p seen at (step p seen at (slice at end (now (file .entry)))) r) ⌝ }
+    ensures marks { λ r. ⌜ ((p : Parent) (seen : List ℕ) → Context p seen parent count (now (marks .entry)) →
+        MarksAre at (step p seen at (slice at end (now (file .entry)))) (now (marks .entry)) (now (marks .exit))) ⌝ }
     ensures six { λ r. ⌜ length (now (marks .exit)) ≡ 6 ⌝ }
     ensures within { λ r. ⌜ HeadWithin at end r ⌝ }
 {

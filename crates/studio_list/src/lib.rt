@@ -14,7 +14,8 @@ ghost use Rattle.studio_list.specs.Rows.{listRows};
 // (The file is a run of one chunk. With no other call of `list_chunk`, a chunk without children costs `list_run` no call.)
 fn list_rows(file: &[u8], records: &mut [u32], bytes: &mut [u8], room: usize) -> Checked
     requires { ⌜ Room (lent (now records) (now bytes)) room ⌝ }
-    ensures { λ r. ⌜ leaving r (lent (now (records .exit)) (now (bytes .exit))) ≡ listRows (now (file .entry)) room (lent (now (records .entry)) (now (bytes .entry))) ⌝ }
+    ensures { λ r. ⌜ leaving r (lent (now (records .exit)) (now (bytes .exit))) ≡
+        listRows (now (file .entry)) room (lent (now (records .entry)) (now (bytes .entry))) ⌝ }
 {
     match studio_check::check(file) {
         Checked::Refused(r) => Checked::Refused(r),

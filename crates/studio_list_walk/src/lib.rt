@@ -61,7 +61,8 @@ fn list_chunk(
 ) -> usize
     requires { ⌜ (at + 6 ≤ stop) × Bounds (now file) at stop depth parent next × SomeChunk (now file) at stop next (lent (now records) (now bytes)) ×
         (now table ≡ slots) ⌝ }
-    ensures { λ r. ⌜ ChunkListed (now (file .entry)) at stop depth parent next (lent (now (records .entry)) (now (bytes .entry))) (lent (now (records .exit)) (now (bytes .exit))) r ⌝ }
+    ensures { λ r. ⌜ ChunkListed (now (file .entry)) at stop depth parent next (lent (now (records .entry)) (now (bytes .entry)))
+        (lent (now (records .exit)) (now (bytes .exit))) r ⌝ }
 {
     let id = word_at(file, at);
     let row = studio_lookup::row(table, id as usize);
@@ -111,7 +112,8 @@ pub fn list_run(
 ) -> usize
     requires { ⌜ (at ≤ end) × Bounds (now file) at end depth parent next × SomeRun (now file) at end next (lent (now records) (now bytes)) ×
         (now table ≡ slots) ⌝ }
-    ensures { λ r. ⌜ RunListed (now (file .entry)) at end depth parent next (lent (now (records .entry)) (now (bytes .entry))) (lent (now (records .exit)) (now (bytes .exit))) r ⌝ }
+    ensures { λ r. ⌜ RunListed (now (file .entry)) at end depth parent next (lent (now (records .entry)) (now (bytes .entry)))
+        (lent (now (records .exit)) (now (bytes .exit))) r ⌝ }
 {
     let mut from = at;
     let mut number = next;

@@ -64,7 +64,8 @@ pub enum Found {
 // The elements of the first chunk of an identifier among those from at to stop; none, where there is no such chunk.
 fn elements_of(file: &[u8], id: u32, at: usize, stop: usize) -> Elements
     requires { ⌜ (listed id ≡ true) × IsCounted id × SomeRun (now file) at stop ⌝ }
-    ensures are { λ r. ⌜ ((p : Parent) (t : Run) (k : ℕ) → shape id ≡ counted k → Spans p t (now (file .entry)) at stop → ElementsAre k (child id t) (now (file .entry)) r) ⌝ }
+    ensures are { λ r. ⌜ ((p : Parent) (t : Run) (k : ℕ) → shape id ≡ counted k → Spans p t (now (file .entry)) at stop →
+        ElementsAre k (child id t) (now (file .entry)) r) ⌝ }
     ensures begin { λ r. ⌜ ((p : Parent) (t : Run) → Spans p t (now (file .entry)) at stop → r .at ≡ elementsAt id at t) ⌝ }
 {
     let o = next_child(file, id, at, stop);
@@ -101,8 +102,10 @@ fn mapping_of(file: &[u8], at: usize, stop: usize, n: usize) -> Mapping
 // The mesh whose 4100 stands at a position, in an object whose name has so many bytes at another.
 pub fn place_of(file: &[u8], at: usize, name: usize, size: usize) -> Place
     requires { ⌜ Begins 0x4100 (now file) at ⌝ }
-    ensures is { λ r. ⌜ ((p : Parent) (own : List ℕ) (kids rest : Run) (stop : ℕ) → Spans p (known 0x4100 own kids rest) (now (file .entry)) at stop → PlaceIs (now (file .entry)) (meshOf name size kids) r) ⌝ }
-    ensures numbers { λ r. ⌜ ((p : Parent) (own : List ℕ) (kids rest : Run) (stop : ℕ) → Spans p (known 0x4100 own kids rest) (now (file .entry)) at stop → placeNumbers r ≡ meshNumbers record { nameAt = name; nameLength = size; at = at + (6 + length own); kids = kids }) ⌝ }
+    ensures is { λ r. ⌜ ((p : Parent) (own : List ℕ) (kids rest : Run) (stop : ℕ) → Spans p (known 0x4100 own kids rest) (now (file .entry)) at stop →
+        PlaceIs (now (file .entry)) (meshOf name size kids) r) ⌝ }
+    ensures numbers { λ r. ⌜ ((p : Parent) (own : List ℕ) (kids rest : Run) (stop : ℕ) → Spans p (known 0x4100 own kids rest) (now (file .entry)) at stop →
+        placeNumbers r ≡ meshNumbers record { nameAt = name; nameLength = size; at = at + (6 + length own); kids = kids }) ⌝ }
 {
     let stop = at + long_at(file, at + 2) as usize;
     let vertices = elements_of(file, 0x4110, at + 6, stop);
@@ -120,7 +123,8 @@ pub fn place_of(file: &[u8], at: usize, name: usize, size: usize) -> Place
 // The object whose 4000 stands at a position.
 pub fn object_at(file: &[u8], at: usize) -> Object
     requires { ⌜ Begins 0x4000 (now file) at ⌝ }
-    ensures { λ r. ⌜ ((p : Parent) (own : List ℕ) (kids rest : Run) (stop : ℕ) → Spans p (known 0x4000 own kids rest) (now (file .entry)) at stop → ObjectIs at own kids r) ⌝ }
+    ensures { λ r. ⌜ ((p : Parent) (own : List ℕ) (kids rest : Run) (stop : ℕ) → Spans p (known 0x4000 own kids rest) (now (file .entry)) at stop →
+        ObjectIs at own kids r) ⌝ }
 {
     let stop = at + long_at(file, at + 2) as usize;
     let name = studio_names::name_size(file, at + 6, stop);
@@ -135,7 +139,8 @@ pub fn object_at(file: &[u8], at: usize) -> Object
 // The mesh of a number among the objects from `from` to `stop`, which are children of 3D3D.
 fn find_among(file: &[u8], from: usize, stop: usize, mesh: usize) -> Found
     requires { ⌜ SomeObjects (now file) from stop ⌝ }
-    ensures { λ r. ⌜ ((p : Parent) (t : Run) (a n : ℕ) → p .id ≡ 0x3D3D → Spans p t (now (file .entry)) from stop → FoundIs (now (file .entry)) (map meshIn (standingOf from a n t)) mesh r) ⌝ }
+    ensures { λ r. ⌜ ((p : Parent) (t : Run) (a n : ℕ) → p .id ≡ 0x3D3D → Spans p t (now (file .entry)) from stop →
+        FoundIs (now (file .entry)) (map meshIn (standingOf from a n t)) mesh r) ⌝ }
 {
     let mut before = 0usize;
     let mut at = next_child(file, 0x4000, from, stop);

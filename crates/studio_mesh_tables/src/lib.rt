@@ -36,8 +36,10 @@ pub fn tables(
     corners: &mut [u16],
     mapping: &mut [f32],
 ) -> Tabled
-    ensures answer { λ r. ⌜ r ≡ tablesCall inNumbers (now (file .entry)) mesh (rows (now (vertices .entry)) (now (corners .entry)) (now (mapping .entry))) .answer ⌝ }
-    ensures filled { λ r. ⌜ rows (now (vertices .exit)) (now (corners .exit)) (now (mapping .exit)) ≡ tablesCall inNumbers (now (file .entry)) mesh (rows (now (vertices .entry)) (now (corners .entry)) (now (mapping .entry))) .rows ⌝ }
+    ensures answer { λ r. ⌜ r ≡ tablesCall inNumbers (now (file .entry)) mesh
+        (rows (now (vertices .entry)) (now (corners .entry)) (now (mapping .entry))) .answer ⌝ }
+    ensures filled { λ r. ⌜ rows (now (vertices .exit)) (now (corners .exit)) (now (mapping .exit)) ≡
+        tablesCall inNumbers (now (file .entry)) mesh (rows (now (vertices .entry)) (now (corners .entry)) (now (mapping .entry))) .rows ⌝ }
 {
     let v = Lent::Numbers(vertices.len());
     let c = Lent::Numbers(corners.len());
@@ -58,7 +60,8 @@ pub fn tables(
 // end is no room.
 pub fn tables_bytes(file: &[u8], mesh: u32, vertices: &mut [u8], corners: &mut [u8]) -> Tabled
     ensures answer { λ r. ⌜ r ≡ tablesCall inBytes (now (file .entry)) mesh (twoRows (now (vertices .entry)) (now (corners .entry))) .answer ⌝ }
-    ensures filled { λ r. ⌜ twoRows (now (vertices .exit)) (now (corners .exit)) ≡ tablesCall inBytes (now (file .entry)) mesh (twoRows (now (vertices .entry)) (now (corners .entry))) .rows ⌝ }
+    ensures filled { λ r. ⌜ twoRows (now (vertices .exit)) (now (corners .exit)) ≡
+        tablesCall inBytes (now (file .entry)) mesh (twoRows (now (vertices .entry)) (now (corners .entry))) .rows ⌝ }
     ensures within { λ r. ⌜ SizesWithin r ⌝ }
 {
     let v = Lent::Numbers(vertices.len() / 4);

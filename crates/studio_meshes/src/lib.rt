@@ -56,7 +56,8 @@ fn put_place(place: Place, at: usize, row: &mut [u8]) -> usize
 // The mesh in the object at a position of the file, if it has one, at a position of the row; answers the position behind it.
 fn put_held(file: &[u8], at: usize, object: Object, next: usize, row: &mut [u8]) -> usize
     requires { ⌜ RoomFor (now file) at object next (length (now row)) ⌝ }
-    ensures { λ r. ⌜ ((p : Parent) (own : List ℕ) (kids rest : Run) (stop : ℕ) → Spans p (known 0x4000 own kids rest) (now (file .entry)) at stop → ObjectIs at own kids object → Put (now (row .entry)) next (packed 4 (flatMeshes (heldIn at own kids))) (now (row .exit)) r) ⌝ }
+    ensures { λ r. ⌜ ((p : Parent) (own : List ℕ) (kids rest : Run) (stop : ℕ) → Spans p (known 0x4000 own kids rest) (now (file .entry)) at stop →
+        ObjectIs at own kids object → Put (now (row .entry)) next (packed 4 (flatMeshes (heldIn at own kids))) (now (row .exit)) r) ⌝ }
 {
     if object.mesh < object.stop {
         let place = place_of(file, object.mesh, at + 6, object.size);
@@ -85,7 +86,8 @@ fn count_meshes(file: &[u8], from: usize, stop: usize) -> usize
 // The meshes in the objects from from to stop, at the front of a row.
 fn fill_meshes(file: &[u8], from: usize, stop: usize, row: &mut [u8])
     requires { ⌜ SomeFit (now file) from stop (length (now row) / 32) ⌝ }
-    ensures { λ _. ⌜ ((kids : Run) → Fit (now (file .entry)) kids from stop (length (now (row .entry)) / 32) → now (row .exit) ≡ filled (meshBytes .encode (standing kids)) (now (row .entry))) ⌝ }
+    ensures { λ _. ⌜ ((kids : Run) → Fit (now (file .entry)) kids from stop (length (now (row .entry)) / 32) →
+        now (row .exit) ≡ filled (meshBytes .encode (standing kids)) (now (row .entry))) ⌝ }
 {
     let mut next = 0usize;
     let mut at = next_child(file, 0x4000, from, stop);

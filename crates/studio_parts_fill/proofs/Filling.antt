@@ -19,7 +19,8 @@ use Rattle.studio_rules.specs.Gives.{Part, fathersIn, fathers, below, partOf, p
 use Rattle.studio_rules.specs.Encodings.{flatParts}
 use Rattle.studio_parts_find.specs.Parts.{PartsAt}
 use Rattle.studio_parts_find.proofs.Before.{PartsBefore, none-before, all-before, Here, here, one-before}
-use Rattle.studio_parts_find.proofs.Trees.{length-from, from-one-more, OnEarlier, next-hangs}
+use Rattle.studio_rules.proofs.Parts.{length-from}
+use Rattle.studio_parts_find.proofs.Trees.{from-one-more, OnEarlier, next-hangs}
 use Rattle.studio_parts_fill.proofs.Ways.{Way}
 
 -- ---- parts as numbers

@@ -63,7 +63,8 @@ fn put_bytes(father: u32, at: usize, row: &mut [u8]) -> usize
 // The parts of the B000 whose children stand from from to stop, as numbers at the front of a row.
 pub fn fill_numbers(file: &[u8], from: usize, stop: usize, row: &mut [u32])
     requires { ⌜ SomeFit (now file) from stop (length (now row) / 2) ⌝ }
-    ensures { λ _. ⌜ ((kids : Run) → Fit (now (file .entry)) kids from stop (length (now (row .entry)) / 2) → now (row .exit) ≡ filled (partRow .encode (parts kids)) (now (row .entry))) ⌝ }
+    ensures { λ _. ⌜ ((kids : Run) → Fit (now (file .entry)) kids from stop (length (now (row .entry)) / 2) →
+        now (row .exit) ≡ filled (partRow .encode (parts kids)) (now (row .entry))) ⌝ }
 {
     let mut next = 0usize;
     let mut at = next_child(file, 0xB002, from, stop);
@@ -76,7 +77,8 @@ pub fn fill_numbers(file: &[u8], from: usize, stop: usize, row: &mut [u32])
 // The same as bytes.
 pub fn fill_bytes(file: &[u8], from: usize, stop: usize, row: &mut [u8])
     requires { ⌜ SomeFit (now file) from stop (length (now row) / 8) ⌝ }
-    ensures { λ _. ⌜ ((kids : Run) → Fit (now (file .entry)) kids from stop (length (now (row .entry)) / 8) → now (row .exit) ≡ filled (partBytes .encode (parts kids)) (now (row .entry))) ⌝ }
+    ensures { λ _. ⌜ ((kids : Run) → Fit (now (file .entry)) kids from stop (length (now (row .entry)) / 8) →
+        now (row .exit) ≡ filled (partBytes .encode (parts kids)) (now (row .entry))) ⌝ }
 {
     let mut next = 0usize;
     let mut at = next_child(file, 0xB002, from, stop);

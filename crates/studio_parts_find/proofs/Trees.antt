@@ -3,9 +3,9 @@ use mathlib.Core.Path.{_≡_, refl, ap, _∙_}
 use mathlib.Core.Logic.{_⊎_, inl, inr}
 use mathlib.Core.List.{List, [], _∷_, _++_}
 use mathlib.Core.Option.{some}
-use Prim.Native.Nat.{ℕ, zero, suc, _+_, _≤_, _<_}
+use Prim.Native.Nat.{ℕ, zero, suc, _≤_, _<_}
 use native.Mathlib.Omega.{arith}
-use lib.ListN.{length, length-append, getElem?}
+use lib.ListN.{length, getElem?}
 use Rattle.studio_rules.specs.OwnData.{root}
 use Rattle.studio_rules.specs.Layout.{Run}
 use Rattle.studio_rules.specs.Rules.{Meets}
@@ -13,10 +13,6 @@ use Rattle.studio_rules.specs.Gives.{Part, fathers, partOf, partsFrom, parts}
 use Rattle.studio_rules.specs.Theorems.{Hangs}
 use Rattle.studio_rules.proofs.At.{there, at-front, at-back}
 use Rattle.studio_rules.proofs.Parts.{parts-hang}
-
-pub length-from : (ps : List Part) (fs : List ℕ) → length (partsFrom ps fs) ≡ length ps + length fs
-length-from ps [] = omega arith
-length-from ps (f ∷ fs) = omega (arith, length-from (ps ++ (partOf ps f ∷ [])) fs, length-append ps (partOf ps f ∷ []))
 
 from-append : (ps : List Part) (fs gs : List ℕ) → partsFrom ps (fs ++ gs) ≡ partsFrom (partsFrom ps fs) gs
 from-append ps [] gs = refl

@@ -42,7 +42,8 @@ pub fn find_parts(file: &[u8]) -> Between
 // The father of the part whose B002 stands at a position: the last word of its B010.
 pub fn father_at(file: &[u8], at: usize) -> u32
     requires { ⌜ Begins 0xB002 (now file) at ⌝ }
-    ensures is { λ r. ⌜ ((p : Parent) (own : List ℕ) (kids rest : Run) (stop : ℕ) → Spans p (known 0xB002 own kids rest) (now (file .entry)) at stop → r ≡ father (child 0xB010 kids)) ⌝ }
+    ensures is { λ r. ⌜ ((p : Parent) (own : List ℕ) (kids rest : Run) (stop : ℕ) → Spans p (known 0xB002 own kids rest) (now (file .entry)) at stop →
+        r ≡ father (child 0xB010 kids)) ⌝ }
     ensures small { λ r. ⌜ r < 65536 ⌝ }
 {
     let stop = at + long_at(file, at + 2) as usize;
@@ -54,7 +55,8 @@ pub fn father_at(file: &[u8], at: usize) -> u32
 // Where the next part stands behind the one at a position, in a run that ends at stop; stop, where there is none.
 pub fn next_part(file: &[u8], at: usize, stop: usize) -> usize
     requires { ⌜ SomePart (now file) at stop ⌝ }
-    ensures { λ r. ⌜ ((p : Parent) (own : List ℕ) (kids rest : Run) → Spans p (known 0xB002 own kids rest) (now (file .entry)) at stop → r ≡ offsetOf 0xB002 (at + (6 + length own + size kids)) rest) ⌝ }
+    ensures { λ r. ⌜ ((p : Parent) (own : List ℕ) (kids rest : Run) → Spans p (known 0xB002 own kids rest) (now (file .entry)) at stop →
+        r ≡ offsetOf 0xB002 (at + (6 + length own + size kids)) rest) ⌝ }
 {
     next_child(file, 0xB002, at + long_at(file, at + 2) as usize, stop)
 }

@@ -38,7 +38,8 @@ fn put_file(
     out: &mut [u8],
 )
     requires { ⌜ Ready (now file) (now table) version at stop gone (length (now cuts)) (length (now out)) ⌝ }
-    ensures { λ _. ⌜ PutIs (now (file .entry)) at stop gone (sift version (at + 6) (slice (at + 6) stop (now (file .entry)))) (now (cuts .entry)) (now (cuts .exit)) (now (out .entry)) (now (out .exit)) ⌝ }
+    ensures { λ _. ⌜ PutIs (now (file .entry)) at stop gone (sift version (at + 6) (slice (at + 6) stop (now (file .entry)))) (now (cuts .entry))
+        (now (cuts .exit)) (now (out .entry)) (now (out .exit)) ⌝ }
 {
     let size = file.len();
     let children = put_front(file, at, size - gone, stop - at - gone, out);
@@ -50,7 +51,8 @@ fn put_file(
 // bytes the mended file has, or the refusal; a refusal leaves both rows as they were.
 pub fn rescue(file: &[u8], cuts: &mut [u8], out: &mut [u8]) -> Mended
     ensures answer { λ r. ⌜ r ≡ rescueCall cutBytes (now (file .entry)) (rescueRows (now (cuts .entry)) (now (out .entry))) .answer ⌝ }
-    ensures rows { λ _. ⌜ rescueRows (now (cuts .exit)) (now (out .exit)) ≡ rescueCall cutBytes (now (file .entry)) (rescueRows (now (cuts .entry)) (now (out .entry))) .rows ⌝ }
+    ensures rows { λ _. ⌜ rescueRows (now (cuts .exit)) (now (out .exit)) ≡
+        rescueCall cutBytes (now (file .entry)) (rescueRows (now (cuts .entry)) (now (out .entry))) .rows ⌝ }
 {
     match studio_rescue_around::around(file) {
         Outside::Beyond(r) => Mended::Refused(r),

@@ -107,7 +107,8 @@ pub fn fill(
     out: &mut [u8],
 ) -> usize
     requires { ⌜ Fillable (now file) (now table) version from to (length (now cuts)) at (length (now out)) ⌝ }
-    ensures { λ r. ⌜ FilledIs (sift version from (slice from to (now (file .entry)))) (now (cuts .entry)) (now (cuts .exit)) at (now (out .entry)) (now (out .exit)) r ⌝ }
+    ensures { λ r. ⌜ FilledIs (sift version from (slice from to (now (file .entry)))) (now (cuts .entry)) (now (cuts .exit)) at (now (out .entry))
+        (now (out .exit)) r ⌝ }
 {
     let mut child = from;
     let mut row = 0usize;

@@ -19,6 +19,12 @@ use Rattle.studio_rules.specs.Theorems.{Hangs, PartsHang, StepsToRoot, i
 use Rattle.studio_rules.proofs.At.{there, at-front, Which, which}
 use Rattle.shared_words.proofs.Bools.{and-parts}
 
+-- ---- how many there are
+
+pub length-from : (ps : List Part) (fs : List ℕ) → length (partsFrom ps fs) ≡ length ps + length fs
+length-from ps [] = omega arith
+length-from ps (f ∷ fs) = omega (arith, length-from (ps ++ (partOf ps f ∷ [])) fs, length-append ps (partOf ps f ∷ []))
+
 -- ---- what the rules say of the fathers
 
 -- each is `root` or the number of an earlier one, where the first has number n

@@ -64,7 +64,8 @@ fn chunk(
     marks: &mut [u32],
 ) -> Ran
     requires { ⌜ (at < end) × (1 ≤ at) × Room end count (now file) (now marks) × SomeContext parent count as_many (now marks) × (now table ≡ slots) ⌝ }
-    ensures is { λ r. ⌜ ((p : Parent) (seen : List ℕ) → RuleIs p as_many → Context p seen parent count (now (marks .entry)) → ChunkIs p seen at (step p seen at (slice at end (now (file .entry)))) r (now (marks .entry)) (now (marks .exit))) ⌝ }
+    ensures is { λ r. ⌜ ((p : Parent) (seen : List ℕ) → RuleIs p as_many → Context p seen parent count (now (marks .entry)) →
+        ChunkIs p seen at (step p seen at (slice at end (now (file .entry)))) r (now (marks .entry)) (now (marks .exit))) ⌝ }
     ensures six { λ r. ⌜ length (now (marks .exit)) ≡ 6 ⌝ }
     ensures within { λ r. ⌜ ChunkWithin at end r ⌝ }
 {
@@ -116,7 +117,8 @@ pub fn run(
     marks: &mut [u32],
 ) -> Ran
     requires { ⌜ (at ≤ end) × (1 ≤ at) × Room end count (now file) (now marks) × SomeContext parent count as_many (now marks) × (now table ≡ slots) ⌝ }
-    ensures is { λ r. ⌜ ((p : Parent) (seen : List ℕ) → RuleIs p as_many → Context p seen parent count (now (marks .entry)) → RunIs end 0 0 at (now (marks .entry)) (walk p seen at (slice at end (now (file .entry)))) r (now (marks .exit))) ⌝ }
+    ensures is { λ r. ⌜ ((p : Parent) (seen : List ℕ) → RuleIs p as_many → Context p seen parent count (now (marks .entry)) →
+        RunIs end 0 0 at (now (marks .entry)) (walk p seen at (slice at end (now (file .entry)))) r (now (marks .exit))) ⌝ }
     ensures six { λ r. ⌜ length (now (marks .exit)) ≡ 6 ⌝ }
     ensures within { λ r. ⌜ RunWithin at end r ⌝ }
 {

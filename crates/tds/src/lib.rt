@@ -70,7 +70,8 @@ pub extern "C" fn tds_records(file: &[u8], row: &mut [u32], table: &mut [Record]
 #[no_mangle]
 pub extern "C" fn tds_tables(file: &[u8], mesh: u32, vertices: &mut [u8], corners: &mut [u8]) -> u64
     ensures answer { λ n. ⌜ n ≡ sizesOr (tablesCall inBytes (now (file .entry)) mesh (twoRows (now (vertices .entry)) (now (corners .entry))) .answer) ⌝ }
-    ensures rows { λ _. ⌜ twoRows (now (vertices .exit)) (now (corners .exit)) ≡ tablesCall inBytes (now (file .entry)) mesh (twoRows (now (vertices .entry)) (now (corners .entry))) .rows ⌝ }
+    ensures rows { λ _. ⌜ twoRows (now (vertices .exit)) (now (corners .exit)) ≡
+        tablesCall inBytes (now (file .entry)) mesh (twoRows (now (vertices .entry)) (now (corners .entry))) .rows ⌝ }
 {
     c_codes::tabled_code(studio_mesh_tables::tables_bytes(file, mesh, vertices, corners))
 }
@@ -134,7 +135,8 @@ pub extern "C" fn tds_meshes(file: &[u8], meshes: &mut [u8]) -> u64
 #[no_mangle]
 pub extern "C" fn tds_rescue(file: &[u8], cuts: &mut [u8], out: &mut [u8]) -> u64
     ensures answer { λ n. ⌜ n ≡ cutsOr (rescueCall cutBytes (now (file .entry)) (rescueRows (now (cuts .entry)) (now (out .entry))) .answer) ⌝ }
-    ensures rows { λ _. ⌜ rescueRows (now (cuts .exit)) (now (out .exit)) ≡ rescueCall cutBytes (now (file .entry)) (rescueRows (now (cuts .entry)) (now (out .entry))) .rows ⌝ }
+    ensures rows { λ _. ⌜ rescueRows (now (cuts .exit)) (now (out .exit)) ≡
+        rescueCall cutBytes (now (file .entry)) (rescueRows (now (cuts .entry)) (now (out .entry))) .rows ⌝ }
 {
     c_rescue::mended_code(studio_rescue::rescue(file, cuts, out))
 }
@@ -162,8 +164,10 @@ pub extern "C" fn tds_write_figure(
     colours: &[u8],
     out: &mut [u8],
 ) -> u64
-    ensures answer { λ n. ⌜ n ≡ sizeOr (writeFlat (flat (now (names .entry)) (now (objects .entry)) (now (vertices .entry)) (now (corners .entry)) (now (smoothing .entry)) (now (groups .entry)) (now (faces .entry)) (now (materials .entry)) (now (colours .entry))) (now (out .entry)) .answer) ⌝ }
-    ensures out { λ _. ⌜ now (out .exit) ≡ writeFlat (flat (now (names .entry)) (now (objects .entry)) (now (vertices .entry)) (now (corners .entry)) (now (smoothing .entry)) (now (groups .entry)) (now (faces .entry)) (now (materials .entry)) (now (colours .entry))) (now (out .entry)) .rows ⌝ }
+    ensures answer { λ n. ⌜ n ≡ sizeOr (writeFlat (flat (now (names .entry)) (now (objects .entry)) (now (vertices .entry)) (now (corners .entry))
+        (now (smoothing .entry)) (now (groups .entry)) (now (faces .entry)) (now (materials .entry)) (now (colours .entry))) (now (out .entry)) .answer) ⌝ }
+    ensures out { λ _. ⌜ now (out .exit) ≡ writeFlat (flat (now (names .entry)) (now (objects .entry)) (now (vertices .entry)) (now (corners .entry))
+        (now (smoothing .entry)) (now (groups .entry)) (now (faces .entry)) (now (materials .entry)) (now (colours .entry))) (now (out .entry)) .rows ⌝ }
 {
     c_codes::written_code(studio_figure::write_figure(
         names,
@@ -255,8 +259,10 @@ pub extern "C" fn tds_c4d_check(file: &[u8]) -> u64
 // second, or a refusal.
 #[no_mangle]
 pub extern "C" fn tds_c4d_list(file: &[u8], objects: &mut [u8], materials: &mut [u8]) -> u64
-    ensures answer { λ n. ⌜ n ≡ objectsOr (c4dListCall objectBytes (numberBytes 4) (now (file .entry)) (now (objects .entry)) (now (materials .entry)) .answer) ⌝ }
-    ensures rows { λ _. ⌜ objectRows (now (objects .exit)) (now (materials .exit)) ≡ c4dListCall objectBytes (numberBytes 4) (now (file .entry)) (now (objects .entry)) (now (materials .entry)) .rows ⌝ }
+    ensures answer { λ n. ⌜ n ≡ objectsOr (c4dListCall objectBytes (numberBytes 4) (now (file .entry)) (now (objects .entry))
+        (now (materials .entry)) .answer) ⌝ }
+    ensures rows { λ _. ⌜ objectRows (now (objects .exit)) (now (materials .exit)) ≡
+        c4dListCall objectBytes (numberBytes 4) (now (file .entry)) (now (objects .entry)) (now (materials .entry)) .rows ⌝ }
 {
     c_c4d::found_code(c4d_list::list(file, objects, materials))
 }
@@ -297,8 +303,10 @@ pub extern "C" fn tds_cob_tables(
     vertices: &mut [u8],
     corners: &mut [u8],
 ) -> u64
-    ensures answer { λ n. ⌜ n ≡ countOr (cobTablesCall (numberBytes 4) (now (file .entry)) mesh (cobRows (now (vertices .entry)) (now (corners .entry))) .answer) ⌝ }
-    ensures rows { λ _. ⌜ cobRows (now (vertices .exit)) (now (corners .exit)) ≡ cobTablesCall (numberBytes 4) (now (file .entry)) mesh (cobRows (now (vertices .entry)) (now (corners .entry))) .rows ⌝ }
+    ensures answer { λ n. ⌜ n ≡ countOr (cobTablesCall (numberBytes 4)
+        (now (file .entry)) mesh (cobRows (now (vertices .entry)) (now (corners .entry))) .answer) ⌝ }
+    ensures rows { λ _. ⌜ cobRows (now (vertices .exit)) (now (corners .exit)) ≡
+        cobTablesCall (numberBytes 4) (now (file .entry)) mesh (cobRows (now (vertices .entry)) (now (corners .entry))) .rows ⌝ }
 {
     c_cob::answered_code(cob_tables::tables(file, mesh, vertices, corners))
 }

@@ -10,7 +10,7 @@ use Rattle.studio_rules.specs.Gives.{fathers}
 use Rattle.studio_parts_find.specs.Parts.{PartsAt}
 use Rattle.studio_parts_find.proofs.Fathers.{listed-here}
 use Rattle.studio_parts_find.proofs.Before.{PartsBefore, none-before, all-before, here, goes-on, one-before}
-use Rattle.studio_parts_find.proofs.Trees.{length-from}
+use Rattle.studio_rules.proofs.Parts.{length-from}
 use Rattle.studio_parts_find.proofs.count_parts.Statement.{statement}
 use Rattle.studio_parts_find.proofs.count_parts.Tie as tie
 

@@ -1,13 +1,12 @@
 -- The numbers of a layout: its records and meshes are few, and of a mesh the counts are two bytes long.
 use mathlib.Core.Path.{_≡_, ap, _∙_}
-use Prim.Native.Nat.{ℕ, zero, suc, _+_, _-_, _*_, _≤_, _<_}
+use Prim.Native.Nat.{ℕ, _+_, _-_, _*_, _≤_, _<_}
 use native.Mathlib.Omega.{arith}
 use mathlib.Core.Bool.{Bool, true, false, cond}
-use mathlib.Core.List.{List, [], _∷_, _++_}
-use mathlib.Core.Option.{Option, none, some}
+use mathlib.Core.List.{List, _++_}
 use lib.Dec.{eqb}
 use mathlib.Core.Logic.{⊎-elim}
-use lib.ListN.{length, length-append, length-replicate, drop, replicate, getElem?}
+use lib.ListN.{length, length-append, length-replicate, drop, replicate}
 use Rattle.shared_words.specs.Bytes.{Bytes}
 use Rattle.shared_words.proofs.Bytes.{word-small, bytes-parts}
 use Rattle.shared_words.proofs.Numbers.{length-numbers}
@@ -36,15 +35,6 @@ pub record Small (m : Mesh) : Type 0 where
   pub corner-numbers : length (m .corners) ≡ 3 * m .faceCount
   pub pairs : m .pairCount < 65_536
   pub mapping-numbers : length (m .mapping) < 131_072
-
-abbrev pub SmallAt : Option Mesh → Type 0
-SmallAt none = Unit
-SmallAt (some m) = Small m
-
-pub small-at : (ms : List Mesh) (k : ℕ) → All Small ms → SmallAt (getElem? ms k)
-small-at [] k h = tt
-small-at (m ∷ ms) zero h = h .0
-small-at (m ∷ ms) (suc k) h = small-at ms k (h .1)
 
 -- the three parts of a known chunk's bytes
 record Parts (own : List ℕ) (kids rest : Run) : Type 0 where

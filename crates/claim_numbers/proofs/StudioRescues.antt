@@ -21,7 +21,8 @@ use Rattle.studio_rescue_rules.specs.Rescue.{versionOf, mended, Rescued, beyond
 use Rattle.studio_rescue_rules.specs.Theorems.{FaultInScene}
 use Rattle.studio_rescue_rules.proofs.First.{first-fault}
 use Rattle.studio_rescue_rules.proofs.Theorems.{result-accepted, cuts-restore, few-cuts}
-use Rattle.claim_numbers.proofs.Places.{PlaceTo, RunIn, walk-in, Within, file-to, verdict-within}
+use Rattle.claim_numbers.proofs.Conditions.{PlaceTo}
+use Rattle.claim_numbers.proofs.StudioPlaces.{RunIn, walk-in, Within, file-to, verdict-within}
 
 abbrev pub RescueWithin : Rescued → Type 0
 RescueWithin (beyond r) = placeOf r ≤ limit

@@ -1,4 +1,4 @@
--- A refusal's place lies in the file, and what is accepted is no longer than the file: by the walk, whatever the bytes are.
+-- A refusal's place lies in the 3D Studio file, and what is accepted is no longer than the file: by the walk, whatever the bytes are.
 use mathlib.Core.Path.{_≡_, refl}
 use Prim.Native.Nat.{ℕ, zero, suc, _+_, _-_, _≤_}
 use native.Mathlib.Omega.{arith}
@@ -12,30 +12,14 @@ use borrow.Author.Needs.{needs}
 use Rattle.shared_words.specs.declared.Refusal.{Refusal}
 use Rattle.shared_words.specs.Refusals.{placeOf}
 use Rattle.shared_words.specs.Bytes.{value}
-use Rattle.shared_words.specs.Conditions.{Condition, must, broken, Answer, refused, accepted, unless}
+use Rattle.shared_words.specs.Conditions.{broken, Answer, refused, accepted}
 use Rattle.shared_words.proofs.Conditions.{met}
 use Rattle.studio_rules.specs.Table.{listed, shape}
 use Rattle.studio_rules.specs.OwnData.{ownSize}
 use Rattle.studio_rules.specs.Layout.{Run, end, skip, known, figure, size, offsetOf}
 use Rattle.studio_rules.specs.Rules.{Parent, inside, limit}
 use Rattle.studio_rules.specs.Walk.{Step, stop, pass, enter, fileConditions, headerConditions, childConditions, endConditions, opened, sorted, parted, lengthField, step, ended, withSkip, withKnown, taken, run, walk, versionIn, top, figureAt, verdict}
-
--- ---- the places of conditions
-
--- each place is at most n
-abbrev PlacesTo : ℕ → List Condition → Type 0
-PlacesTo n [] = Unit
-PlacesTo n (must b r ∷ cs) = (placeOf r ≤ n) × PlacesTo n cs
-
-abbrev pub PlaceTo : ℕ → Option Refusal → Type 0
-PlaceTo n none = Unit
-PlaceTo n (some r) = placeOf r ≤ n
-
-broken-to : (n : ℕ) (cs : List Condition) → PlacesTo n cs → PlaceTo n (broken cs)
-unfolding broken
-broken-to n [] h = tt
-broken-to n (must true r ∷ cs) h = broken-to n cs (h .1)
-broken-to n (must false r ∷ cs) h = h .0
+use Rattle.claim_numbers.proofs.Conditions.{Asked, asked, PlaceTo, broken-to, AnswerTo, unless-to, unless-met}
 
 -- ---- one step, at offset o of a run of n bytes
 
@@ -74,8 +58,7 @@ step-in p seen o s =
 -- ---- a run of n bytes at offset o
 
 abbrev pub RunIn : ℕ → ℕ → Answer Run → Type 0
-RunIn o n (refused r) = placeOf r ≤ o + n
-RunIn o n (accepted t) = size t ≤ n
+RunIn o n a = AnswerTo (o + n) (λ (t : Run). size t ≤ n) a
 
 either : (b : Bool) {x y n : ℕ} → x ≤ n → y ≤ n → cond b x y ≤ n
 either true h k = h
@@ -90,17 +73,11 @@ offset-in x o (known id own kids rest) =
 -- the chunk q at o, whose children are n bytes
 ended-in : (q : Parent) (o n : ℕ) (a : Answer Run) → RunIn (o + (6 + length (q .own))) n a → RunIn (o + (6 + length (q .own))) n (ended q o a)
 ended-in q o n (refused r) h = h
-ended-in q o n (accepted t) h = go (broken (endConditions q o t)) (broken-to _ (endConditions q o t) places)
-  where
-    places : PlacesTo (o + (6 + length (q .own)) + n) (endConditions q o t)
-    places =
-        let f = offset-in 0x4120 (o + (6 + length (q .own))) t in
-        let m = offset-in 0x4140 (o + (6 + length (q .own))) t in
-        (omega arith, (omega arith, (omega arith, tt)))
-
-    go : (r : Option Refusal) → PlaceTo (o + (6 + length (q .own)) + n) r → RunIn (o + (6 + length (q .own))) n (unless r (accepted t))
-    go (some r) l = l
-    go none l = h
+ended-in q o n (accepted t) h =
+    let at = o + (6 + length (q .own)) in
+    let f = offset-in 0x4120 at t in
+    let m = offset-in 0x4140 at t in
+    unless-met (λ (u : Run). size u ≤ n) (at + n) (endConditions q o t) (accepted t) (omega arith, (omega arith, (omega arith, tt))) (λ _. h)
 
 skip-in : (o n id : ℕ) (body : List ℕ) (m : ℕ) → 6 + length body + m ≤ n → (a : Answer Run) → RunIn (o + (6 + length body)) m a → RunIn o n (withSkip id body a)
 skip-in o n id body m l (refused r) h = omega arith
@@ -135,24 +112,14 @@ walk-in p seen o s = run-in (suc (length s)) p seen o s
 -- ---- the file
 
 abbrev pub Within : Answer Run → Type 0
-Within (refused r) = placeOf r ≤ limit
-Within (accepted kids) = size (figure kids) ≤ limit
+Within a = AnswerTo limit (λ (kids : Run). size (figure kids) ≤ limit) a
 
--- its own conditions: what is asked later may count on what was asked before
-abbrev AskedTo : ℕ → List Condition → Type 0
-AskedTo n [] = Unit
-AskedTo n (must b r ∷ cs) = (b ≡ false → placeOf r ≤ n) × (b ≡ true → AskedTo n cs)
-
-asked-to : (n : ℕ) (cs : List Condition) → AskedTo n cs → PlaceTo n (broken cs)
-unfolding broken
-asked-to n [] h = tt
-asked-to n (must true r ∷ cs) h = asked-to n cs (h .1 refl)
-asked-to n (must false r ∷ cs) h = h .0 refl
+file-asked : {P : Type 0} (s : List ℕ) (n : ℕ) → (length s ≤ limit → 6 ≤ length s → P) → Asked limit P (fileConditions s n)
+file-asked s n p =
+    (λ _. omega arith, λ l. (λ _. omega arith, λ six. (λ _. omega arith, λ _. (λ _. omega arith, λ _. (λ _. omega arith, λ _. (λ t. omega (arith, leb-true (length s) limit l, leb-false (length s) n t), λ _. p (leb-true _ _ l) (leb-true _ _ six)))))))
 
 pub file-to : (s : List ℕ) (n : ℕ) → PlaceTo limit (broken (fileConditions s n))
-file-to s n =
-    asked-to limit (fileConditions s n)
-    (λ _. omega arith, λ l. (λ _. omega arith, λ _. (λ _. omega arith, λ _. (λ _. omega arith, λ _. (λ _. omega arith, λ _. (λ t. omega (arith, leb-true (length s) limit l, leb-false (length s) n t), λ _. tt))))))
+file-to s n = asked Unit limit (fileConditions s n) (file-asked s n (λ _ _. tt))
 
 within : (version : ℕ) (s : List ℕ) → 6 + length s ≤ limit → Within (figureAt (top version) s)
 within version s l =
@@ -165,13 +132,7 @@ within version s l =
 
 pub verdict-within : (s : List ℕ) → Within (verdict s)
 unfolding verdict
-verdict-within s = go (broken (fileConditions s (lengthField s))) refl (file-to s (lengthField s))
-  where
-    go : (r : Option Refusal) → broken (fileConditions s (lengthField s)) ≡ r → PlaceTo limit r →
-        Within (unless r (figureAt (top (versionIn (drop 6 s))) (drop 6 s)))
-    go (some r) e h = h
-    go none e h =
-        let t = met _ e in
-        let l : length s ≤ limit = leb-true _ _ (t .0) in
-        let six : 6 ≤ length s = leb-true _ _ (t .1 .0) in
-        within (versionIn (drop 6 s)) (drop 6 s) (omega (arith, length-drop 6 s))
+verdict-within s =
+    let body = drop 6 s in
+    unless-to (λ (kids : Run). size (figure kids) ≤ limit) limit (fileConditions s (lengthField s)) (figureAt (top (versionIn body)) body)
+    (file-asked s (lengthField s) (λ l six. within (versionIn body) body (omega (arith, length-drop 6 s))))

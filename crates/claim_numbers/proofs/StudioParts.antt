@@ -8,7 +8,7 @@ use lib.ListN.{length}
 use Rattle.studio_rules.specs.OwnData.{father}
 use Rattle.studio_rules.specs.Layout.{Run, end, skip, known, child, held}
 use Rattle.studio_rules.specs.Gives.{recordCount, fathersIn, fathers, parts}
-use Rattle.studio_parts_find.proofs.Trees.{length-from}
+use Rattle.studio_rules.proofs.Parts.{length-from}
 
 fathers-few : (t : Run) → length (fathersIn t) ≤ recordCount t
 fathers-few end = omega arith

@@ -1,0 +1,46 @@
+-- DEMAND 3 OF CALIGARI FILES, of the calls, in one piece and in the words of figures (Demand3): whole chunks of unlisted types put before
+-- any chunk of an accepted file, or taken out, any number together.
+-- One list with marked chunks tells both files: `without m` are the chunks before END in the file that has them not, `with m` in the
+-- file that has them; END is the same in both.
+use mathlib.Core.Path.{_≡_}
+use mathlib.Core.List.{List}
+use Prim.Native.Nat.{ℕ, _≤_, _<_}
+use lib.ListN.{length}
+use Rattle.shared_words.specs.declared.Refusal.the-variants.{NoRoom}
+use Rattle.shared_words.specs.Effects.{leaving, filled}
+use Rattle.shared_words.specs.Encodings.{Encoding}
+use Rattle.shared_words.specs.Lists.{Pairwise}
+use Rattle.shared_flat.specs.Put.{Mark, without, with, Piece, pieces, Moved}
+use Rattle.cob_rules.specs.declared.Record.{Record}
+use Rattle.cob_rules.specs.declared.Answered.{Answered}
+use Rattle.cob_rules.specs.Layout.{Chunk, size, bytes}
+use Rattle.cob_rules.specs.Rules.{limit, Meets}
+use Rattle.cob_rules.specs.Calls.{checkCall, listCall, sizesCall, Rows, tablesCall}
+use Rattle.cob_rules.specs.PutIn.{ending, MayPut, MayTake, SameRecord}
+
+-- s is the file without the chunks ps, and s′ the file with them
+pub record SameAnswers (ps : List Piece) (s s′ : List ℕ) : Type 0 where
+  -- both are accepted, with the same chunks of the four types in the same order, each moved
+  pub records : List Record
+  pub records′ : List Record
+  pub moved : Pairwise (Moved (λ r. r .offset) SameRecord ps) records records′
+  pub accepted : checkCall s ≡ Answered.Count (length records)
+  pub accepted′ : checkCall s′ ≡ Answered.Count (length records)
+  -- with the same room both lists are given, or neither is
+  pub list-given : (e : Encoding Record ℕ) (row : List ℕ) → length records ≤ e .room (length row) →
+      (listCall e s row ≡ leaving (Answered.Count (length records)) (filled (e .encode records) row)) ×
+      (listCall e s′ row ≡ leaving (Answered.Count (length records)) (filled (e .encode records′) row))
+  pub list-refused : (e : Encoding Record ℕ) (row : List ℕ) → e .room (length row) < length records →
+      (listCall e s row ≡ leaving (Answered.Refused (NoRoom (length records))) row) ×
+      (listCall e s′ row ≡ leaving (Answered.Refused (NoRoom (length records))) row)
+  -- every mesh has the same sizes, and the same tables bit for bit
+  pub sizes-same : (e : Encoding ℕ ℕ) (mesh : ℕ) (row : List ℕ) → sizesCall e s′ mesh row ≡ sizesCall e s mesh row
+  pub tables-same : (e : Encoding ℕ ℕ) (mesh : ℕ) (rows : Rows) → tablesCall e s′ mesh rows ≡ tablesCall e s mesh rows
+
+pub record Demand3 : Type 0 where
+  -- chunks put into an accepted file, the result within the length limit
+  pub put-in : (m : List (Mark Chunk)) (last : Chunk) (s : List ℕ) → Meets s (ending last (without m)) → MayPut m →
+      length (bytes (ending last (with m))) ≤ limit → SameAnswers (pieces size 32 m) s (bytes (ending last (with m)))
+  -- chunks taken out of an accepted file
+  pub taken-out : (m : List (Mark Chunk)) (last : Chunk) (s′ : List ℕ) → Meets s′ (ending last (with m)) → MayTake m →
+      SameAnswers (pieces size 32 m) (bytes (ending last (without m))) s′
