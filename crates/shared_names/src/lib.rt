@@ -38,3 +38,14 @@ pub fn same_bytes(s: &[u8], a: usize, b: usize, n: usize) -> bool
     }
     true
 }
+
+// Whether two names, of m and n bytes at two places of a slice, are the same.
+pub fn same_name(s: &[u8], a: usize, m: usize, b: usize, n: usize) -> bool
+    requires { ⌜ (a + m ≤ length (now s)) × (b + n ≤ length (now s)) ⌝ }
+    ensures { λ r. ⌜ r ≡ same (take m (drop a (now (s .entry)))) (take n (drop b (now (s .entry)))) ⌝ }
+{
+    if m != n {
+        return false;
+    }
+    same_bytes(s, a, b, n)
+}

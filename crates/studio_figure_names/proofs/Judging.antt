@@ -7,6 +7,7 @@ use mathlib.Core.Bool.{Bool, true, false, not, _||_}
 use mathlib.Core.List.{List, [], _∷_, _++_}
 use mathlib.Core.Option.{Option, none, some}
 use lib.ListN.{length}
+use borrow.Author.Tests.{lt-ltb, le-ltb}
 use Rattle.shared_words.specs.declared.Refusal.{Refusal}
 use Rattle.shared_words.specs.declared.Refusal.the-variants.{SameName}
 use Rattle.shared_words.specs.declared.Written.the-variants.{Refused, Size}
@@ -18,7 +19,7 @@ use Rattle.studio_figure_rules.specs.Given.{over}
 use Rattle.studio_figure_rules.specs.Judged.{oneOf, differ}
 use Rattle.studio_figure_rules.proofs.Described.{broken-first, broken-rest}
 use Rattle.studio_figure_rows.specs.Rows.{run}
-use Rattle.studio_figure_names.specs.Names.{nameAsked, nameAnswer, namesAnswer, differAnswer}
+use Rattle.studio_figure_names.specs.Names.{nameAsked, nameAnswer, namesAnswer, differAnswer, Repeated}
 use Rattle.studio_figure_rows.proofs.Runs.{run-opened, run-none, run-joined}
 
 -- what an answer tells of the first broken condition
@@ -85,6 +86,13 @@ one-of-last (z ∷ xs) y x = go (same z x) (same y x) (oneOf xs x) (one-of-last 
     go true b c e = or-comm true b
     go false b c e = e
 
+-- one more of the things is among them
+pub one-of-next : (thing : ℕ → List ℕ) (i : ℕ) (x : List ℕ) → (same (thing i) x || oneOf (run thing 0 i) x) ≡ oneOf (run thing 0 (i + 1)) x
+one-of-next thing i x =
+    let z : 0 + i ≡ i = omega arith in
+    sym (one-of-last (run thing 0 i) (thing i) x) ∙
+    sym (ap (λ (l : List (List ℕ)). oneOf l x) (run-joined thing 0 i 1 ∙ ap (λ (k : ℕ). run thing 0 i ++ run thing k 1) z))
+
 module _ (thing : ℕ → List ℕ) (n : ℕ) where
   -- the first i differ; `seen` are they, the last one first
   pub record Differing (i : ℕ) : Type 0 where
@@ -102,16 +110,12 @@ module _ (thing : ℕ → List ℕ) (n : ℕ) where
     next = ap (λ (l : List (List ℕ)). broken (differ (d .seen) l)) (run-opened thing i n h)
 
     pub differing-on : false ≡ oneOf (run thing 0 i) (thing i) → Differing (i + 1)
-    differing-on e =
-        let z : 0 + i ≡ i = omega arith in
-        record {
-          seen = thing i ∷ d .seen;
-          count = omega (arith, d .count);
-          those = λ x.
-              ap (λ (b : Bool). same (thing i) x || b) (d .those x) ∙ sym (one-of-last (run thing 0 i) (thing i) x) ∙
-              sym (ap (λ (l : List (List ℕ)). oneOf l x) (run-joined thing 0 i 1 ∙ ap (λ (k : ℕ). run thing 0 i ++ run thing k 1) z));
-          left = d .left ∙ next ∙ broken-later _ _ _ (ap not (d .those (thing i) ∙ sym e));
-        }
+    differing-on e = record {
+      seen = thing i ∷ d .seen;
+      count = omega (arith, d .count);
+      those = λ x. ap (λ (b : Bool). same (thing i) x || b) (d .those x) ∙ one-of-next thing i x;
+      left = d .left ∙ next ∙ broken-later _ _ _ (ap not (d .those (thing i) ∙ sym e));
+    }
 
     pub differing-out : (m : ℕ) → true ≡ oneOf (run thing 0 i) (thing i) → Refused (SameName i) ≡ answerOf m (broken (differ [] (run thing 0 n)))
     differing-out m e =
@@ -121,14 +125,14 @@ module _ (thing : ℕ → List ℕ) (n : ℕ) where
   unfolding broken
   differing-all i h d m = sym (ap (answerOf m) (d .left ∙ ap (λ (l : List (List ℕ)). broken (differ (d .seen) l)) (run-none thing i n h)))
 
-  -- as the answer that is promised
-  pub differing-said : (i : ℕ) → i < n → Differing i → true ≡ oneOf (run thing 0 i) (thing i) → Refused (SameName i) ≡ differAnswer (run thing 0 n)
+  -- as the first name that is there before
+  pub repeated-here : (i : ℕ) → i < n → Differing i → true ≡ oneOf (run thing 0 i) (thing i) → Repeated thing n i
   unfolding differAnswer
-  differing-said i h d e = differing-out i h d 0 e
+  repeated-here i h d e = rw (lt-ltb i n h) (differing-out i h d 0 e)
 
-  pub differing-end : (i : ℕ) → n ≤ i → Differing i → Size 0 ≡ differAnswer (run thing 0 n)
+  pub repeated-none : (i : ℕ) → n ≤ i → Differing i → Repeated thing n i
   unfolding differAnswer
-  differing-end i h d = differing-all i h d 0
+  repeated-none i h d = rw (le-ltb i n h) (differing-all i h d 0)
 
 -- ---- each name judged by itself
 
