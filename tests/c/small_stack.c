@@ -16,7 +16,7 @@
 
 /* As tds.h has it; a thread itself needs the least that there may be. */
 enum {
-    PLAIN_STACK = 16 * 1024,
+    PLAIN_STACK = 20 * 1024,
     CINEMA_STACK = 540 * 1024,
     FIGURE_STACK = 620 * 1024,
     CALIGARI_STACK = 850 * 1024,

@@ -48,12 +48,14 @@ pub record Holds (names nodes : List ℕ) (count : ℕ) : Type 0 where
   pub room : 4 * count ≤ length nodes
   pub inside : (k : ℕ) → k < count → getD nodes (4 * k) 0 + getD nodes (4 * k + 1) 0 ≤ length names
 
--- there is room for one name more, and a number of the row holds where it begins
-pub record Ready (names nodes : List ℕ) (count : ℕ) : Type 0 where
+-- there is room for one name more, of `len` bytes at a position, and numbers of the row hold both
+pub record Ready (names nodes : List ℕ) (count at len : ℕ) : Type 0 where
   pub holds : Holds names nodes count
   pub node : 4 * count + 4 ≤ length nodes
   pub small : count < 4294967296
-  pub short : length names < 4294967296
+  pub begins : at < 4294967296
+  pub spans : len < 4294967296
+  pub whole : at + len ≤ length names
 
 -- the row with x as one node more, whose number is put at a place
 pub record Put (names nodes : List ℕ) (count : ℕ) (x : List ℕ) (place : ℕ) (nodes′ : List ℕ) : Type 0 where

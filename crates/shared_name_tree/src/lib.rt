@@ -105,7 +105,7 @@ pub fn find(names: &[u8], nodes: &[u32], count: usize, at: usize, len: usize) ->
 
 // One name more, unless it is there; whether it was added.
 pub fn add(names: &[u8], nodes: &mut [u32], count: usize, at: usize, len: usize) -> bool
-    requires { ⌜ Ready (now names) (now nodes) count × (at + len ≤ length (now names)) ⌝ }
+    requires { ⌜ Ready (now names) (now nodes) count at len ⌝ }
     ensures { λ r. ⌜ Grown (now (names .entry)) (now (nodes .entry)) count (take len (drop at (now (names .entry)))) r (now (nodes .exit)) ⌝ }
 {
     match descend(names, nodes, count, at, len) {

@@ -85,7 +85,7 @@ returns-2 : tie.Need-returns-2
 returns-2 c =
     let s = c .before .before .before .before .before .before .before in
     let a = s .args in
-    grown (a .names .now) (a .nodes .now) (a .count) (c .before .place .given .0 .0) (a .at) (a .len) (s .pre .0 .node) (free c) (s .pre .0 .holds) (s .pre .1)
+    grown (a .names .now) (a .nodes .now) (a .count) (c .before .place .given .0 .0) (a .at) (a .len) (s .pre .node) (free c) (s .pre .holds) (s .pre .whole)
 
 pub add-spec : {M : Type 1} → statement M
 add-spec =

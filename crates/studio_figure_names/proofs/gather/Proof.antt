@@ -34,10 +34,17 @@ add-requires : tie.Need-add-requires Inv-loop μ-loop
 add-requires c κs =
     let l = c .before .before .before .loop in
     let s = c .before .before .before .before .before .before .before in
-    let b = s .pre .1 in (
-      record { holds = l .inv .0 .holds; node = omega (arith, b .room, l .inv .2); small = omega (arith, b .few); short = b .short },
-      omega (arith, l .inv .1, c .before .number .ensures .0, sum-inside (s .args .width) 0 (s .args .row .now) (l .i) (s .args .n) (omega arith)),
-    )
+    let b = s .pre .1 in
+    let w = sum-inside (s .args .width) 0 (s .args .row .now) (l .i) (s .args .n) (omega arith) in
+    let k = c .before .number .ensures .0 in
+    record {
+      holds = l .inv .0 .holds;
+      node = omega (arith, b .room, l .inv .2);
+      small = omega (arith, b .few);
+      begins = omega (arith, l .inv .1, k, w, b .short);
+      spans = omega (arith, k, w, b .short);
+      whole = omega (arith, l .inv .1, k, w);
+    }
 
 same-length : tie.Need-same-length Inv-loop μ-loop
 same-length c = search needs
