@@ -35,6 +35,7 @@ static void made(uint64_t answer) {
 }
 
 static void *plain_calls(void *unused) {
+    static const uint32_t object[5] = {1, 0, 0, 0, 0};
     made(tds_check(file, length));
     made(tds_list(file, length, first, sizeof first));
     made(tds_records(file, length, row, MOST_RECORDS * TDS_RECORD_NUMBERS, table, MOST_RECORDS));
@@ -46,6 +47,8 @@ static void *plain_calls(void *unused) {
     made(tds_parts(file, length, first, sizeof first));
     made(tds_write(file, 4, (const float *)(void *)row, 9, (const uint16_t *)(void *)row, 3, first,
                    sizeof first));
+    made(tds_write_figure((const uint8_t *)"A", 1, object, 5, NULL, 0, NULL, 0, NULL, 0, NULL, 0,
+                          NULL, 0, NULL, 0, NULL, 0, first, sizeof first));
     made(tds_sums(file, length));
     made(tds_slip_read(file, length, first, sizeof first));
     made(tds_slip_write(file, length, file, length, second, sizeof second));
@@ -124,7 +127,7 @@ static void *figure_calls(void *unused) {
     return unused;
 }
 
-/* A figure of many objects and materials, whose writing needs more stack than that of a small one. */
+/* A figure of many objects and materials, whose writing needs more stack than a small one's. */
 static int try_many_names(void) {
     for (int i = 0; i < 2 * FIGURE_OBJECTS; i++) {
         for (int j = 0; j < NAME_BYTES; j++) {

@@ -33,7 +33,9 @@ turn rest taken = record { rest = rest; taken = taken }
 
 abbrev pub nextOf : List ℕ → Turn → Turn
 nextOf name t =
-    cond (eqb (t .rest / 2) 1) (cond (ltb (t .taken) (length name)) (turn (256 + getD name (t .taken) 0) (t .taken + 1)) (turn 1 (t .taken))) (turn (t .rest / 2) (t .taken))
+    cond (eqb (t .rest / 2) 1)
+    (cond (ltb (t .taken) (length name)) (turn (256 + getD name (t .taken) 0) (t .taken + 1)) (turn 1 (t .taken)))
+    (turn (t .rest / 2) (t .taken))
 
 abbrev pub way : Way (List ℕ) Turn
 way = record { start = λ name. turn (4294967296 + mixed 0 name) 0; side = λ t. t .rest % 2; next = nextOf }

@@ -55,7 +55,8 @@ fn next(names: &[u8], at: usize, len: usize, turn: Turn) -> Turn
 
 // Whether node k has a name, of `len` bytes at a position.
 fn is_at(names: &[u8], nodes: &[u32], k: usize, at: usize, len: usize) -> bool
-    requires { ⌜ (4 * k + 2 ≤ length (now nodes)) × (getD (now nodes) (4 * k) 0 + getD (now nodes) (4 * k + 1) 0 ≤ length (now names)) × (at + len ≤ length (now names)) ⌝ }
+    requires { ⌜ (4 * k + 2 ≤ length (now nodes)) × (getD (now nodes) (4 * k) 0 + getD (now nodes) (4 * k + 1) 0 ≤ length (now names)) ×
+        (at + len ≤ length (now names)) ⌝ }
     ensures { λ r. ⌜ r ≡ same (nameOf (now (names .entry)) (now (nodes .entry)) k) (take len (drop at (now (names .entry)))) ⌝ }
 {
     same_name(

@@ -22,7 +22,7 @@ fn same_blocks(s: &[u8], a: usize, b: usize, n: usize) -> usize
 }
 
 // Whether two names of n bytes, at two places of a slice, are the same.
-pub fn same_bytes(s: &[u8], a: usize, b: usize, n: usize) -> bool
+fn same_bytes(s: &[u8], a: usize, b: usize, n: usize) -> bool
     requires { ⌜ (a + n ≤ length (now s)) × (b + n ≤ length (now s)) ⌝ }
     ensures { λ r. ⌜ r ≡ same (take n (drop a (now (s .entry)))) (take n (drop b (now (s .entry)))) ⌝ }
 {

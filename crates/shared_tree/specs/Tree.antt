@@ -1,7 +1,7 @@
 -- A digital search tree, whatever its keys are: node k holds a key and has a link on each side, the number of a later node or 0. Which side
 -- a search takes is told by its key and by how far it has come. Nothing here depends on how: a good way only makes searches short.
 use mathlib.Core.Path.{_≡_}
-use Prim.Native.Nat.{ℕ, _+_, _<_, _≤_}
+use Prim.Native.Nat.{ℕ, _<_, _≤_}
 
 -- the way of a search: where a key starts, the side that it takes, and what comes after that
 pub record Way (A S : Type 0) : Type 0 where

@@ -9,7 +9,7 @@ use slip_rules::Found;
 ghost use mathlib.Core.Path.{_≡_};
 ghost use mathlib.Core.Bool.{true};
 ghost use Prim.Native.Nat.{_+_, _*_, _<_, _≤_};
-ghost use lib.ListN.{length, drop};
+ghost use lib.ListN.{length};
 ghost use Rattle.shared_name_tree.specs.Names.{Holds};
 ghost use Rattle.slip_seen.specs.Seen.{Seen};
 ghost use Rattle.slip_check.specs.Entries.{namesIn, Reached, GoodEntry, Walks, headGood, Whole, Labels, Checks};

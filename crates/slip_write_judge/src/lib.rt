@@ -7,7 +7,6 @@ use shared_words::Refusal;
 use shared_words::Written;
 use slip_rules::Numbers;
 ghost use mathlib.Core.Path.{_≡_};
-ghost use mathlib.Core.Bool.{true};
 ghost use Prim.Native.Nat.{_+_, _*_, _≤_};
 ghost use lib.ListN.{length};
 ghost use Rattle.shared_words.specs.Lists.{firstFault};
@@ -40,7 +39,8 @@ pub fn row(entries: &[u8], i: usize) -> Numbers
 
 // Whether the row of number i breaks no rule, and is not one entry too many. Its name is then among those in the tree.
 fn is_good(names: &[u8], entries: &[u8], i: usize, nodes: &mut [u32]) -> bool
-    requires { ⌜ (16 * i + 16 ≤ length (now entries)) × Seen (now names) (now nodes) i (namesFrom (now names) i (now entries) 0) × (4000 ≤ length (now nodes)) ⌝ }
+    requires { ⌜ (16 * i + 16 ≤ length (now entries)) × Seen (now names) (now nodes) i (namesFrom (now names) i (now entries) 0) ×
+        (4000 ≤ length (now nodes)) ⌝ }
     ensures { λ r. ⌜ GoodRow (now (names .entry)) (now (entries .entry)) (now (nodes .entry)) i r (now (nodes .exit)) ⌝ }
 {
     if 1000 <= i {

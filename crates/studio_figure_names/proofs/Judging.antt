@@ -18,9 +18,9 @@ use Rattle.studio_write_judge.specs.Judged.{answerOf}
 use Rattle.studio_figure_rules.specs.Given.{over}
 use Rattle.studio_figure_rules.specs.Judged.{oneOf, differ}
 use Rattle.studio_figure_rules.proofs.Described.{broken-first, broken-rest}
-use Rattle.studio_figure_rows.specs.Rows.{run}
+use Rattle.studio_figure_rows.specs.Rows.{entry, sumTo, run, part, nameAt}
 use Rattle.studio_figure_names.specs.Names.{nameAsked, nameAnswer, namesAnswer, differAnswer, Repeated}
-use Rattle.studio_figure_rows.proofs.Runs.{run-opened, run-none, run-joined}
+use Rattle.studio_figure_rows.proofs.Runs.{run-opened, run-none, run-joined, sum-next}
 
 -- what an answer tells of the first broken condition
 pub refused-told : (n : ℕ) (o : Option Refusal) (r : Refusal) → Refused r ≡ answerOf n o → o ≡ some r
@@ -69,6 +69,33 @@ module _ (thing : ℕ → List ℕ) (n : ℕ) (x : List ℕ) where
 
   pub looked-all : (i : ℕ) → n ≤ i → Looked i → false ≡ oneOf (run thing 0 n) x
   looked-all i h l = sym (l ∙ ap (λ (xs : List (List ℕ)). oneOf xs x) (run-none thing i n h))
+
+-- the same in a row of names, where the next one begins at a position
+module _ (width : ℕ) (row names : List ℕ) (from n : ℕ) (x : List ℕ) where
+  pub record Looking (next i : ℕ) : Type 0 where
+    pub few : i ≤ n
+    pub is : next ≡ from + sumTo width 0 row i
+    pub left : Looked (nameAt width row names from) n x i
+
+  pub looking-none : Looking from 0
+  looking-none = record { few = omega arith; is = omega arith; left = looked-none (nameAt width row names from) n x }
+
+  module _ (next its i : ℕ) (b : Bool) (l : Looking next i) (h : i < n) (f : its ≡ entry width 0 row i) (e : b ≡ same (part next its names) x) where
+    tested : b ≡ same (nameAt width row names from i) x
+    tested = rw (l .is, f) at e
+
+    pub looking-here : b ≡ true → true ≡ oneOf (run (nameAt width row names from) 0 n) x
+    looking-here t = looked-here (nameAt width row names from) n x i h (l .left) (sym tested ∙ t)
+
+    pub looking-on : b ≡ false → Looking (next + its) (i + 1)
+    looking-on t = record {
+      few = omega arith;
+      is = omega (arith, l .is, f, sum-next width 0 row i);
+      left = looked-on (nameAt width row names from) n x i h (l .left) (sym tested ∙ t);
+    }
+
+  pub looking-all : (next i : ℕ) → Looking next i → n ≤ i → false ≡ oneOf (run (nameAt width row names from) 0 n) x
+  looking-all next i l h = looked-all (nameAt width row names from) n x i h (l .left)
 
 -- ---- names that differ
 
@@ -133,6 +160,34 @@ module _ (thing : ℕ → List ℕ) (n : ℕ) where
   pub repeated-none : (i : ℕ) → n ≤ i → Differing i → Repeated thing n i
   unfolding differAnswer
   repeated-none i h d = rw (le-ltb i n h) (differing-all i h d 0)
+
+-- the same in a row of names
+module _ (width : ℕ) (row names : List ℕ) (from n : ℕ) where
+  pub record Comparing (at i : ℕ) : Type 0 where
+    pub few : i ≤ n
+    pub is : at ≡ from + sumTo width 0 row i
+    pub differing : Differing (nameAt width row names from) n i
+
+  pub comparing-none : Comparing from 0
+  comparing-none = record { few = omega arith; is = omega arith; differing = differing-none (nameAt width row names from) n }
+
+  module _ (at len i : ℕ) (b : Bool) (c : Comparing at i) (h : i < n) (f : len ≡ entry width 0 row i)
+      (e : b ≡ oneOf (run (nameAt width row names from) 0 i) (part at len names)) where
+    compared : b ≡ oneOf (run (nameAt width row names from) 0 i) (nameAt width row names from i)
+    compared = rw (c .is, f) at e
+
+    pub comparing-out : b ≡ true → Repeated (nameAt width row names from) n i
+    comparing-out t = repeated-here (nameAt width row names from) n i h (c .differing) (sym t ∙ compared)
+
+    pub comparing-on : b ≡ false → Comparing (at + len) (i + 1)
+    comparing-on t = record {
+      few = omega arith;
+      is = omega (arith, c .is, f, sum-next width 0 row i);
+      differing = differing-on (nameAt width row names from) n i h (c .differing) (sym t ∙ compared);
+    }
+
+  pub comparing-all : (at i : ℕ) → Comparing at i → n ≤ i → Repeated (nameAt width row names from) n i
+  comparing-all at i c h = repeated-none (nameAt width row names from) n i h (c .differing)
 
 -- ---- each name judged by itself
 

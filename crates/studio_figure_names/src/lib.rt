@@ -237,7 +237,7 @@ fn is_for_tree(names: &[u8], count: usize) -> bool
 }
 
 // That, for any names: those that are not for a tree are compared with each other. Where there are not many, a short row is enough,
-// which is quicker made.
+// which is quicker made. One function answers both questions, so that the long row is on the stack once, and for many names alone.
 fn tell(
     names: &[u8],
     first: usize,

@@ -1,7 +1,7 @@
 -- The end of the search for the name, and the node put there.
 use mathlib.Core.Path.{subst}
 use native.Mathlib.Omega.{arith}
-use lib.ListN.{take, drop, length-set, set}
+use lib.ListN.{take, drop, length-set}
 use Rattle.shared_name_tree.specs.declared.Spot.{Spot}
 use Rattle.shared_name_tree.specs.Names.{Landed, Open}
 use Rattle.shared_name_tree.proofs.Row.{grown, not-grown}

@@ -1,5 +1,5 @@
 -- The loop's invariant: the search has come to node k. Links rise, so what is left of the nodes falls.
-use mathlib.Core.Path.{_≡_, refl, sym, subst, _∙_}
+use mathlib.Core.Path.{sym, subst, _∙_}
 use Prim.Native.Nat.{ℕ, _+_, _*_, _-_, _%_}
 use native.Mathlib.Omega.{arith}
 use lib.ListN.{getD, take, drop}
@@ -13,11 +13,6 @@ use Rattle.shared_name_tree.proofs.Held.{not-same}
 use Rattle.shared_name_tree.proofs.Row.{landed-none, landed-there, landed-open}
 use Rattle.shared_name_tree.proofs.descend.Statement.{statement}
 use Rattle.shared_name_tree.proofs.descend.Tie as tie
-use Rattle.shared_name_tree.proofs.descend.Reads as reads
-use Rattle.shared_name_tree.proofs.descend.Lts as lts
-use Rattle.shared_name_tree.proofs.is_at.Reads as is-at-reads
-use Rattle.shared_name_tree.proofs.mix.Reads as mix-reads
-use Rattle.shared_name_tree.proofs.next.Reads as next-reads
 
 abbrev Inv-loop : tie.InvT-loop
 Inv-loop names nodes count at len k₀ turn₀ k turn = Comes way (treeIn names nodes) count (take len (drop at names)) k turn

@@ -82,8 +82,13 @@ returns-7 c =
     let r = c .before .before .before .before .before .before .before .before .before .before .before .before .before .before .before .before .before .row .ensures in
     let e = same-row r in
     let d = c .before .before .add in
-    let zero-less = c .before .before .before .before .before .before .before .before .before .before .before .before .if3 .left in
-    on-all (a .names .now) (a .entries .now) (a .nodes .now) (a .i) (omega (arith, c .before .before .before .before .before .before .before .before .before .before .before .before .before .before .before .before .before .before .if1 .left)) (omega (arith, e, c .before .before .before .before .before .before .before .before .before .before .before .before .before .before .if2 .left)) (omega (arith, e, zero-less)) (omega (arith, e, c .before .before .before .before .before .before .before .before .before .before .if4 .left)) (omega (arith, e, c .before .before .before .before .before .before .before .before .if5 .left)) (omega (arith, e, c .before .before .before .before .before .before .if6 .left)) (d .last .1 .0) (d .result) (s .pre .1)
+    let some = c .before .before .before .before .before .before .before .before .before .before .before .before .if3 .left in
+    let few = c .before .before .before .before .before .before .before .before .before .before .before .before .before .before .before .before .before .before .if1 .left in
+    let whole = c .before .before .before .before .before .before .before .before .before .before .before .before .before .before .if2 .left in
+    let short = c .before .before .before .before .before .before .before .before .before .before .if4 .left in
+    let first = c .before .before .before .before .before .before .before .before .if5 .left in
+    let second = c .before .before .before .before .before .before .if6 .left in
+    on-all (a .names .now) (a .entries .now) (a .nodes .now) (a .i) (omega arith) (omega arith) (omega arith) (omega arith) (omega arith) (omega arith) (d .last .1 .0) (d .result) (s .pre .1)
     (subst (λ (n : Numbers). Grown (a .names .now) (a .nodes .now) (a .i) (entryFrom (a .names .now) n .name) (d .result) (d .last .1 .0)) r (d .ensures))
 
 pub is-good-spec : {M : Type 1} → statement M

@@ -1,25 +1,19 @@
 -- `studio_figure_names::first_repeated` meets its contract: the names that the loop has passed differ.
-use mathlib.Core.Path.{_≡_, sym, ap, _∙_}
-use Prim.Native.Nat.{ℕ, _+_, _-_, _≤_}
+use Prim.Native.Nat.{_-_}
 use native.Mathlib.Omega.{arith}
-use Rattle.studio_figure_rules.specs.Judged.{oneOf}
-use Rattle.studio_figure_rows.specs.Rows.{sumTo, part, nameAt}
-use Rattle.studio_figure_rows.proofs.Runs.{stride, sum-next, sum-up, sum-inside}
-use Rattle.studio_figure_names.specs.Names.{namesIn}
-use Rattle.studio_figure_names.proofs.Judging.{Differing, differing-none, differing-on, repeated-here, repeated-none}
+use Rattle.studio_figure_rows.proofs.Runs.{stride, sum-up, sum-inside}
+use Rattle.studio_figure_names.proofs.Judging.{Comparing, comparing-none, comparing-out, comparing-on, comparing-all}
 use Rattle.studio_figure_names.proofs.first_repeated.Statement.{statement}
 use Rattle.studio_figure_names.proofs.first_repeated.Tie as tie
 
 abbrev Inv-loop : tie.InvT-loop
-Inv-loop names from row width n at₀ i₀ at i = (i ≤ n) × (at ≡ from + sumTo width 0 row i) × Differing (nameAt width row names from) n i
+Inv-loop names from row width n at₀ i₀ at i = Comparing width row names from n at i
 
 abbrev μ-loop : tie.MeasureT-loop
 μ-loop names from row width n at₀ i₀ at i = n - i
 
 loop-holds : tie.Need-loop-holds Inv-loop μ-loop
-loop-holds c =
-    let a = c .before .before .args in
-    (omega arith, omega arith, differing-none (nameAt (a .width) (a .row .now) (a .names .now) (a .from)) (a .n))
+loop-holds c = let a = c .before .before .args in comparing-none (a .width) (a .row .now) (a .names .now) (a .from) (a .n)
 
 number-requires : tie.Need-number-requires Inv-loop μ-loop
 number-requires c κs =
@@ -29,22 +23,23 @@ number-requires c κs =
 is-one-of-requires : tie.Need-is-one-of-requires Inv-loop μ-loop
 is-one-of-requires c κs =
     let a = c .before .before .before .before .before .args in
-    let up = sum-up (a .width) 0 (a .row .now) (c .before .before .loop .i) (a .n) (omega arith) in
-    (omega arith, omega (arith, stride (a .width) (c .before .before .loop .i) (a .n) (omega arith)), omega arith, omega (arith, c .number .ensures .0, sum-inside (a .width) 0 (a .row .now) (c .before .before .loop .i) (a .n) (omega arith)))
+    let l = c .before .before .loop in
+    let up = sum-up (a .width) 0 (a .row .now) (l .i) (a .n) (omega arith) in
+    let inside = sum-inside (a .width) 0 (a .row .now) (l .i) (a .n) (omega arith) in
+    (omega arith, omega (arith, stride (a .width) (l .i) (a .n) (omega arith)), omega arith, omega (arith, l .inv .is, c .number .ensures .0))
 
 returns : tie.Need-returns Inv-loop μ-loop
 returns c =
     let l = c .before .before .before .before .loop in
     let a = c .before .before .before .before .before .before .before .args in
-    let others = namesIn (a .width) (a .row .now) (a .names .now) (a .from) (l .i) in
-    let e = ap (λ (k : ℕ). oneOf others (part k (c .before .before .number .result) (a .names .now))) (l .inv .1) in
-    let f = ap (λ (k : ℕ). oneOf others (part (a .from + sumTo (a .width) 0 (a .row .now) (l .i)) k (a .names .now))) (c .before .before .number .ensures .0) in
-    repeated-here (nameAt (a .width) (a .row .now) (a .names .now) (a .from)) (a .n) (l .i) (omega arith) (l .inv .2) (sym (c .if1 .taken) ∙ c .before .is-one-of .ensures ∙ e ∙ f)
+    comparing-out (a .width) (a .row .now) (a .names .now) (a .from) (a .n) (l .at) (c .before .before .number .result) (l .i) (c .before .is-one-of .result) (l .inv) (omega arith)
+    (c .before .before .number .ensures .0) (c .before .is-one-of .ensures) (c .if1 .taken)
 
 add-at : tie.Need-add-at Inv-loop μ-loop
 add-at c =
+    let l = c .before .before .before .before .loop in
     let a = c .before .before .before .before .before .before .before .args in
-    omega (arith, c .before .before .number .ensures .0, sum-inside (a .width) 0 (a .row .now) (c .before .before .before .before .loop .i) (a .n) (omega arith))
+    omega (arith, l .inv .is, c .before .before .number .ensures .0, sum-inside (a .width) 0 (a .row .now) (l .i) (a .n) (omega arith))
 
 add-i : tie.Need-add-i Inv-loop μ-loop
 add-i c = omega arith
@@ -56,19 +51,14 @@ loop-again : tie.Need-loop-again Inv-loop μ-loop
 loop-again c =
     let l = c .before .before .before .before .loop in
     let a = c .before .before .before .before .before .before .before .args in
-    let others = namesIn (a .width) (a .row .now) (a .names .now) (a .from) (l .i) in
-    let e = ap (λ (k : ℕ). oneOf others (part k (c .before .before .number .result) (a .names .now))) (l .inv .1) in
-    let f = ap (λ (k : ℕ). oneOf others (part (a .from + sumTo (a .width) 0 (a .row .now) (l .i)) k (a .names .now))) (c .before .before .number .ensures .0) in (
-      omega arith,
-      omega (arith, l .inv .1, c .before .before .number .ensures .0, sum-next (a .width) 0 (a .row .now) (l .i)),
-      differing-on (nameAt (a .width) (a .row .now) (a .names .now) (a .from)) (a .n) (l .i) (omega arith) (l .inv .2) (sym (c .if1 .left) ∙ c .before .is-one-of .ensures ∙ e ∙ f),
-    )
+    comparing-on (a .width) (a .row .now) (a .names .now) (a .from) (a .n) (l .at) (c .before .before .number .result) (l .i) (c .before .is-one-of .result) (l .inv) (omega arith)
+    (c .before .before .number .ensures .0) (c .before .is-one-of .ensures) (c .if1 .left)
 
 returns-2 : tie.Need-returns-2 Inv-loop μ-loop
 returns-2 c =
     let l = c .before .loop in
     let a = c .before .before .before .before .args in
-    repeated-none (nameAt (a .width) (a .row .now) (a .names .now) (a .from)) (a .n) (l .i) (omega arith) (l .inv .2)
+    comparing-all (a .width) (a .row .now) (a .names .now) (a .from) (a .n) (l .at) (l .i) (l .inv) (omega arith)
 
 pub first-repeated-spec : {M : Type 1} → statement M
 first-repeated-spec =
