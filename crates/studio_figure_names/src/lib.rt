@@ -125,7 +125,8 @@ fn first_other(
 ) -> usize
     requires { ⌜ (0 < width) × (width * count ≤ length (now row)) × (first + sumTo width 0 (now row) count ≤ length (now names)) ⌝ }
     requires { ⌜ (2 * n ≤ length (now groups)) × (from + sumTo 2 0 (now groups) n ≤ length (now names)) ⌝ }
-    ensures { λ r. ⌜ r ≡ firstFault (oneOf (namesIn width (now (row .entry)) (now (names .entry)) first count)) (namesIn 2 (now (groups .entry)) (now (names .entry)) from n) ⌝ }
+    ensures { λ r. ⌜ r ≡ firstFault (oneOf (namesIn width (now (row .entry)) (now (names .entry)) first count))
+        (namesIn 2 (now (groups .entry)) (now (names .entry)) from n) ⌝ }
 {
     let mut at = from;
     let mut i = 0usize;
@@ -178,7 +179,8 @@ fn first_absent(
     n: usize,
 ) -> usize
     requires { ⌜ Holds (now names) (now nodes) count × (2 * n ≤ length (now groups)) × (from + sumTo 2 0 (now groups) n ≤ length (now names)) ⌝ }
-    ensures { λ r. ⌜ r ≡ firstFault (held (nameOf (now (names .entry)) (now (nodes .entry))) count) (namesIn 2 (now (groups .entry)) (now (names .entry)) from n) ⌝ }
+    ensures { λ r. ⌜ r ≡ firstFault (held (nameOf (now (names .entry)) (now (nodes .entry))) count)
+        (namesIn 2 (now (groups .entry)) (now (names .entry)) from n) ⌝ }
 {
     let mut at = from;
     let mut i = 0usize;
@@ -215,7 +217,8 @@ fn tell_with(
     requires { ⌜ (0 < width) × (width * count ≤ length (now row)) × (first + sumTo width 0 (now row) count ≤ length (now names)) ⌝ }
     requires { ⌜ (2 * n ≤ length (now groups)) × (from + sumTo 2 0 (now groups) n ≤ length (now names)) ⌝ }
     requires { ⌜ Blank (now names) (now nodes) count ⌝ }
-    ensures { λ r. ⌜ ToldOf (nameAt width (now (row .entry)) (now (names .entry)) first) count (namesIn 2 (now (groups .entry)) (now (names .entry)) from n) r ⌝ }
+    ensures { λ r. ⌜ ToldOf (nameAt width (now (row .entry)) (now (names .entry)) first) count
+        (namesIn 2 (now (groups .entry)) (now (names .entry)) from n) r ⌝ }
 {
     let repeated = gather(names, first, row, width, count, nodes);
     if repeated < count {
@@ -250,7 +253,8 @@ fn tell(
 ) -> Told
     requires { ⌜ (0 < width) × (width * count ≤ length (now row)) × (first + sumTo width 0 (now row) count ≤ length (now names)) ⌝ }
     requires { ⌜ (2 * n ≤ length (now groups)) × (from + sumTo 2 0 (now groups) n ≤ length (now names)) ⌝ }
-    ensures { λ r. ⌜ ToldOf (nameAt width (now (row .entry)) (now (names .entry)) first) count (namesIn 2 (now (groups .entry)) (now (names .entry)) from n) r ⌝ }
+    ensures { λ r. ⌜ ToldOf (nameAt width (now (row .entry)) (now (names .entry)) first) count
+        (namesIn 2 (now (groups .entry)) (now (names .entry)) from n) r ⌝ }
 {
     if !is_for_tree(names, count) {
         let repeated = first_repeated(names, first, row, width, count);
@@ -298,7 +302,8 @@ pub fn first_unnamed(
 ) -> usize
     requires { ⌜ (first + sumTo 1 0 (now materials) (length (now materials)) ≤ length (now names)) × (2 * n ≤ length (now groups)) ×
         (from + sumTo 2 0 (now groups) n ≤ length (now names)) ⌝ }
-    ensures { λ r. ⌜ r ≡ firstFault (oneOf (namesIn 1 (now (materials .entry)) (now (names .entry)) first (length (now (materials .entry))))) (namesIn 2 (now (groups .entry)) (now (names .entry)) from n) ⌝ }
+    ensures { λ r. ⌜ r ≡ firstFault (oneOf (namesIn 1 (now (materials .entry)) (now (names .entry)) first (length (now (materials .entry)))))
+        (namesIn 2 (now (groups .entry)) (now (names .entry)) from n) ⌝ }
 {
     let count = materials.len();
     if count <= FEW {
