@@ -41,15 +41,15 @@
  * anything but the slices it was given, writes anything but the slices it was lent, touches files,
  * prints, or ends the program. So all calls may be made from any number of threads at once.
  *
- * COST. Every call is linear in the lengths it is given, whatever is in the bytes, but where names
- * are compared two by two: in the two calls about a whole slip, which take 0.1 s at worst, and in
- * tds_write_figure, which takes up to 1 s for 10,000 objects. Each call that reads a figure checks
- * all of it first; the longest takes 0.02 to 3 milliseconds, by what is in it, and up to 10 if it
- * is a .cob file made for that (docs/BENCH.md). tds_list, tds_records, tds_meshes, tds_parts and
- * those about one mesh take up to twice that, tds_rescue up to 6. So a call for each of many meshes
- * costs the whole file each time, and one tds_meshes for all of them once. tds_sum_join and
- * tds_sum_matches read no bytes. Stack: at most 16 kilobytes; tds_c4d_list needs 540, the four
- * calls on .cob files 850.
+ * COST. Every call is linear in the lengths it is given, whatever is in the bytes, but for
+ * tds_write_figure of more than 36,864 objects or materials, which no file holds: names are then
+ * compared two by two. Each call that reads a figure checks all of it first; the longest takes 0.02
+ * to 3 milliseconds, by what is in it, and up to 10 if it is a .cob file made for that
+ * (docs/BENCH.md). tds_list, tds_records, tds_meshes, tds_parts and those about one mesh take up to
+ * twice that, tds_rescue up to 6. So a call for each of many meshes costs the whole file each time,
+ * and one tds_meshes for all of them once. tds_sum_join and tds_sum_matches read no bytes. Stack:
+ * at most 20 kilobytes; tds_c4d_list needs 540, tds_write_figure 620 where there are more than 32
+ * objects or materials, the four calls on .cob files 850.
  *
  * ORDER OF REFUSALS. First the faults of the file, which are 1 to 14, 23 and 24: the first that is
  * met, walking the file from its start, a chunk's own faults before those inside it, 24 right after

@@ -149,6 +149,56 @@ static void judge_faults(void) {
     judge("a face that does not exist", &r, SIZE, REFUSAL(12, 0));
 }
 
+enum { MANY = 5000, DIGITS = 6 };
+
+static uint8_t numbered[DIGITS * (MANY + 2)];
+
+static void put_name(size_t at, size_t number) {
+    for (size_t j = DIGITS; j-- > 0; number /= 10) {
+        numbered[DIGITS * at + j] = (uint8_t)('0' + number % 10);
+    }
+}
+
+/* Asks for n objects, the last of which has the name of another, or its own. */
+static uint64_t many_objects(size_t n, size_t last) {
+    static uint32_t objects[5 * MANY];
+    for (size_t i = 0; i < n; i++) {
+        put_name(i, i < n - 1 ? i : last);
+        objects[5 * i] = DIGITS;
+    }
+    return tds_write_figure(numbered, DIGITS * n, objects, 5 * n, NULL, 0, NULL, 0, NULL, 0, NULL,
+                            0, NULL, 0, NULL, 0, NULL, 0, NULL, 0);
+}
+
+/* Asks for n materials and an object with a group of that number. */
+static uint64_t many_materials(size_t n, size_t group) {
+    static const uint32_t object[5] = {DIGITS, 0, 0, 0, 1}, groups[2] = {DIGITS, 0};
+    static uint32_t materials[MANY];
+    static uint8_t colours[9 * MANY];
+    put_name(0, 0);
+    put_name(n + 1, group);
+    for (size_t i = 0; i < n; i++) {
+        put_name(i + 1, i);
+        materials[i] = DIGITS;
+    }
+    return tds_write_figure(numbered, DIGITS * (n + 2), object, 5, NULL, 0, NULL, 0, NULL, 0,
+                            groups, 2, NULL, 0, materials, n, colours, 9 * n, NULL, 0);
+}
+
+/* Few names are compared with each other, more are looked up in a short row or a long one. */
+static void judge_many_names(void) {
+    static const size_t counts[] = {32, 33, 1024, 1025, MANY};
+    EACH(i, counts) {
+        size_t n = counts[i];
+        trying("tds_write_figure: %zu names", n);
+        judge_answer(many_objects(n, n - 1), REFUSAL(15, 12 + 35 * n));
+        judge_answer(many_objects(n, 0), REFUSAL(29, n - 1));
+        judge_answer(many_objects(n, n / 2), REFUSAL(29, n - 1));
+        judge_answer(many_materials(n, n - 1), REFUSAL(15, 62 + 64 * n));
+        judge_answer(many_materials(n, n), REFUSAL(30, 0));
+    }
+}
+
 void try_figures(void) {
     const size_t rooms[] = {SIZE, SIZE + 1, SIZE + 50};
     struct rows none = {.length = {0}};
@@ -162,4 +212,5 @@ void try_figures(void) {
     judge_list();
     judge_lengths();
     judge_faults();
+    judge_many_names();
 }

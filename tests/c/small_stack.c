@@ -16,8 +16,9 @@
 
 /* As tds.h has it; a thread itself needs the least that there may be. */
 enum {
-    PLAIN_STACK = 16 * 1024,
+    PLAIN_STACK = 20 * 1024,
     CINEMA_STACK = 540 * 1024,
+    FIGURE_STACK = 620 * 1024,
     CALIGARI_STACK = 850 * 1024,
     MOST_RECORDS = 1024
 };
@@ -34,6 +35,7 @@ static void made(uint64_t answer) {
 }
 
 static void *plain_calls(void *unused) {
+    static const uint32_t object[5] = {1, 0, 0, 0, 0};
     made(tds_check(file, length));
     made(tds_list(file, length, first, sizeof first));
     made(tds_records(file, length, row, MOST_RECORDS * TDS_RECORD_NUMBERS, table, MOST_RECORDS));
@@ -45,6 +47,8 @@ static void *plain_calls(void *unused) {
     made(tds_parts(file, length, first, sizeof first));
     made(tds_write(file, 4, (const float *)(void *)row, 9, (const uint16_t *)(void *)row, 3, first,
                    sizeof first));
+    made(tds_write_figure((const uint8_t *)"A", 1, object, 5, NULL, 0, NULL, 0, NULL, 0, NULL, 0,
+                          NULL, 0, NULL, 0, NULL, 0, first, sizeof first));
     made(tds_sums(file, length));
     made(tds_slip_read(file, length, first, sizeof first));
     made(tds_slip_write(file, length, file, length, second, sizeof second));
@@ -109,6 +113,34 @@ static int try_many_objects(void) {
     return run_on(CINEMA_STACK, cinema_calls) != 0 || objects != OBJECTS;
 }
 
+enum { FIGURE_OBJECTS = 5000, NAME_BYTES = 4 };
+
+static uint32_t described[5 * FIGURE_OBJECTS], materials[FIGURE_OBJECTS];
+static uint8_t names[2 * NAME_BYTES * FIGURE_OBJECTS], colours[9 * FIGURE_OBJECTS];
+static uint64_t written;
+
+static void *figure_calls(void *unused) {
+    written = tds_write_figure(names, sizeof names, described, 5 * FIGURE_OBJECTS, NULL, 0, NULL, 0,
+                               NULL, 0, NULL, 0, NULL, 0, materials, FIGURE_OBJECTS, colours,
+                               sizeof colours, file, sizeof file);
+    made(written);
+    return unused;
+}
+
+/* A figure of many objects and materials, whose writing needs more stack than a small one's. */
+static int try_many_names(void) {
+    for (int i = 0; i < 2 * FIGURE_OBJECTS; i++) {
+        for (int j = 0; j < NAME_BYTES; j++) {
+            names[NAME_BYTES * i + j] = (uint8_t)('A' + ((i >> 4 * j) & 15));
+        }
+    }
+    for (int i = 0; i < FIGURE_OBJECTS; i++) {
+        described[5 * i] = NAME_BYTES;
+        materials[i] = NAME_BYTES;
+    }
+    return run_on(FIGURE_STACK, figure_calls) != 0 || written > sizeof file;
+}
+
 int main(int argc, char **argv) {
     for (int i = 1; i < argc; i++) {
         if (try_file(argv[i]) != 0) {
@@ -118,6 +150,10 @@ int main(int argc, char **argv) {
     }
     if (try_many_objects() != 0) {
         fprintf(stderr, "small_stack: a figure of many objects: not tried\n");
+        return 2;
+    }
+    if (try_many_names() != 0) {
+        fprintf(stderr, "small_stack: a figure of many names: not written\n");
         return 2;
     }
     printf("%lu calls\n", (unsigned long)calls);

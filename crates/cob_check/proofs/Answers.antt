@@ -16,7 +16,8 @@ use Rattle.cob_rules.specs.Layout.{Layout, fileHeader}
 use Rattle.cob_rules.specs.Rules.{limit}
 use Rattle.cob_rules.specs.Walk.{Verdict, walk, verdict}
 use Rattle.cob_rules.specs.Calls.{checkOf}
-use Rattle.cob_seen.proofs.Search.{starts, zeros}
+use Rattle.shared_tree.proofs.Search.{zeros}
+use Rattle.cob_seen.proofs.Search.{starts}
 use Rattle.cob_check.specs.declared.Walked.{Walked}
 use Rattle.cob_check.specs.Walks.{Prepared, Accepted, WalkIs}
 use Rattle.cob_check.proofs.Header.{too-short}

@@ -2,7 +2,8 @@
 // chosen. Node k holds ids[k]; its two links are links[2 * k] and links[2 * k + 1], the number of a later node or 0 for none. A search
 // takes the bits of x from the lowest up.
 ghost use mathlib.Core.Path.{_≡_};
-ghost use Rattle.cob_seen.specs.Tree.{Represents, Ready, Ended, Grown, Admitted, numberIn};
+ghost use Rattle.shared_tree.specs.Tree.{Ended};
+ghost use Rattle.cob_seen.specs.Tree.{bits, treeIn, Represents, Ready, Grown, Admitted, numberIn};
 
 // Where a search ended: at a node, with the bits that are left.
 pub struct Spot {
@@ -25,7 +26,7 @@ fn wide(x: u32) -> usize
 // The search for x: to the node that holds it, or to one with no link on its side.
 fn descend(ids: &[u32], links: &[u32], count: usize, x: u32) -> Spot
     requires { ⌜ Represents (now ids) (now links) count ⌝ }
-    ensures { λ r. ⌜ Ended (now (ids .entry)) (now (links .entry)) count x (r .at) (r .rest) ⌝ }
+    ensures { λ r. ⌜ Ended bits (treeIn (now (ids .entry)) (now (links .entry))) count x (r .at) (r .rest) ⌝ }
 {
     let mut at = 0usize;
     let mut rest = x;

@@ -22,7 +22,7 @@ fn same_blocks(s: &[u8], a: usize, b: usize, n: usize) -> usize
 }
 
 // Whether two names of n bytes, at two places of a slice, are the same.
-pub fn same_bytes(s: &[u8], a: usize, b: usize, n: usize) -> bool
+fn same_bytes(s: &[u8], a: usize, b: usize, n: usize) -> bool
     requires { ⌜ (a + n ≤ length (now s)) × (b + n ≤ length (now s)) ⌝ }
     ensures { λ r. ⌜ r ≡ same (take n (drop a (now (s .entry)))) (take n (drop b (now (s .entry)))) ⌝ }
 {
@@ -37,4 +37,15 @@ pub fn same_bytes(s: &[u8], a: usize, b: usize, n: usize) -> bool
         i += 1;
     }
     true
+}
+
+// Whether two names, of m and n bytes at two places of a slice, are the same.
+pub fn same_name(s: &[u8], a: usize, m: usize, b: usize, n: usize) -> bool
+    requires { ⌜ (a + m ≤ length (now s)) × (b + n ≤ length (now s)) ⌝ }
+    ensures { λ r. ⌜ r ≡ same (take m (drop a (now (s .entry)))) (take n (drop b (now (s .entry)))) ⌝ }
+{
+    if m != n {
+        return false;
+    }
+    same_bytes(s, a, b, n)
 }

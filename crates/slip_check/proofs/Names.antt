@@ -1,15 +1,12 @@
--- The name of the entry at an offset, and with earlier entries one at a time.
+-- The name of the entry at an offset, and entries that are whole, one at a time.
 use mathlib.Core.Path.{_≡_, ap, _∙_}
 use Prim.Native.Nat.{ℕ, zero, suc, _+_, _-_, _<_, _≤_}
 use native.Mathlib.Omega.{arith}
-use mathlib.Core.Bool.{true, false}
 use mathlib.Core.List.{List}
 use lib.ListN.{length, take, drop, getD, length-drop}
 use lib.Seq.{drop-drop, getD-drop, length-take-le}
-use Rattle.shared_words.specs.Lists.{same}
-use Rattle.slip_rules.specs.Rules.{namedBefore}
 use Rattle.slip_rules.specs.Walk.{entryAt}
-use Rattle.slip_check.specs.Entries.{entryIn, nextAt, namesIn, Whole}
+use Rattle.slip_check.specs.Entries.{entryIn, nextAt, Whole}
 
 -- ---- the name of the entry at an offset
 
@@ -22,19 +19,6 @@ name-is s o = ap (λ (k : ℕ). take k (drop 1 (drop o s))) (head-is s o) ∙ ap
 
 pub name-length : (s : List ℕ) (o : ℕ) → nextAt s o ≤ length s → length (entryIn s o .name) ≡ getD s o 0
 name-length s o l = ap length (name-is s o) ∙ length-take-le (getD s o 0) (drop (o + 1) s) (omega (arith, length-drop (o + 1) s))
-
--- ---- earlier entries, one at a time
-
-module _ (x : List ℕ) (s : List ℕ) (o : ℕ) where
-  pub among-here : (left : ℕ) → 0 < left → same (entryIn s o .name) x ≡ true → namedBefore x (namesIn left s o) ≡ true
-  among-here zero p e = absurd (omega arith)
-  among-here (suc k) p e = rw e
-
-  pub among-on : (left : ℕ) → 0 < left → same (entryIn s o .name) x ≡ false → namedBefore x (namesIn left s o) ≡ namedBefore x (namesIn (left - 1) s (nextAt s o))
-  among-on zero p e = absurd (omega arith)
-  among-on (suc k) p e =
-      let q : suc k - 1 ≡ k = omega arith in
-      rw (e, q)
 
 -- what is left of whole entries
 module _ (s : List ℕ) (o : ℕ) where

@@ -57,7 +57,7 @@ entries-more : (n : ℕ) (s : List ℕ) (o : ℕ) (a : Entries) → withAll (ent
 entries-more zero s o a = refl
 entries-more (suc n) s o a = ap (withEntry (entryIn s o)) (entries-more n s (nextAt s o) a)
 
-names-more : (n : ℕ) (s : List ℕ) (o : ℕ) → remember (namesIn n s o) (entryIn s (after n s o)) ≡ namesIn (suc n) s o
+pub names-more : (n : ℕ) (s : List ℕ) (o : ℕ) → remember (namesIn n s o) (entryIn s (after n s o)) ≡ namesIn (suc n) s o
 names-more zero s o = refl
 names-more (suc n) s o = ap (λ (x : List (List ℕ)). entryIn s o .name ∷ x) (names-more n s (nextAt s o))
 

@@ -1,7 +1,7 @@
 -- The entries of a slip by their offsets, as the code steps over them; and what its functions promise.
 use mathlib.Core.Path.{_≡_}
 use Prim.Native.Nat.{ℕ, zero, suc, _+_, _≤_}
-use mathlib.Core.Bool.{Bool}
+use mathlib.Core.Bool.{Bool, true}
 use mathlib.Core.List.{List, [], _∷_}
 use lib.Dec.{eqb, leb}
 use lib.ListN.{length, drop, getD}
@@ -13,6 +13,7 @@ use Rattle.slip_rules.specs.Slip.{Entry}
 use Rattle.slip_rules.specs.Rules.{isNamed, sumsProper, notTwice, limit}
 use Rattle.slip_rules.specs.Conditions.{allOf}
 use Rattle.slip_rules.specs.Walk.{Entries, entryAt, walk, labelled, verdict}
+use Rattle.slip_seen.specs.Seen.{Seen}
 use Rattle.slip_check.specs.declared.Walked.{Walked}
 
 -- the entry at an offset, and the offset behind it
@@ -50,6 +51,13 @@ unfoldable pub goodAt : List (List ℕ) → List ℕ → Bool
 goodAt seen s = allOf (leb (7 + getD s 0 0) (length s) ∷ isNamed (entryAt s) ∷ sumsProper (entryAt s) ∷ notTwice seen (entryAt s) ∷ [])
 
 -- ---- what the functions promise
+
+-- whether the entry behind the first n is good; if it is, its name is in the tree
+pub record GoodEntry (s nodes : List ℕ) (n at : ℕ) (r : Bool) (nodes′ : List ℕ) : Type 0 where
+  pub is : r ≡ goodAt (namesIn n s 7) (drop at s)
+  pub whole : r ≡ true → nextAt s at ≤ length s
+  pub seen : r ≡ true → Seen s nodes′ (n + 1) (namesIn (n + 1) s 7)
+  pub room : length nodes′ ≡ length nodes
 
 abbrev pub walkedAs : Walked → List ℕ → ℕ → Entries
 walkedAs (Walked.Bad place) s n = refused (Slip place)

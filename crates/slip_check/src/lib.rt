@@ -1,19 +1,18 @@
-// The check pass over a slip: whether it meets the rules. No entry is kept, so a repeated name is found by stepping over
-// the earlier entries again.
+// The check pass over a slip: whether it meets the rules. The names that were met are kept in a tree.
 use shared_big_endian::byte_at;
 use shared_big_endian::long_at;
 use shared_big_endian::word_at;
 use shared_labels::fits_label;
-use shared_names::same_bytes;
+use shared_name_tree::add;
 use shared_words::Refusal;
 use slip_rules::Found;
 ghost use mathlib.Core.Path.{_≡_};
 ghost use mathlib.Core.Bool.{true};
-ghost use Prim.Native.Nat.{_+_, _≤_};
-ghost use lib.ListN.{length, drop};
-ghost use Rattle.shared_words.specs.Lists.{same};
-ghost use Rattle.slip_rules.specs.Rules.{namedBefore};
-ghost use Rattle.slip_check.specs.Entries.{entryIn, nextAt, namesIn, Reached, Walks, goodAt, headGood, Whole, Labels, Checks};
+ghost use Prim.Native.Nat.{_+_, _*_, _<_, _≤_};
+ghost use lib.ListN.{length};
+ghost use Rattle.shared_name_tree.specs.Names.{Holds};
+ghost use Rattle.slip_seen.specs.Seen.{Seen};
+ghost use Rattle.slip_check.specs.Entries.{namesIn, Reached, GoodEntry, Walks, headGood, Whole, Labels, Checks};
 
 // What the walk over the entries answers: the place of refusal 18, or that there is none.
 enum Walked {
@@ -21,40 +20,10 @@ enum Walked {
     Good,
 }
 
-// Whether the entries at two offsets have the same name.
-fn same_name(s: &[u8], o: usize, at: usize) -> bool
-    requires { ⌜ (nextAt (now s) o ≤ length (now s)) × (nextAt (now s) at ≤ length (now s)) ⌝ }
-    ensures { λ r. ⌜ r ≡ same (entryIn (now (s .entry)) o .name) (entryIn (now (s .entry)) at .name) ⌝ }
-{
-    let len = byte_at(s, o);
-    if byte_at(s, at) != len {
-        return false;
-    }
-    same_bytes(s, o + 1, at + 1, len)
-}
-
-// Whether one of the first n entries has the name of the entry behind them.
-fn is_repeated(s: &[u8], n: usize, at: usize) -> bool
-    requires { ⌜ Reached (now s) n at × (nextAt (now s) at ≤ length (now s)) ⌝ }
-    ensures { λ r. ⌜ r ≡ namedBefore (entryIn (now (s .entry)) at .name) (namesIn n (now (s .entry)) 7) ⌝ }
-{
-    let mut left = n;
-    let mut o = 7usize;
-    while 0 < left {
-        if same_name(s, o, at) {
-            return true;
-        }
-        o += 7 + byte_at(s, o);
-        left -= 1;
-    }
-    false
-}
-
-// Whether the entry behind the first n is whole and meets the rules of refusal 18.
-fn is_good(s: &[u8], n: usize, at: usize) -> bool
-    requires { ⌜ Reached (now s) n at ⌝ }
-    ensures is { λ r. ⌜ r ≡ goodAt (namesIn n (now (s .entry)) 7) (drop at (now (s .entry))) ⌝ }
-    ensures whole { λ r. ⌜ (r ≡ true → nextAt (now (s .entry)) at ≤ length (now (s .entry))) ⌝ }
+// Whether the entry behind the first n is whole and meets the rules of refusal 18. Its name is then among those that were met.
+fn is_good(s: &[u8], n: usize, at: usize, nodes: &mut [u32]) -> bool
+    requires { ⌜ Reached (now s) n at × Seen (now s) (now nodes) n (namesIn n (now s) 7) × (4 * n + 4 ≤ length (now nodes)) × (n < 1000) ⌝ }
+    ensures { λ r. ⌜ GoodEntry (now (s .entry)) (now (nodes .entry)) n at r (now (nodes .exit)) ⌝ }
 {
     let left = s.len() - at;
     if left < 7 {
@@ -74,18 +43,18 @@ fn is_good(s: &[u8], n: usize, at: usize) -> bool
     if byte_at(s, sums + 1) == 255 {
         return false;
     }
-    !is_repeated(s, n, at)
+    add(s, nodes, n, at + 1, len)
 }
 
 // The walk over the entries.
-fn walk_entries(s: &[u8], count: usize) -> Walked
-    requires { ⌜ 7 ≤ length (now s) ⌝ }
+fn walk_entries(s: &[u8], count: usize, nodes: &mut [u32]) -> Walked
+    requires { ⌜ (7 ≤ length (now s)) × (count ≤ 1000) × Holds (now s) (now nodes) 0 × (4 * count ≤ length (now nodes)) ⌝ }
     ensures { λ r. ⌜ Walks (now (s .entry)) count r ⌝ }
 {
     let mut n = 0usize;
     let mut at = 7usize;
     while n < count {
-        if !is_good(s, n, at) {
+        if !is_good(s, n, at, nodes) {
             return Walked::Bad(at);
         }
         at += 7 + byte_at(s, at);
@@ -141,7 +110,8 @@ pub fn check(s: &[u8]) -> Found
         return Found::Refused(Refusal::Slip(0));
     }
     let count = word_at(s, 5);
-    match walk_entries(s, count) {
+    let mut nodes = [0u32; 4000];
+    match walk_entries(s, count, &mut nodes) {
         Walked::Bad(place) => Found::Refused(Refusal::Slip(place)),
         Walked::Good => judge_labels(s, count),
     }

@@ -5,7 +5,7 @@ use Prim.Native.Nat.{ℕ, zero, suc, _+_, _-_, _*_, _/_, _<_, _≤_}
 use native.Mathlib.Numerals.{add-one}
 use native.Mathlib.Omega.{arith}
 use mathlib.Core.Bool.{Bool, true, false}
-use mathlib.Core.List.{List, [], _∷_, _++_}
+use mathlib.Core.List.{List, [], _∷_}
 use mathlib.Core.Option.{some}
 use lib.Dec.{ltb}
 use lib.ListN.{length, drop, length-append}
@@ -15,12 +15,12 @@ use Rattle.shared_words.specs.declared.Refusal.the-variants.{Slip}
 use Rattle.shared_words.specs.Conditions.{Condition, broken}
 use Rattle.slip_rules.specs.declared.Numbers.{Numbers}
 use Rattle.slip_rules.specs.Slip.{behindName, entryBytes, allBytes, bytes}
-use Rattle.slip_rules.specs.Rules.{isNamed, sumsProper, notTwice, remember, limit}
+use Rattle.slip_rules.specs.Rules.{isNamed, sumsProper, notTwice, limit}
 use Rattle.slip_rules.specs.Calls.{entriesFrom, rowsIn, givenBytes, within, rowConditions}
 use Rattle.slip_rules.proofs.Tests.{all-hold, one-fails}
 use Rattle.slip_write_judge.specs.Rows.{rowNo, entryNo, rowsFrom, namesFrom, Inside, AllInside, goodRow}
 use Rattle.slip_write_judge.specs.Judged.{AllGood}
-use Rattle.slip_write_judge.proofs.Rows.{name-long}
+use Rattle.slip_write_judge.proofs.Rows.{name-long, names-then}
 
 -- ---- rows by their numbers are the rows given
 
@@ -35,20 +35,6 @@ pub given-rows : (s : List ℕ) → givenBytes s .rows ≡ rowsFrom (length s / 
 given-rows s = rows-are (length s / 16) s 0
 
 -- ---- the conditions of one row
-
--- the names of the first rows, and of one more
-names-more : (names : List ℕ) (k : ℕ) (s : List ℕ) (i : ℕ) → namesFrom names k s i ++ (entryNo names s (i + k) .name ∷ []) ≡ namesFrom names (suc k) s i
-names-more names zero s i =
-    let q : i + 0 ≡ i = omega arith in
-    rw q
-names-more names (suc k) s i =
-    let q : i + suc k ≡ suc i + k = omega arith in
-    ap (λ (x : List (List ℕ)). entryNo names s i .name ∷ x) (rw q (names-more names k s (suc i)))
-
-names-then : (names : List ℕ) (i : ℕ) (s : List ℕ) → remember (namesFrom names i s 0) (entryNo names s i) ≡ namesFrom names (suc i) s 0
-names-then names i s =
-    let q : 0 + i ≡ i = omega arith in
-    rw q at (names-more names i s 0)
 
 abbrev tests : List ℕ → List ℕ → ℕ → List Bool
 tests names s i =

@@ -1,17 +1,14 @@
--- Rows by their numbers: how one is read, and how its name is compared with earlier ones.
+-- Rows by their numbers: how one is read, its name, and the names of the first.
 use mathlib.Core.Path.{_≡_, sym, ap, _∙_}
-use Prim.Native.Nat.{ℕ, zero, suc, _+_, _-_, _*_, _<_, _≤_}
-use native.Mathlib.Numerals.{add-one}
+use Prim.Native.Nat.{ℕ, zero, suc, _+_, _*_, _≤_}
 use native.Mathlib.Omega.{arith}
-use mathlib.Core.Bool.{true, false}
-use mathlib.Core.List.{List}
+use mathlib.Core.List.{List, [], _∷_, _++_}
 use lib.ListN.{length, take, drop, length-drop}
 use lib.Seq.{length-take-le, drop-drop}
 use Rattle.shared_words.specs.Bytes.{value}
-use Rattle.shared_words.specs.Lists.{same}
 use Rattle.shared_numbers.specs.Numbers.{longAt}
 use Rattle.slip_rules.specs.declared.Numbers.{Numbers}
-use Rattle.slip_rules.specs.Rules.{namedBefore}
+use Rattle.slip_rules.specs.Rules.{remember}
 use Rattle.slip_rules.specs.Calls.{entryFrom}
 use Rattle.slip_write_judge.specs.Rows.{rowNo, entryNo, namesFrom}
 
@@ -37,13 +34,16 @@ row-is s i name len file sums a b c d =
 pub name-long : (names : List ℕ) (n : Numbers) → n .name + n .len ≤ length names → length (entryFrom names n .name) ≡ n .len
 name-long names n h = length-take-le (n .len) (drop (n .name) names) (omega (arith, length-drop (n .name) names))
 
-module _ (names s x : List ℕ) (i : ℕ) where
-  pub named-here : (k : ℕ) → 0 < k → same (entryNo names s i .name) x ≡ true → namedBefore x (namesFrom names k s i) ≡ true
-  named-here zero p e = absurd (omega arith)
-  named-here (suc k) p e = rw e
+-- the names of the first rows, and of one more
+names-more : (names : List ℕ) (k : ℕ) (s : List ℕ) (i : ℕ) → namesFrom names k s i ++ (entryNo names s (i + k) .name ∷ []) ≡ namesFrom names (suc k) s i
+names-more names zero s i =
+    let q : i + 0 ≡ i = omega arith in
+    rw q
+names-more names (suc k) s i =
+    let q : i + suc k ≡ suc i + k = omega arith in
+    ap (λ (x : List (List ℕ)). entryNo names s i .name ∷ x) (rw q (names-more names k s (suc i)))
 
-  pub named-on : (k : ℕ) → 0 < k → same (entryNo names s i .name) x ≡ false → namedBefore x (namesFrom names k s i) ≡ namedBefore x (namesFrom names (k - 1) s (i + 1))
-  named-on zero p e = absurd (omega arith)
-  named-on (suc k) p e =
-      let q : suc k - 1 ≡ k = omega arith in
-      rw (e, q, add-one i)
+pub names-then : (names : List ℕ) (i : ℕ) (s : List ℕ) → remember (namesFrom names i s 0) (entryNo names s i) ≡ namesFrom names (suc i) s 0
+names-then names i s =
+    let q : 0 + i ≡ i = omega arith in
+    rw q at (names-more names i s 0)

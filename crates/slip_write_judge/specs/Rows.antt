@@ -10,6 +10,7 @@ use Rattle.slip_rules.specs.Slip.{Entry}
 use Rattle.slip_rules.specs.Rules.{isNamed, sumsProper, notTwice, limit}
 use Rattle.slip_rules.specs.Conditions.{allOf}
 use Rattle.slip_rules.specs.Calls.{rowAt, entryFrom, within}
+use Rattle.slip_seen.specs.Seen.{Seen}
 
 -- the row of number i, and the entry that it stands for
 abbrev pub rowNo : List ℕ → ℕ → Numbers
@@ -41,9 +42,11 @@ goodRow names s i =
     ltb i limit ∷ within names (rowNo s i) ∷ isNamed (entryNo names s i) ∷ sumsProper (entryNo names s i) ∷
     notTwice (namesFrom names i s 0) (entryNo names s i) ∷ [])
 
--- and what the code promises of it
-pub record GoodRow (names s : List ℕ) (i : ℕ) (r : Bool) : Type 0 where
+-- and what the code promises of it; the name of a good one is in the tree
+pub record GoodRow (names s nodes : List ℕ) (i : ℕ) (r : Bool) (nodes′ : List ℕ) : Type 0 where
   pub is : r ≡ goodRow names s i
   pub inside : r ≡ true → Inside names s i
   pub short : r ≡ true → rowNo s i .len ≤ 255
   pub few : r ≡ true → i < limit
+  pub seen : r ≡ true → Seen names nodes′ (i + 1) (namesFrom names (i + 1) s 0)
+  pub room : length nodes′ ≡ length nodes

@@ -1,18 +1,19 @@
 // The judgement of the slip that is to be written: the first entry that is bad, or that there is too little room, or how
 // long the slip is. Nothing is written before all is judged.
 use shared_labels::fits_label;
-use shared_names::same_bytes;
+use shared_name_tree::add;
 use shared_numbers::long_at;
 use shared_words::Refusal;
 use shared_words::Written;
 use slip_rules::Numbers;
 ghost use mathlib.Core.Path.{_≡_};
-ghost use mathlib.Core.Bool.{true};
 ghost use Prim.Native.Nat.{_+_, _*_, _≤_};
 ghost use lib.ListN.{length};
-ghost use Rattle.shared_words.specs.Lists.{same, firstFault};
-ghost use Rattle.slip_rules.specs.Rules.{namedBefore, isLabelled};
-ghost use Rattle.slip_rules.specs.Calls.{entryFrom, entriesFrom, givenBytes};
+ghost use Rattle.shared_words.specs.Lists.{firstFault};
+ghost use Rattle.shared_name_tree.specs.Names.{Holds};
+ghost use Rattle.slip_rules.specs.Rules.{isLabelled};
+ghost use Rattle.slip_rules.specs.Calls.{entriesFrom, givenBytes};
+ghost use Rattle.slip_seen.specs.Seen.{Seen};
 ghost use Rattle.slip_write_judge.specs.Rows.{rowNo, rowsFrom, namesFrom, AllInside, GoodRow};
 ghost use Rattle.slip_write_judge.specs.Judged.{judged, JudgesRows};
 
@@ -36,36 +37,11 @@ pub fn row(entries: &[u8], i: usize) -> Numbers
     }
 }
 
-// Whether two rows have the same name.
-fn same_name(names: &[u8], a: Numbers, b: Numbers) -> bool
-    requires { ⌜ (a .name + a .len ≤ length (now names)) × (b .name + b .len ≤ length (now names)) ⌝ }
-    ensures { λ r. ⌜ r ≡ same (entryFrom (now (names .entry)) a .name) (entryFrom (now (names .entry)) b .name) ⌝ }
-{
-    if a.len != b.len {
-        return false;
-    }
-    same_bytes(names, a.name as usize, b.name as usize, a.len as usize)
-}
-
-// Whether one of the first n rows has the name of this one.
-fn is_repeated(names: &[u8], entries: &[u8], n: usize, it: Numbers) -> bool
-    requires { ⌜ (16 * n ≤ length (now entries)) × AllInside (now names) (now entries) n × (it .name + it .len ≤ length (now names)) ⌝ }
-    ensures { λ r. ⌜ r ≡ namedBefore (entryFrom (now (names .entry)) it .name) (namesFrom (now (names .entry)) n (now (entries .entry)) 0) ⌝ }
-{
-    let mut i = 0usize;
-    while i < n {
-        if same_name(names, row(entries, i), it) {
-            return true;
-        }
-        i += 1;
-    }
-    false
-}
-
-// Whether the row of number i breaks no rule, and is not one entry too many.
-fn is_good(names: &[u8], entries: &[u8], i: usize) -> bool
-    requires { ⌜ (16 * i + 16 ≤ length (now entries)) × AllInside (now names) (now entries) i ⌝ }
-    ensures { λ r. ⌜ GoodRow (now (names .entry)) (now (entries .entry)) i r ⌝ }
+// Whether the row of number i breaks no rule, and is not one entry too many. Its name is then among those in the tree.
+fn is_good(names: &[u8], entries: &[u8], i: usize, nodes: &mut [u32]) -> bool
+    requires { ⌜ (16 * i + 16 ≤ length (now entries)) × Seen (now names) (now nodes) i (namesFrom (now names) i (now entries) 0) ×
+        (4000 ≤ length (now nodes)) ⌝ }
+    ensures { λ r. ⌜ GoodRow (now (names .entry)) (now (entries .entry)) (now (nodes .entry)) i r (now (nodes .exit)) ⌝ }
 {
     if 1000 <= i {
         return false;
@@ -86,18 +62,19 @@ fn is_good(names: &[u8], entries: &[u8], i: usize) -> bool
     if 254 < it.sums / 256 {
         return false;
     }
-    !is_repeated(names, entries, i, it)
+    add(names, nodes, i, it.name as usize, it.len as usize)
 }
 
 // The judgement of the rows.
-fn judge_rows(names: &[u8], entries: &[u8]) -> Judged
+fn judge_rows(names: &[u8], entries: &[u8], nodes: &mut [u32]) -> Judged
+    requires { ⌜ Holds (now names) (now nodes) 0 × (4000 ≤ length (now nodes)) ⌝ }
     ensures { λ r. ⌜ JudgesRows (now (names .entry)) (now (entries .entry)) r ⌝ }
 {
     let n = entries.len() / 16;
     let mut size = 7usize;
     let mut i = 0usize;
     while i < n {
-        if !is_good(names, entries, i) {
+        if !is_good(names, entries, i, nodes) {
             return Judged::Bad(i);
         }
         size += 7 + row(entries, i).len as usize;
@@ -127,7 +104,8 @@ fn first_unfit(names: &[u8], entries: &[u8], n: usize) -> usize
 pub fn judge(names: &[u8], entries: &[u8], room: usize) -> Written
     ensures { λ r. ⌜ r ≡ judged (now (names .entry)) (givenBytes (now (entries .entry))) room ⌝ }
 {
-    match judge_rows(names, entries) {
+    let mut nodes = [0u32; 4000];
+    match judge_rows(names, entries, &mut nodes) {
         Judged::Bad(i) => Written::Refused(Refusal::Slip(i)),
         Judged::Good(size) => {
             if entries.len() % 16 != 0 {

@@ -98,7 +98,8 @@ fn judge_all_objects(
         (sumTo 5 2 (now objects) (length (now objects) / 5) ≤ length (now corners)) ⌝ }
     requires { ⌜ (2 * sumTo 5 4 (now objects) (length (now objects) / 5) ≤ length (now groups)) ×
         (sumTo 2 1 (now groups) (sumTo 5 4 (now objects) (length (now objects) / 5)) ≤ length (now faces)) ⌝ }
-    ensures { λ r. ⌜ r ≡ answered (objectsAsked (now (objects .entry)) (now (vertices .entry)) (now (corners .entry)) (now (groups .entry)) (now (faces .entry))) ⌝ }
+    ensures { λ r. ⌜ r ≡ answered (objectsAsked (now (objects .entry)) (now (vertices .entry)) (now (corners .entry)) (now (groups .entry))
+        (now (faces .entry))) ⌝ }
 {
     let n = objects.len() / 5;
     match judge_counts(objects, groups, n) {
@@ -143,7 +144,8 @@ pub fn judge_figure(
     colours: &[u8],
     room: usize,
 ) -> Written
-    ensures { λ r. ⌜ r ≡ judgedFlat (flat (now (names .entry)) (now (objects .entry)) (now (vertices .entry)) (now (corners .entry)) (now (smoothing .entry)) (now (groups .entry)) (now (faces .entry)) (now (materials .entry)) (now (colours .entry))) room ⌝ }
+    ensures { λ r. ⌜ r ≡ judgedFlat (flat (now (names .entry)) (now (objects .entry)) (now (vertices .entry)) (now (corners .entry)) (now (smoothing .entry))
+        (now (groups .entry)) (now (faces .entry)) (now (materials .entry)) (now (colours .entry))) room ⌝ }
 {
     match fits(
         names,

@@ -1,2 +1,4 @@
 pub mod Asked
 pub mod Judging
+pub mod Gathering
+pub mod Groups

@@ -1,18 +1,25 @@
 // The names of flat rows: zeros in them, whether they fit the label, whether they differ, and whether each group's is a
 // material's.
 use shared_labels::label_size;
-use shared_names::same_bytes;
+use shared_name_tree::add;
+use shared_name_tree::find;
+use shared_names::same_name;
 use shared_words::Refusal;
 use shared_words::Written;
 use studio_figure_rows::number;
 use studio_write_judge::first_zero;
 ghost use mathlib.Core.Path.{_≡_};
+ghost use mathlib.Core.Bool.{true};
 ghost use Prim.Native.Nat.{_+_, _*_, _<_, _≤_};
 ghost use lib.ListN.{length};
-ghost use Rattle.shared_words.specs.Lists.{same, firstFault};
+ghost use Rattle.shared_words.specs.Lists.{firstFault};
+ghost use Rattle.shared_name_tree.specs.Names.{nameOf, held, Holds};
 ghost use Rattle.studio_figure_rules.specs.Judged.{oneOf};
-ghost use Rattle.studio_figure_rows.specs.Rows.{sumTo, part};
-ghost use Rattle.studio_figure_names.specs.Names.{namesIn, nameAnswer, namesAnswer, differAnswer};
+ghost use Rattle.studio_figure_rows.specs.Rows.{sumTo, part, nameAt};
+ghost use Rattle.studio_figure_names.specs.Names.{namesIn, nameAnswer, namesAnswer, differAnswer, repeatedAnswer, Repeated, Blank, Gathered, ToldOf};
+
+// So many names are quicker compared with each other than put into a tree.
+const FEW: usize = 32;
 
 // Whether a name has a zero, or with `text` does not fit the label.
 fn judge_name(name: &[u8], text: bool) -> Written
@@ -61,17 +68,6 @@ pub fn judge_names(
     Written::Size(0)
 }
 
-// Whether two names are the same.
-fn same_name(names: &[u8], a: usize, m: usize, b: usize, n: usize) -> bool
-    requires { ⌜ (a + m ≤ length (now names)) × (b + n ≤ length (now names)) ⌝ }
-    ensures { λ r. ⌜ r ≡ same (part a m (now (names .entry))) (part b n (now (names .entry))) ⌝ }
-{
-    if m != n {
-        return false;
-    }
-    same_bytes(names, a, b, n)
-}
-
 // Whether a name, of `len` bytes at a position, is one of the first n of a row.
 fn is_one_of(
     names: &[u8],
@@ -98,22 +94,201 @@ fn is_one_of(
     false
 }
 
-// The first of the n names that an earlier one has too.
-pub fn judge_differ(names: &[u8], from: usize, row: &[u32], width: usize, n: usize) -> Written
+// The first of the n names that is among those before it, or n.
+fn first_repeated(names: &[u8], from: usize, row: &[u32], width: usize, n: usize) -> usize
     requires { ⌜ (0 < width) × (width * n ≤ length (now row)) × (from + sumTo width 0 (now row) n ≤ length (now names)) ⌝ }
-    ensures { λ r. ⌜ r ≡ differAnswer (namesIn width (now (row .entry)) (now (names .entry)) from n) ⌝ }
+    ensures { λ r. ⌜ Repeated (nameAt width (now (row .entry)) (now (names .entry)) from) n r ⌝ }
 {
     let mut at = from;
     let mut i = 0usize;
     while i < n {
         let len = number(row, width, 0, i);
         if is_one_of(names, from, row, width, i, at, len) {
-            return Written::Refused(Refusal::SameName(i));
+            return i;
         }
         at += len;
         i += 1;
     }
+    i
+}
+
+// The first of n groups whose name is none of the `count` names of a row, or n.
+fn first_other(
+    names: &[u8],
+    first: usize,
+    row: &[u32],
+    width: usize,
+    count: usize,
+    from: usize,
+    groups: &[u32],
+    n: usize,
+) -> usize
+    requires { ⌜ (0 < width) × (width * count ≤ length (now row)) × (first + sumTo width 0 (now row) count ≤ length (now names)) ⌝ }
+    requires { ⌜ (2 * n ≤ length (now groups)) × (from + sumTo 2 0 (now groups) n ≤ length (now names)) ⌝ }
+    ensures { λ r. ⌜ r ≡ firstFault (oneOf (namesIn width (now (row .entry)) (now (names .entry)) first count))
+        (namesIn 2 (now (groups .entry)) (now (names .entry)) from n) ⌝ }
+{
+    let mut at = from;
+    let mut i = 0usize;
+    while i < n {
+        let len = number(groups, 2, 0, i);
+        if !is_one_of(names, first, row, width, count, at, len) {
+            return i;
+        }
+        at += len;
+        i += 1;
+    }
+    i
+}
+
+// ---- the same, with a tree of the names
+
+// The first of n names into a tree, up to one that is there; how many.
+fn gather(
+    names: &[u8],
+    from: usize,
+    row: &[u32],
+    width: usize,
+    n: usize,
+    nodes: &mut [u32],
+) -> usize
+    requires { ⌜ (0 < width) × (width * n ≤ length (now row)) × (from + sumTo width 0 (now row) n ≤ length (now names)) ⌝ }
+    requires { ⌜ Blank (now names) (now nodes) n ⌝ }
+    ensures { λ r. ⌜ Gathered (now (names .entry)) (nameAt width (now (row .entry)) (now (names .entry)) from) n r (now (nodes .exit)) ⌝ }
+{
+    let mut at = from;
+    let mut i = 0usize;
+    while i < n {
+        let len = number(row, width, 0, i);
+        if !add(names, nodes, i, at, len) {
+            return i;
+        }
+        at += len;
+        i += 1;
+    }
+    i
+}
+
+// The first of n groups whose name is not in a tree of `count` names, or n.
+fn first_absent(
+    names: &[u8],
+    nodes: &[u32],
+    count: usize,
+    from: usize,
+    groups: &[u32],
+    n: usize,
+) -> usize
+    requires { ⌜ Holds (now names) (now nodes) count × (2 * n ≤ length (now groups)) × (from + sumTo 2 0 (now groups) n ≤ length (now names)) ⌝ }
+    ensures { λ r. ⌜ r ≡ firstFault (held (nameOf (now (names .entry)) (now (nodes .entry))) count)
+        (namesIn 2 (now (groups .entry)) (now (names .entry)) from n) ⌝ }
+{
+    let mut at = from;
+    let mut i = 0usize;
+    while i < n {
+        let len = number(groups, 2, 0, i);
+        if !find(names, nodes, count, at, len) {
+            return i;
+        }
+        at += len;
+        i += 1;
+    }
+    i
+}
+
+// What is asked of `count` names, and of n groups against them: the first name that is among those before it, and the first group
+// whose name is none of them; or how many there are.
+pub struct Told {
+    pub repeated: usize,
+    pub unnamed: usize,
+}
+
+// That, with a row for a tree of the names.
+fn tell_with(
+    names: &[u8],
+    first: usize,
+    row: &[u32],
+    width: usize,
+    count: usize,
+    from: usize,
+    groups: &[u32],
+    n: usize,
+    nodes: &mut [u32],
+) -> Told
+    requires { ⌜ (0 < width) × (width * count ≤ length (now row)) × (first + sumTo width 0 (now row) count ≤ length (now names)) ⌝ }
+    requires { ⌜ (2 * n ≤ length (now groups)) × (from + sumTo 2 0 (now groups) n ≤ length (now names)) ⌝ }
+    requires { ⌜ Blank (now names) (now nodes) count ⌝ }
+    ensures { λ r. ⌜ ToldOf (nameAt width (now (row .entry)) (now (names .entry)) first) count
+        (namesIn 2 (now (groups .entry)) (now (names .entry)) from n) r ⌝ }
+{
+    let repeated = gather(names, first, row, width, count, nodes);
+    if repeated < count {
+        let unnamed = first_other(names, first, row, width, count, from, groups, n);
+        return Told { repeated, unnamed };
+    }
+    let unnamed = first_absent(names, nodes, repeated, from, groups, n);
+    Told { repeated, unnamed }
+}
+
+// Whether a tree may hold so many names: no figure of 1,048,576 bytes has more, and a number of the row holds where each begins.
+fn is_for_tree(names: &[u8], count: usize) -> bool
+    ensures { λ r. ⌜ (r ≡ true → (count ≤ 36864) × (length (now (names .entry)) < 4294967296)) ⌝ }
+{
+    if 36864 < count {
+        return false;
+    }
+    names.len() < 4294967296
+}
+
+// That, for any names: those that are not for a tree are compared with each other. Where there are not many, a short row is enough,
+// which is quicker made. One function answers both questions, so that the long row is on the stack once, and for many names alone.
+fn tell(
+    names: &[u8],
+    first: usize,
+    row: &[u32],
+    width: usize,
+    count: usize,
+    from: usize,
+    groups: &[u32],
+    n: usize,
+) -> Told
+    requires { ⌜ (0 < width) × (width * count ≤ length (now row)) × (first + sumTo width 0 (now row) count ≤ length (now names)) ⌝ }
+    requires { ⌜ (2 * n ≤ length (now groups)) × (from + sumTo 2 0 (now groups) n ≤ length (now names)) ⌝ }
+    ensures { λ r. ⌜ ToldOf (nameAt width (now (row .entry)) (now (names .entry)) first) count
+        (namesIn 2 (now (groups .entry)) (now (names .entry)) from n) r ⌝ }
+{
+    if !is_for_tree(names, count) {
+        let repeated = first_repeated(names, first, row, width, count);
+        let unnamed = first_other(names, first, row, width, count, from, groups, n);
+        return Told { repeated, unnamed };
+    }
+    if count <= 1024 {
+        let mut few = [0u32; 4096];
+        return tell_with(names, first, row, width, count, from, groups, n, &mut few);
+    }
+    let mut nodes = [0u32; 147456];
+    tell_with(names, first, row, width, count, from, groups, n, &mut nodes)
+}
+
+// The answer by the first name that is among those before it.
+fn answer(repeated: usize, n: usize) -> Written
+    ensures { λ r. ⌜ r ≡ repeatedAnswer repeated n ⌝ }
+{
+    if repeated < n {
+        return Written::Refused(Refusal::SameName(repeated));
+    }
     Written::Size(0)
+}
+
+// The first of the n names that an earlier one has too. A few are compared with each other.
+pub fn judge_differ(names: &[u8], from: usize, row: &[u32], width: usize, n: usize) -> Written
+    requires { ⌜ (0 < width) × (width * n ≤ length (now row)) × (from + sumTo width 0 (now row) n ≤ length (now names)) ⌝ }
+    ensures { λ r. ⌜ r ≡ differAnswer (namesIn width (now (row .entry)) (now (names .entry)) from n) ⌝ }
+{
+    if n <= FEW {
+        return answer(first_repeated(names, from, row, width, n), n);
+    }
+    let told = tell(names, from, row, width, n, 0, row, 0);
+    answer(told.repeated, n)
 }
 
 // The first of n groups whose name no material has; where each has one, n.
@@ -127,17 +302,13 @@ pub fn first_unnamed(
 ) -> usize
     requires { ⌜ (first + sumTo 1 0 (now materials) (length (now materials)) ≤ length (now names)) × (2 * n ≤ length (now groups)) ×
         (from + sumTo 2 0 (now groups) n ≤ length (now names)) ⌝ }
-    ensures { λ r. ⌜ r ≡ firstFault (oneOf (namesIn 1 (now (materials .entry)) (now (names .entry)) first (length (now (materials .entry))))) (namesIn 2 (now (groups .entry)) (now (names .entry)) from n) ⌝ }
+    ensures { λ r. ⌜ r ≡ firstFault (oneOf (namesIn 1 (now (materials .entry)) (now (names .entry)) first (length (now (materials .entry)))))
+        (namesIn 2 (now (groups .entry)) (now (names .entry)) from n) ⌝ }
 {
-    let mut at = from;
-    let mut i = 0usize;
-    while i < n {
-        let len = number(groups, 2, 0, i);
-        if !is_one_of(names, first, materials, 1, materials.len(), at, len) {
-            return i;
-        }
-        at += len;
-        i += 1;
+    let count = materials.len();
+    if count <= FEW {
+        return first_other(names, first, materials, 1, count, from, groups, n);
     }
-    i
+    let told = tell(names, first, materials, 1, count, from, groups, n);
+    told.unnamed
 }

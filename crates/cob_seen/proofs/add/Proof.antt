@@ -26,8 +26,8 @@ same-length-2 : tie.Need-same-length-2
 same-length-2 c = search needs
 
 returns : tie.Need-returns
-returns c = record {
-  answer = ap (λ p. not (isAt p)) (sym (there (c .before .before .descend .ensures) (c .if1 .taken)));
+returns c = let a = c .before .before .before .before .before .before .before .args in record {
+  answer = ap (λ p. not (isAt p)) (sym (there (a .ids .now) (a .links .now) (c .before .before .descend .ensures) (c .if1 .taken)));
   new = λ e. absurd (false≢true e);
   old = λ e. (refl, refl);
 }
@@ -69,11 +69,11 @@ returns-2 c =
     let d = c .before .before .before .before .descend in
     let n = c .before .before .if1 .left in
     record {
-      answer = ap (λ p. not (isAt p)) (sym (nowhere (d .ensures) n));
+      answer = ap (λ p. not (isAt p)) (sym (nowhere (a .ids .now) (a .links .now) (d .ensures) n));
       new = λ e. (
         refl,
         subst (λ (b : ℕ). Represents (set (a .ids .now) (a .count) (a .x)) (set (a .links .now) (2 * d .result .at + b) (a .count)) (a .count + 1))
-            (sym (c .wide .ensures)) (grows (s .pre .tree) (d .ensures) n (omega arith) (omega arith)),
+            (sym (c .wide .ensures)) (grows (a .ids .now) (a .links .now) (d .ensures) n (s .pre .tree) (omega arith) (omega arith)),
       );
       old = λ e. absurd (true≢false e);
     }

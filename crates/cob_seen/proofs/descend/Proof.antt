@@ -3,8 +3,10 @@ use Prim.Native.Nat.{ℕ, _+_, _*_, _/_, _-_}
 use lib.ListN.{getD}
 use mathlib.Core.Path.{_≡_, sym, ap, subst, _∙_}
 use native.Mathlib.Omega.{arith}
-use Rattle.cob_seen.specs.Tree.{Comes, linkOf}
-use Rattle.cob_seen.proofs.Search.{bit, comes-start, comes-on}
+use Rattle.shared_tree.specs.Tree.{Comes, linkOf}
+use Rattle.shared_tree.proofs.Search.{comes-start, comes-on}
+use Rattle.cob_seen.specs.Tree.{bits, treeIn}
+use Rattle.cob_seen.proofs.Search.{bit}
 use Rattle.cob_seen.proofs.descend.Lts as lts
 use Rattle.cob_seen.proofs.descend.Reads as reads
 use Rattle.cob_seen.proofs.wide.Reads as wide-reads
@@ -12,13 +14,13 @@ use Rattle.cob_seen.proofs.descend.Statement.{statement}
 use Rattle.cob_seen.proofs.descend.Tie as tie
 
 abbrev Inv-loop : tie.InvT-loop
-Inv-loop ids links count x at₀ rest₀ at rest = Comes ids links count x at rest
+Inv-loop ids links count x at₀ rest₀ at rest = Comes bits (treeIn ids links) count x at rest
 
 abbrev μ-loop : tie.MeasureT-loop
 μ-loop ids links count x at₀ rest₀ at rest = count - at
 
 loop-holds : tie.Need-loop-holds Inv-loop μ-loop
-loop-holds c = comes-start (c .before .before .pre) (c .before .before .args .x)
+loop-holds c = comes-start (c .before .before .pre .tree) (c .before .before .pre .some) (c .before .before .args .x)
 
 mul-if1 : tie.Need-mul-if1 Inv-loop μ-loop
 mul-if1 c = omega (arith, c .loop .inv .node, c .before .before .before .pre .room)
@@ -48,8 +50,9 @@ abbrev calls : lts.Claims
 calls = (wide-reads.Asked, wide-reads.Learnt)
 
 link-is : (c : lts.After-wide2 calls reads.Pre reads.Post Inv-loop μ-loop) →
+    let s = c .before .before .before .before .before .before .before .before .args in
     let l = c .before .before .before .before .before .loop in
-    c .wide2 .result ≡ linkOf (c .before .before .before .before .before .before .before .before .args .links .now) (l .at) (l .rest)
+    c .wide2 .result ≡ linkOf bits (treeIn (s .ids .now) (s .links .now)) (l .at) (l .rest)
 link-is c =
     let x = c .before .before .before .before .before .before .before .before in
     let l = c .before .before .before .before .before .loop in
@@ -61,20 +64,20 @@ returns c = record { comes = c .before .before .before .before .before .before .
 further : (c : lts.Else2 calls reads.Pre reads.Post Inv-loop μ-loop) →
     let x = c .before .before .before .before .before .before .before .before .before .args in
     let l = c .before .before .before .before .before .before .loop in
-    Comes (x .ids .now) (x .links .now) (x .count) (x .x) (c .before .wide2 .result) (l .rest / 2)
+    Comes bits (treeIn (x .ids .now) (x .links .now)) (x .count) (x .x) (c .before .wide2 .result) (l .rest / 2)
 further c =
     let s = c .before .before .before .before .before .before .before .before .before in
     let l = c .before .before .before .before .before .before .loop in
     let q = link-is (c .before) in
-    subst (λ (k : ℕ). Comes (s .args .ids .now) (s .args .links .now) (s .args .count) (s .args .x) k (l .rest / 2)) (sym q)
-    (comes-on (s .pre) (l .inv) (c .before .before .before .before .if1 .taken) (omega (arith, c .if2 .left)))
+    subst (λ (k : ℕ). Comes bits (treeIn (s .args .ids .now) (s .args .links .now)) (s .args .count) (s .args .x) k (l .rest / 2)) (sym q)
+    (comes-on (s .pre .tree) (l .inv) (c .before .before .before .before .if1 .taken) (omega (arith, c .if2 .left)))
 
 loop-less : tie.Need-loop-less Inv-loop μ-loop
 loop-less c =
     let s = c .before .before .before .before .before .before .before .before .before in
     let l = c .before .before .before .before .before .before .loop in
     let q = link-is (c .before) in
-    omega (arith, l .inv .node, s .pre .rises (l .at) (l .rest) (l .inv .node) (omega (arith, c .if2 .left)))
+    omega (arith, l .inv .node, s .pre .tree .rises (l .at) (l .rest) (l .inv .node) (omega (arith, c .if2 .left)))
 
 loop-again : tie.Need-loop-again Inv-loop μ-loop
 loop-again c = further c

@@ -15,10 +15,10 @@ shared-slice-read-if1 : tie.Need-shared-slice-read-if1
 shared-slice-read-if1 c = search needs
 
 returns : tie.Need-returns
-returns c = sym (there (c .before .before .descend .ensures) (c .if1 .taken))
+returns c = let a = c .before .before .before .before .before .args in sym (there (a .ids .now) (a .links .now) (c .before .before .descend .ensures) (c .if1 .taken))
 
 returns-2 : tie.Need-returns-2
-returns-2 c = sym (nowhere (c .before .before .descend .ensures) (c .if1 .left))
+returns-2 c = let a = c .before .before .before .before .before .args in sym (nowhere (a .ids .now) (a .links .now) (c .before .before .descend .ensures) (c .if1 .left))
 
 pub find-spec : {M : Type 1} → statement M
 find-spec = tie.close (tie.spec descend-requires mul-if1 shared-slice-read-if1 returns returns-2)

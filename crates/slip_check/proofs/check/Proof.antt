@@ -1,10 +1,12 @@
 -- The parts of the verdict, one after another.
 use mathlib.Core.Path.{_≡_, sym, ap, _∙_, subst}
-use Prim.Native.Nat.{ℕ}
+use Prim.Native.Nat.{ℕ, _≤_}
 use native.Mathlib.Omega.{arith}
+use lib.ListN.{length-replicate}
 use borrow.Author.Tests.{not-true, not-false}
 use Rattle.shared_words.specs.declared.Refusal.{Refusal}
 use Rattle.shared_words.specs.declared.Refusal.the-variants.{Slip}
+use Rattle.shared_name_tree.proofs.Row.{holds-none}
 use Rattle.slip_rules.specs.declared.Found.{Found}
 use Rattle.slip_check.specs.declared.Walked.{Walked}
 use Rattle.slip_check.specs.Entries.{Whole, walkedAs}
@@ -33,8 +35,17 @@ word-at-requires c κs =
     let g = c .before .is-headed .ensures .1 (not-false _ (c .if1 .left)) in
     omega arith
 
+slice-aggregate-walk-entries : tie.Need-slice-aggregate-walk-entries
+slice-aggregate-walk-entries c = search needs
+
 walk-entries-requires : tie.Need-walk-entries-requires
-walk-entries-requires c κs = c .before .before .is-headed .ensures .1 (not-false _ (c .before .if1 .left))
+walk-entries-requires c κs =
+    let h = c .before .before .before .is-headed .ensures in
+    let e = not-false _ (c .before .before .if1 .left) in
+    let s = c .before .before .before .before .before .args .s .now in
+    let f = head-few s (sym (h .0) ∙ e) in
+    let n : c .before .word-at .result ≤ 1000 = omega (arith, c .before .word-at .ensures .is) in
+    (h .1 e, n, holds-none s 4000, omega (arith, length-replicate {A = ℕ} 4000 0))
 
 enum-known-place : tie.Need-enum-known-place
 enum-known-place c = search needs
@@ -44,8 +55,8 @@ enum-told c = search needs
 
 returns-2 : tie.Need-returns-2
 returns-2 c =
-    let walked = c .before .before .before in
-    let counted = walked .before in
+    let walked = c .before .before .before .before in
+    let counted = walked .before .before in
     let headed = counted .before in
     let s = headed .before .before .before .args .s .now in
     let n = counted .word-at .result in
@@ -58,12 +69,12 @@ returns-2 c =
     }
 
 judge-labels-requires : tie.Need-judge-labels-requires
-judge-labels-requires c κs = c .before .before .walk-entries .ensures .whole (c .enum-told .given .1)
+judge-labels-requires c κs = c .before .before .before .walk-entries .ensures .whole (c .enum-told .given .1)
 
 returns-3 : tie.Need-returns-3
 returns-3 c =
-    let walked = c .before .before .before in
-    let counted = walked .before in
+    let walked = c .before .before .before .before in
+    let counted = walked .before .before in
     let headed = counted .before in
     let s = headed .before .before .before .args .s .now in
     let n = counted .word-at .result in
@@ -86,6 +97,7 @@ check-spec =
     is-headed-requires
     returns
     word-at-requires
+    slice-aggregate-walk-entries
     walk-entries-requires
     enum-known-place
     enum-told

@@ -1,87 +1,34 @@
--- `studio_figure_names::judge_differ` meets its contract: the names that the loop has passed differ.
-use mathlib.Core.Path.{_≡_, sym, ap, _∙_}
-use Prim.Native.Nat.{ℕ, _+_, _-_, _≤_}
-use native.Mathlib.Omega.{arith}
-use Rattle.studio_figure_rules.specs.Judged.{oneOf}
-use Rattle.studio_figure_rows.specs.Rows.{sumTo, part, nameAt}
-use Rattle.studio_figure_rows.proofs.Runs.{stride, sum-next, sum-up, sum-inside}
-use Rattle.studio_figure_names.specs.Names.{namesIn}
-use Rattle.studio_figure_names.proofs.Judging.{Differing, differing-none, differing-on, differing-said, differing-end}
+-- `studio_figure_names::judge_differ` meets its contract: the answer is that by the first name that is there before.
+use mathlib.Core.Path.{_∙_}
+use borrow.Author.Needs.{needs}
 use Rattle.studio_figure_names.proofs.judge_differ.Statement.{statement}
 use Rattle.studio_figure_names.proofs.judge_differ.Tie as tie
 
-abbrev Inv-loop : tie.InvT-loop
-Inv-loop names from row width n at₀ i₀ at i = (i ≤ n) × (at ≡ from + sumTo width 0 row i) × Differing (nameAt width row names from) n i
+first-repeated-requires : tie.Need-first-repeated-requires
+first-repeated-requires c κs = search needs
 
-abbrev μ-loop : tie.MeasureT-loop
-μ-loop names from row width n at₀ i₀ at i = n - i
+answer-requires : tie.Need-answer-requires
+answer-requires c κs = search needs
 
-loop-holds : tie.Need-loop-holds Inv-loop μ-loop
-loop-holds c =
-    let a = c .before .before .args in
-    (omega arith, omega arith, differing-none (nameAt (a .width) (a .row .now) (a .names .now) (a .from)) (a .n))
+returns : tie.Need-returns
+returns c = c .answer .ensures ∙ c .before .first-repeated .ensures
 
-number-requires : tie.Need-number-requires Inv-loop μ-loop
-number-requires c κs =
-    let a = c .before .before .before .before .args in
-    (omega arith, omega (arith, stride (a .width) (c .before .loop .i) (a .n) (omega arith)))
+tell-requires : tie.Need-tell-requires
+tell-requires c κs = search needs
 
-is-one-of-requires : tie.Need-is-one-of-requires Inv-loop μ-loop
-is-one-of-requires c κs =
-    let a = c .before .before .before .before .before .args in
-    let up = sum-up (a .width) 0 (a .row .now) (c .before .before .loop .i) (a .n) (omega arith) in
-    (omega arith, omega (arith, stride (a .width) (c .before .before .loop .i) (a .n) (omega arith)), omega arith, omega (arith, c .number .ensures .0, sum-inside (a .width) 0 (a .row .now) (c .before .before .loop .i) (a .n) (omega arith)))
+answer-requires-2 : tie.Need-answer-requires-2
+answer-requires-2 c κs = search needs
 
-returns : tie.Need-returns Inv-loop μ-loop
-returns c =
-    let l = c .before .before .before .before .loop in
-    let a = c .before .before .before .before .before .before .before .args in
-    let others = namesIn (a .width) (a .row .now) (a .names .now) (a .from) (l .i) in
-    let e = ap (λ (k : ℕ). oneOf others (part k (c .before .before .number .result) (a .names .now))) (l .inv .1) in
-    let f = ap (λ (k : ℕ). oneOf others (part (a .from + sumTo (a .width) 0 (a .row .now) (l .i)) k (a .names .now))) (c .before .before .number .ensures .0) in
-    differing-said (nameAt (a .width) (a .row .now) (a .names .now) (a .from)) (a .n) (l .i) (omega arith) (l .inv .2) (sym (c .if1 .taken) ∙ c .before .is-one-of .ensures ∙ e ∙ f)
-
-add-at : tie.Need-add-at Inv-loop μ-loop
-add-at c =
-    let a = c .before .before .before .before .before .before .before .args in
-    omega (arith, c .before .before .number .ensures .0, sum-inside (a .width) 0 (a .row .now) (c .before .before .before .before .loop .i) (a .n) (omega arith))
-
-add-i : tie.Need-add-i Inv-loop μ-loop
-add-i c = omega arith
-
-loop-less : tie.Need-loop-less Inv-loop μ-loop
-loop-less c = omega arith
-
-loop-again : tie.Need-loop-again Inv-loop μ-loop
-loop-again c =
-    let l = c .before .before .before .before .loop in
-    let a = c .before .before .before .before .before .before .before .args in
-    let others = namesIn (a .width) (a .row .now) (a .names .now) (a .from) (l .i) in
-    let e = ap (λ (k : ℕ). oneOf others (part k (c .before .before .number .result) (a .names .now))) (l .inv .1) in
-    let f = ap (λ (k : ℕ). oneOf others (part (a .from + sumTo (a .width) 0 (a .row .now) (l .i)) k (a .names .now))) (c .before .before .number .ensures .0) in (
-      omega arith,
-      omega (arith, l .inv .1, c .before .before .number .ensures .0, sum-next (a .width) 0 (a .row .now) (l .i)),
-      differing-on (nameAt (a .width) (a .row .now) (a .names .now) (a .from)) (a .n) (l .i) (omega arith) (l .inv .2) (sym (c .if1 .left) ∙ c .before .is-one-of .ensures ∙ e ∙ f),
-    )
-
-returns-2 : tie.Need-returns-2 Inv-loop μ-loop
-returns-2 c =
-    let l = c .before .loop in
-    let a = c .before .before .before .before .args in
-    differing-end (nameAt (a .width) (a .row .now) (a .names .now) (a .from)) (a .n) (l .i) (omega arith) (l .inv .2)
+returns-2 : tie.Need-returns-2
+returns-2 c = c .answer2 .ensures ∙ c .before .tell .ensures .differ
 
 pub judge-differ-spec : {M : Type 1} → statement M
 judge-differ-spec =
     tie.close
     (tie.spec
-    Inv-loop
-    μ-loop
-    loop-holds
-    number-requires
-    is-one-of-requires
+    first-repeated-requires
+    answer-requires
     returns
-    add-at
-    add-i
-    loop-less
-    loop-again
+    tell-requires
+    answer-requires-2
     returns-2)

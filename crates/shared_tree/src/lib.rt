@@ -1,0 +1,1 @@
+// Nothing runs here: specs/ and proofs/ hold what digital search trees have in common.
