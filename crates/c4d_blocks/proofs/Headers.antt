@@ -15,7 +15,7 @@ use Rattle.shared_numbers.proofs.Slices.{drop-slice, take-slice, front-slice}
 use Rattle.shared_big_endian.proofs.At.{word-is, long-is}
 use Rattle.c4d_rules.specs.Blocks.{Header, width, identifier, told}
 use Rattle.c4d_rules.specs.Read.{blockAt}
-use Rattle.c4d_blocks.specs.Headers.{blockIn, overrun, Tells}
+use Rattle.c4d_blocks.specs.Headers.{blockIn, overrun, Tells, Headed}
 
 -- ---- a header of four bytes, read as one number
 
@@ -123,3 +123,9 @@ module _ (h : Header) (s : List ℕ) (at to : ℕ) (m : to ≤ length s) where
             len-is = q ∙ sym (body-long k);
             fits = k;
           }
+
+-- ---- the number that an object's header is read as
+
+-- four bytes hold it only where there is one
+pub head-there : {s : List ℕ} {at to head : ℕ} → Headed s at to head → head < 0x1_0000_0000 → at + 4 ≤ to
+head-there {s} {at} {to} {head} h k = let none : to < at + 4 → ⊥ = λ w. let e = h .none w in omega arith in omega arith

@@ -1,6 +1,6 @@
 -- Blocks by their positions in the file, as code steps over them.
 use mathlib.Core.Path.{_≡_}
-use Prim.Native.Nat.{ℕ, _+_, _≤_}
+use Prim.Native.Nat.{ℕ, _+_, _/_, _%_, _<_, _≤_}
 use mathlib.Core.List.{List}
 use mathlib.Core.Option.{Option, none, some}
 use lib.ListN.{length}
@@ -8,7 +8,7 @@ use lib.Seq.{slice}
 use Rattle.shared_words.specs.declared.Refusal.{Refusal}
 use Rattle.shared_words.specs.declared.Refusal.the-variants.{Overrun}
 use Rattle.shared_words.specs.Conditions.{broken}
-use Rattle.c4d_rules.specs.Blocks.{Block, Header, width, identifier, told}
+use Rattle.c4d_rules.specs.Blocks.{Block, Header, objectHeader, width, identifier, told}
 use Rattle.c4d_rules.specs.Read.{blockAt, blockConditions}
 use Rattle.c4d_blocks.specs.declared.Seen.{Seen}
 
@@ -31,3 +31,10 @@ pub record Tells (h : Header) (s : List ℕ) (at to id len : ℕ) : Type 0 where
 abbrev pub Sees : Header → List ℕ → ℕ → ℕ → Seen → Type 0
 Sees h s at to Seen.Cut = overrun h s at to ≡ some (Overrun at)
 Sees h s at to (Seen.Block id len) = Tells h s at to id len
+
+-- The number that an object's header at a position is read as. Where there is no room for one, it is more than four bytes can hold.
+pub record Headed (s : List ℕ) (at to head : ℕ) : Type 0 where
+  pub none : to < at + 4 → head ≡ 0x1_0000_0000
+  pub small : at + 4 ≤ to → head < 0x1_0000_0000
+  pub id-is : at + 4 ≤ to → head / 16777216 ≡ identifier objectHeader (blockIn objectHeader s at to .head)
+  pub told-is : at + 4 ≤ to → head % 16777216 ≡ told objectHeader (blockIn objectHeader s at to .head)

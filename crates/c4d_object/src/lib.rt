@@ -2,6 +2,7 @@
 // are noted, so that a list need not go over the sub-chunks again.
 use c4d_blocks::Seen;
 use c4d_blocks::object_at;
+use c4d_blocks::object_head;
 use c4d_held::Texture;
 use c4d_held::begun;
 use c4d_held::combined;
@@ -54,8 +55,9 @@ pub fn object(
     let mut at = from;
     let mut held = begun();
     let mut textures = 0usize;
+    let mut head = object_head(file, at, to);
     while at < to {
-        let Seen::Block(id, len) = object_at(file, at, to) else {
+        let Seen::Block(id, len) = object_at(head, at, to) else {
             return One::Refused(Refusal::Overrun(at));
         };
         // made at once, since position and size would take two registers
@@ -73,6 +75,7 @@ pub fn object(
         held = with_one(held, id);
         if id != T_TEXTURE {
             at = next;
+            head = object_head(file, at, to);
             continue;
         }
         match judge_texture(file, at, len, below) {
@@ -86,6 +89,7 @@ pub fn object(
         textures += 1;
         // a texture has 64 bytes: the next step need not wait for its size
         at += 68;
+        head = object_head(file, at, to);
     }
     One::Refused(Refusal::Order(chunk))
 }

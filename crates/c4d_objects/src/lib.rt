@@ -1,6 +1,7 @@
 // OBJ5: its objects one after another. What a list needs of them is noted, so that it need not go over the sub-chunks again.
 use c4d_blocks::Seen;
 use c4d_blocks::object_at;
+use c4d_blocks::object_head;
 use c4d_held::Outside;
 use c4d_held::judge_outside;
 use c4d_object::One;
@@ -58,8 +59,9 @@ pub fn objects(file: &[u8], chunk: usize, to: usize, below: usize, notes: &mut [
     let mut count = 0usize;
     let mut textures = 0usize;
     let mut row = 0usize;
+    let mut head = object_head(file, at, to);
     while at < to {
-        let Seen::Block(id, len) = object_at(file, at, to) else {
+        let Seen::Block(id, len) = object_at(head, at, to) else {
             return Tally::Refused(Refusal::Overrun(at));
         };
         let next = at + (4 + len);
@@ -68,6 +70,7 @@ pub fn objects(file: &[u8], chunk: usize, to: usize, below: usize, notes: &mut [
                 return Tally::Refused(r);
             }
             at = next;
+            head = object_head(file, at, to);
             continue;
         }
         match object(file, chunk, next, to, below, row, notes) {
@@ -81,6 +84,7 @@ pub fn objects(file: &[u8], chunk: usize, to: usize, below: usize, notes: &mut [
             }
         }
         count += 1;
+        head = object_head(file, at, to);
     }
     Tally::Count(count, textures)
 }

@@ -8,7 +8,8 @@ use lib.ListN.{length}
 use Rattle.c4d_rules.specs.Blocks.{objectHeader}
 use Rattle.c4d_rules.specs.Kinds.{tTexture}
 use Rattle.c4d_rules.specs.Rules.{identifiers}
-use Rattle.c4d_blocks.specs.Headers.{blockIn, Tells, Sees}
+use Rattle.c4d_blocks.specs.Headers.{blockIn, Tells, Sees, Headed}
+use Rattle.c4d_blocks.proofs.Headers.{head-there}
 use Rattle.c4d_held.specs.declared.Texture.{Texture}
 use Rattle.c4d_held.specs.Held.{lastOf, Is, TextureIs}
 use Rattle.c4d_object.proofs.Ahead.{block-is, cut, open-at-end}
@@ -18,10 +19,11 @@ use Rattle.c4d_object.proofs.object.Statement.{statement}
 use Rattle.c4d_object.proofs.object.Tie as tie
 
 abbrev Inv-loop : tie.InvT-loop
-Inv-loop file chunk from to below row notes₀ at₀ held₀ textures₀ notes at held textures = Reading file (lastOf below) chunk from to row notes₀ notes at held textures
+Inv-loop file chunk from to below row notes₀ at₀ held₀ textures₀ head₀ notes at held textures head =
+    Reading file (lastOf below) chunk from to row notes₀ notes at held textures × Headed file at to head
 
 abbrev μ-loop : tie.MeasureT-loop
-μ-loop file chunk from to below row notes₀ at₀ held₀ textures₀ notes at held textures = to - at
+μ-loop file chunk from to below row notes₀ at₀ held₀ textures₀ head₀ notes at held textures head = to - at
 
 -- ---- a sub-chunk is there, and whole
 
@@ -29,25 +31,25 @@ abbrev Here : Type 0
 Here = tie.After-known-told Inv-loop μ-loop
 
 abbrev file : Here → List ℕ
-file d = d .before .before .before .before .before .before .before .before .before .args .file .now
+file d = d .before .before .before .before .before .before .before .before .before .before .args .file .now
 
 abbrev chunk : Here → ℕ
-chunk d = d .before .before .before .before .before .before .before .before .before .args .chunk
+chunk d = d .before .before .before .before .before .before .before .before .before .before .args .chunk
 
 abbrev from : Here → ℕ
-from d = d .before .before .before .before .before .before .before .before .before .args .from
+from d = d .before .before .before .before .before .before .before .before .before .before .args .from
 
 abbrev to : Here → ℕ
-to d = d .before .before .before .before .before .before .before .before .before .args .to
+to d = d .before .before .before .before .before .before .before .before .before .before .args .to
 
 abbrev last : Here → Option ℕ
-last d = lastOf (d .before .before .before .before .before .before .before .before .before .args .below)
+last d = lastOf (d .before .before .before .before .before .before .before .before .before .before .args .below)
 
 abbrev row : Here → ℕ
-row d = d .before .before .before .before .before .before .before .before .before .args .row
+row d = d .before .before .before .before .before .before .before .before .before .before .args .row
 
 abbrev notes₀ : Here → List ℕ
-notes₀ d = d .before .before .before .before .before .before .before .before .before .args .notes .now
+notes₀ d = d .before .before .before .before .before .before .before .before .before .before .args .notes .now
 
 abbrev at : Here → ℕ
 at d = d .before .before .before .before .before .loop .at
@@ -59,16 +61,19 @@ abbrev len : Here → ℕ
 len d = d .before .id .given .0 .1 .0
 
 kept : (d : Here) → to d ≤ length (file d)
-kept d = d .before .before .before .before .before .before .before .before .before .pre .1
+kept d = d .before .before .before .before .before .before .before .before .before .before .pre .1
 
 left : (d : Here) → at d < to d
 left d = omega arith
 
 reading : (d : Here) → Reading (file d) (last d) (chunk d) (from d) (to d) (row d) (notes₀ d) (d .before .before .before .before .before .loop .notes) (at d) (d .before .before .before .before .before .loop .held) (d .before .before .before .before .before .loop .textures)
-reading d = d .before .before .before .before .before .loop .inv
+reading d = d .before .before .before .before .before .loop .inv .0
+
+headed : (d : Here) → Headed (file d) (at d) (to d) (d .before .before .before .before .before .loop .head)
+headed d = d .before .before .before .before .before .loop .inv .1
 
 told : (d : Here) → Tells objectHeader (file d) (at d) (to d) (id d) (len d)
-told d = subst (Sees objectHeader (file d) (at d) (to d)) (d .before .id .given .1) (d .before .before .before .object-at .ensures)
+told d = subst (Sees objectHeader (file d) (at d) (to d)) (d .before .id .given .1) (d .before .before .before .object-at .ensures (file d) (kept d) (headed d))
 
 -- ---- it is a texture, which has been judged
 
@@ -84,13 +89,18 @@ judged d q =
 begun-requires : tie.Need-begun-requires Inv-loop μ-loop
 begun-requires c κs = search needs
 
+object-head-requires : tie.Need-object-head-requires Inv-loop μ-loop
+object-head-requires c κs = let p = c .before .before .before .pre in (p .0, p .1)
+
 loop-holds : tie.Need-loop-holds Inv-loop μ-loop
 loop-holds c =
-    let a = c .before .before .before .args in
-    reading-none (a .file .now) (lastOf (a .below)) (a .chunk) (a .from) (a .to) (a .row) (a .notes .now) (c .begun .result) (c .begun .ensures) (c .before .before .before .pre .0)
+    let a = c .before .before .before .before .args in (
+      reading-none (a .file .now) (lastOf (a .below)) (a .chunk) (a .from) (a .to) (a .row) (a .notes .now) (c .before .begun .result) (c .before .begun .ensures) (c .before .before .before .before .pre .0),
+      c .object-head .ensures,
+    )
 
 object-at-requires : tie.Need-object-at-requires Inv-loop μ-loop
-object-at-requires c κs = (c .before .loop .inv .within, c .before .before .before .before .before .pre .1)
+object-at-requires c κs = let i = c .before .loop .inv in (i .0 .within, head-there (i .1))
 
 enum-known-id : tie.Need-enum-known-id Inv-loop μ-loop
 enum-known-id c = search needs
@@ -99,14 +109,15 @@ enum-told : tie.Need-enum-told Inv-loop μ-loop
 enum-told c = search needs
 
 same-length : tie.Need-same-length Inv-loop μ-loop
-same-length c = c .before .before .before .before .loop .inv .same-long
+same-length c = c .before .before .before .before .loop .inv .0 .same-long
 
 returns : tie.Need-returns Inv-loop μ-loop
 returns c = λ begun.
-    let a = c .before .before .before .before .before .before .before .before .args in
+    let a = c .before .before .before .before .before .before .before .before .before .args in
+    let p = c .before .before .before .before .before .before .before .before .before .pre in
     let l = c .before .before .before .before .loop in
-    let e = subst (Sees objectHeader (a .file .now) (l .at) (a .to)) (c .enum-told .given .1) (c .before .before .object-at .ensures) in
-    l .inv .goes begun ∙ cut (a .file .now) (lastOf (a .below)) (a .chunk) (a .to) (c .before .before .before .before .before .before .before .before .pre .1) begun (some (l .inv .blocks)) (l .at) (omega arith) e
+    let e = subst (Sees objectHeader (a .file .now) (l .at) (a .to)) (c .enum-told .given .1) (c .before .before .object-at .ensures (a .file .now) (p .1) (l .inv .1)) in
+    l .inv .0 .goes begun ∙ cut (a .file .now) (lastOf (a .below)) (a .chunk) (a .to) (p .1) begun (some (l .inv .0 .blocks)) (l .at) (omega arith) e
 
 add-next : tie.Need-add-next Inv-loop μ-loop
 add-next c = omega (arith, told c .fits, kept c)
@@ -150,19 +161,25 @@ with-one-requires c κs =
     let x = c .before .before in
     present-small (file x) (last x) (chunk x) (from x) (to x) (row x) (notes₀ x) (reading x)
 
+object-head-requires-2 : tie.Need-object-head-requires-2 Inv-loop μ-loop
+object-head-requires-2 c κs = let x = c .before .before .before .before in (told x .fits, kept x)
+
 loop-less : tie.Need-loop-less Inv-loop μ-loop
-loop-less c = let x = c .before .before .before .before in omega (arith, told x .fits, left x)
+loop-less c = let x = c .before .before .before .before .before in omega (arith, told x .fits, left x)
 
 loop-again : tie.Need-loop-again Inv-loop μ-loop
 loop-again c =
-    let x = c .before .before .before .before in
-    another (file x) (last x) (chunk x) (from x) (to x) (row x) (notes₀ x) (reading x) (kept x) (left x) (id x) (len x) (told x) (c .before .before .before .if1 .left) (c .before .before .if3 .left)
-    (c .before .with-one .result) (c .before .with-one .ensures) (c .if4 .taken)
+    let x = c .before .before .before .before .before in
+    let d = c .before in (
+      another (file x) (last x) (chunk x) (from x) (to x) (row x) (notes₀ x) (reading x) (kept x) (left x) (id x) (len x) (told x) (d .before .before .before .if1 .left) (d .before .before .if3 .left)
+          (d .before .with-one .result) (d .before .with-one .ensures) (d .if4 .taken),
+      c .object-head2 .ensures,
+    )
 
 judge-texture-requires : tie.Need-judge-texture-requires Inv-loop μ-loop
 judge-texture-requires c κs =
     let x = c .before .before .before .before in
-    (omega (arith, told x .fits, kept x), x .before .before .before .before .before .before .before .before .before .pre .2)
+    (omega (arith, told x .fits, kept x), x .before .before .before .before .before .before .before .before .before .before .pre .2)
 
 enum-known-r : tie.Need-enum-known-r Inv-loop μ-loop
 enum-known-r c = search needs
@@ -188,10 +205,10 @@ room d =
     omega (arith, told x .fits)
 
 add-note : tie.Need-add-note Inv-loop μ-loop
-add-note c = let x = c .before .before .before .before .before .before .before .before in omega (arith, kept x, x .before .before .before .before .before .before .before .before .before .pre .3, left x, x .before .before .before .before .before .before .before .before .before .pre .0)
+add-note c = let x = c .before .before .before .before .before .before .before .before in omega (arith, kept x, x .before .before .before .before .before .before .before .before .before .before .pre .3, left x, x .before .before .before .before .before .before .before .before .before .before .pre .0)
 
 add-note-2 : tie.Need-add-note-2 Inv-loop μ-loop
-add-note-2 c = let x = c .before .before .before .before .before .before .before .before in omega (arith, kept x, x .before .before .before .before .before .before .before .before .before .pre .3, left x, reading x .passed)
+add-note-2 c = let x = c .before .before .before .before .before .before .before .before in omega (arith, kept x, x .before .before .before .before .before .before .before .before .before .before .pre .3, left x, reading x .passed)
 
 note-requires : tie.Need-note-requires Inv-loop μ-loop
 note-requires c κs = judged (c .before .before .before .before) (c .before .before .material .given .1) .3
@@ -202,26 +219,32 @@ add-textures c = let x = c .before .before .before .before .before .before .befo
 add-at : tie.Need-add-at Inv-loop μ-loop
 add-at c = let x = c .before .before .before .before .before .before .before .before .before .before .before .before in omega (arith, room (c .before .before .before .before), kept x)
 
+object-head-requires-3 : tie.Need-object-head-requires-3 Inv-loop μ-loop
+object-head-requires-3 c κs = (room (c .before .before .before .before), kept (c .before .before .before .before .before .before .before .before .before .before .before .before))
+
 loop-less-2 : tie.Need-loop-less-2 Inv-loop μ-loop
-loop-less-2 c = let x = c .before .before .before .before .before .before .before .before .before .before .before .before in omega (arith, room (c .before .before .before .before), left x)
+loop-less-2 c = let x = c .before .before .before .before .before .before .before .before .before .before .before .before .before in omega (arith, room (c .before .before .before .before .before), left x)
 
 loop-again-2 : tie.Need-loop-again-2 Inv-loop μ-loop
 loop-again-2 c =
-    let x = c .before .before .before .before .before .before .before .before .before .before .before .before in
-    let g = c .before .before .before .before .before .material .given in
-    let d = c .before .before .before .before .before .before .before in
-    textured (file x) (last x) (chunk x) (from x) (to x) (row x) (notes₀ x) (reading x) (kept x) (left x) (id x) (len x) (told x) (d .before .before .before .before .if1 .left) (d .before .before .before .if3 .left)
-    (d .before .before .with-one .result) (d .before .before .with-one .ensures) (d .before .if4 .left) (g .0 .0) (judged d (g .1)) (c .before .notes .given) (x .before .before .before .before .before .before .before .before .before .pre .3) (c .before .before .note .ensures)
+    let x = c .before .before .before .before .before .before .before .before .before .before .before .before .before in
+    let g = c .before .before .before .before .before .before .material .given in
+    let d = c .before .before .before .before .before .before .before .before in
+    let n = c .before .before in (
+      textured (file x) (last x) (chunk x) (from x) (to x) (row x) (notes₀ x) (reading x) (kept x) (left x) (id x) (len x) (told x) (d .before .before .before .before .if1 .left) (d .before .before .before .if3 .left)
+          (d .before .before .with-one .result) (d .before .before .with-one .ensures) (d .before .if4 .left) (g .0 .0) (judged d (g .1)) (n .notes .given) (x .before .before .before .before .before .before .before .before .before .before .pre .3) (n .before .note .ensures),
+      c .object-head3 .ensures,
+    )
 
 same-length-6 : tie.Need-same-length-6 Inv-loop μ-loop
-same-length-6 c = c .before .loop .inv .same-long
+same-length-6 c = c .before .loop .inv .0 .same-long
 
 returns-6 : tie.Need-returns-6 Inv-loop μ-loop
 returns-6 c = λ begun.
-    let a = c .before .before .before .before .before .args in
+    let a = c .before .before .before .before .before .before .args in
     let l = c .before .loop in
-    let w = l .inv .within in
-    l .inv .goes begun ∙ open-at-end (a .file .now) (lastOf (a .below)) (a .chunk) (a .to) (c .before .before .before .before .before .pre .1) begun (l .inv .blocks) (l .at) (omega arith)
+    let w = l .inv .0 .within in
+    l .inv .0 .goes begun ∙ open-at-end (a .file .now) (lastOf (a .below)) (a .chunk) (a .to) (c .before .before .before .before .before .before .pre .1) begun (l .inv .0 .blocks) (l .at) (omega arith)
 
 pub object-spec : {M : Type 1} → statement M
 object-spec =
@@ -230,6 +253,7 @@ object-spec =
     Inv-loop
     μ-loop
     begun-requires
+    object-head-requires
     loop-holds
     object-at-requires
     enum-known-id
@@ -246,6 +270,7 @@ object-spec =
     same-length-4
     returns-4
     with-one-requires
+    object-head-requires-2
     loop-less
     loop-again
     judge-texture-requires
@@ -258,6 +283,7 @@ object-spec =
     note-requires
     add-textures
     add-at
+    object-head-requires-3
     loop-less-2
     loop-again-2
     same-length-6
