@@ -1,5 +1,5 @@
 -- The two parts of the header, and what is left behind it.
-use Prim.Native.Nat.{_+_, _/_, _%_, _<_, _≤_}
+use Prim.Native.Nat.{_+_, _/_, _%_, _≤_}
 use native.Mathlib.Omega.{arith}
 use Rattle.c4d_rules.specs.Blocks.{objectHeader}
 use Rattle.c4d_blocks.proofs.Headers.{cut-head, cut-body, is-whole}
