@@ -2,7 +2,7 @@
 use mathlib.Core.Path.{_≡_, _∙_, subst}
 use mathlib.Core.List.{List, []}
 use mathlib.Core.Option.{Option, some}
-use Prim.Native.Nat.{ℕ, _+_, _-_, _<_, _≤_}
+use Prim.Native.Nat.{ℕ, _+_, _-_, _*_, _<_, _≤_}
 use native.Mathlib.Omega.{arith}
 use lib.ListN.{length}
 use Rattle.c4d_rules.specs.Blocks.{objectHeader}
@@ -62,6 +62,13 @@ len d = d .before .id .given .0 .1 .0
 
 kept : (d : Here) → to d ≤ length (file d)
 kept d = d .before .before .before .before .before .before .before .before .before .before .pre .1
+
+begins : (d : Here) → from d ≤ to d
+begins d = d .before .before .before .before .before .before .before .before .before .before .pre .0
+
+-- there are notes before it for at most eight bytes each
+noted : (d : Here) → 8 * row d + 4 ≤ from d
+noted d = d .before .before .before .before .before .before .before .before .before .before .pre .3
 
 left : (d : Here) → at d < to d
 left d = omega arith
@@ -205,10 +212,10 @@ room d =
     omega (arith, told x .fits)
 
 add-note : tie.Need-add-note Inv-loop μ-loop
-add-note c = let x = c .before .before .before .before .before .before .before .before in omega (arith, kept x, x .before .before .before .before .before .before .before .before .before .before .pre .3, left x, x .before .before .before .before .before .before .before .before .before .before .pre .0)
+add-note c = let x = c .before .before .before .before .before .before .before .before in omega (arith, kept x, noted x, left x, begins x)
 
 add-note-2 : tie.Need-add-note-2 Inv-loop μ-loop
-add-note-2 c = let x = c .before .before .before .before .before .before .before .before in omega (arith, kept x, x .before .before .before .before .before .before .before .before .before .before .pre .3, left x, reading x .passed)
+add-note-2 c = let x = c .before .before .before .before .before .before .before .before in omega (arith, kept x, noted x, left x, reading x .passed)
 
 note-requires : tie.Need-note-requires Inv-loop μ-loop
 note-requires c κs = judged (c .before .before .before .before) (c .before .before .material .given .1) .3
@@ -232,7 +239,7 @@ loop-again-2 c =
     let d = c .before .before .before .before .before .before .before .before in
     let n = c .before .before in (
       textured (file x) (last x) (chunk x) (from x) (to x) (row x) (notes₀ x) (reading x) (kept x) (left x) (id x) (len x) (told x) (d .before .before .before .before .if1 .left) (d .before .before .before .if3 .left)
-          (d .before .before .with-one .result) (d .before .before .with-one .ensures) (d .before .if4 .left) (g .0 .0) (judged d (g .1)) (n .notes .given) (x .before .before .before .before .before .before .before .before .before .before .pre .3) (n .before .note .ensures),
+          (d .before .before .with-one .result) (d .before .before .with-one .ensures) (d .before .if4 .left) (g .0 .0) (judged d (g .1)) (n .notes .given) (noted x) (n .before .note .ensures),
       c .object-head3 .ensures,
     )
 
