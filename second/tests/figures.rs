@@ -2,7 +2,7 @@
 //! place and against those it comes before; asked of both sides.
 
 mod common;
-use common::{chunk, counts, faces, figure, vertices, words};
+use common::{alike, chunk, counts, faces, figure, vertices, words};
 use second::boundary::{refused, Boundary, Figures, Right, Rows, Second};
 use second::LIMIT;
 
@@ -208,6 +208,35 @@ fn names_are_all_different() {
         write(&[plain("a"), plain("A"), plain("")], &["a", "A", ""]),
         12 + 3 * 29 + 2 + 3 * 58 + 2
     );
+}
+
+/// Many names: alike to whoever looks them up by a number, or each the
+/// beginning of the next.
+#[test]
+fn many_names() {
+    fn plain(name: &String) -> Object<'_> {
+        (name, &[], &[], &[], &[])
+    }
+    let longer = (0..64).map(|size| "n".repeat(size)).collect();
+    for mut names in [alike(33), alike(512), longer] {
+        let last = names.len() - 1;
+        let size: usize = names.iter().map(|name| 29 + name.len()).sum();
+        let objects: Vec<Object> = names.iter().map(plain).collect();
+        assert_eq!(write(&objects, &[]), 12 + size as u64);
+        let materials: Vec<&str> = names.iter().map(|name| &name[..]).collect();
+        for named in [0, 7, last] {
+            let groups: [(&str, &[u16]); 1] = [(materials[named], &[])];
+            let object: Object = ("o", &[], &[], &[], &groups);
+            assert!(write(&[object], &materials) < LIMIT as u64, "{named}");
+            let others = [&materials[..named], &materials[named + 1..]].concat();
+            assert_eq!(write(&[object], &others), refused(30, 0), "{named}");
+        }
+        for first in [0, 7, last - 1] {
+            names[last] = names[first].clone();
+            let objects: Vec<Object> = names.iter().map(plain).collect();
+            assert_eq!(write(&objects, &[]), refused(29, last), "{first}");
+        }
+    }
 }
 
 #[test]

@@ -1,6 +1,8 @@
 //! The slip in the house manner: hand-made slips read and written, and each
 //! refusal with its place; asked of both sides.
 
+mod common;
+use common::alike;
 use second::boundary::{refused, Right, Second, Slips, ENTRY_BYTES};
 use second::{Entry, MOST_ENTRIES};
 
@@ -187,6 +189,25 @@ fn a_thousand_entries_and_one_more() {
     entries[5][1] = 2;
     entries[999][0] = 0;
     assert_eq!(write(&names, &entries), refused(18, 999));
+}
+
+/// To whoever looks names up by a number they are alike.
+#[test]
+fn names_that_are_alike() {
+    let names = alike(512).concat().into_bytes();
+    let mut entries: Vec<[u32; 4]> = (0..512).map(|k| [63 * k, 63, k, 0]).collect();
+    let known = bytes(&entries);
+    let (answer, slip) = both(40_000, |side, out| side.slip_write(&names, &known, out));
+    assert_eq!(answer, 7 + 512 * 70);
+    assert_eq!(read(&slip[..7 + 512 * 70]), 512);
+    for first in [0, 7, 510] {
+        entries[511][0] = 63 * first;
+        assert_eq!(write(&names, &entries), refused(18, 511), "{first}");
+        let mut slip = slip[..7 + 512 * 70].to_vec();
+        let name = 8 + 70 * first as usize;
+        slip.copy_within(name..name + 63, 8 + 70 * 511);
+        assert_eq!(read(&slip), refused(18, 7 + 70 * 511), "{first}");
+    }
 }
 
 /// At most 63 bytes, each from 32 to 126, after all of 18.

@@ -161,7 +161,7 @@ pub fn pass_over(file: &[u8], table: &[u64; 128], at: usize, end: usize) -> usiz
         let Header::Is { id, stop } = read_header(file, o, end) else {
             return o;
         };
-        if studio_lookup::row(table, id) != 0 {
+        if studio_lookup::is_listed(table, id) {
             return o;
         }
         o = stop;

@@ -1,4 +1,4 @@
--- The slot of an identifier has its row: two tests, one computed over the rows and one over the slots.
+-- The slot of an identifier has its row, and no slot has an unlisted one: tests computed over the rows and over the slots.
 use mathlib.Core.Path.{_≡_, refl, sym, _∙_}
 use mathlib.Core.Bool.{Bool, true, false, _||_, cond}
 use Prim.Native.Nat.{ℕ, _%_, _^_, _<_}
@@ -11,20 +11,22 @@ use Rattle.studio_rules.specs.Table.{rows, limits, atMostOne, listed}
 use Rattle.studio_rules.proofs.Rows.{everyId, listed-every}
 use Rattle.studio_row.specs.Packed.{places, rowOf}
 use Rattle.studio_row.proofs.Facts.{row-of-unlisted}
-use Rattle.studio_lookup.specs.Slots.{slots, place, idIn, rowIn, found}
+use Rattle.studio_lookup.specs.Slots.{slots, place, slotOf, free, idIn, rowIn, found}
 use Rattle.studio_lookup.proofs.Entries.{at}
-
-abbrev slotOf : ℕ → ℕ
-slotOf x = getD slots (place x) 0
 
 -- each identifier of the table is found in its place
 rows-test : everyId (λ x. eqb (found (slotOf x) x) (rowOf x)) rows ≡ true
 unfolding rows every places limits atMostOne rowOf slots
 rows-test = refl
 
+-- and stands there
+ids-test : everyId (λ x. idIn (slotOf x) x) rows ≡ true
+unfolding rows every places limits atMostOne rowOf slots
+ids-test = refl
+
 -- what stands in a slot is an identifier of the table, or none
 abbrev owned : ℕ → ℕ → Bool
-owned k s = listed (s % 2 ^ 20) || eqb (rowIn s) 0
+owned k s = listed (s % 2 ^ 20) || eqb s free
 
 owned-at : (k : ℕ) → k < length slots → T (owned k (getD slots k 0))
 unfolding slots rows listed places limits atMostOne rowOf
@@ -38,19 +40,35 @@ slots-length : length slots ≡ 128
 unfolding slots
 slots-length = refl
 
+-- a slot with an identifier that is not listed is free
+free-slot : (x : ℕ) → listed x ≡ false → idIn (slotOf x) x ≡ true → slotOf x ≡ free
+free-slot x l e =
+    let own : T (owned (place x) (slotOf x)) = owned-at (place x) (rw slots-length (omega arith)) in
+    eqb-true (slotOf x) free (T-true _ (rw (eqb-true (slotOf x % 2 ^ 20) x e, l) at own))
+
 pub slot-law : (x : ℕ) → found (slotOf x) x ≡ rowOf x
 slot-law x = go (listed x) refl
   where
-    own : T (owned (place x) (slotOf x))
-    own = owned-at (place x) (rw slots-length (omega arith))
-
     none : listed x ≡ false → (b : Bool) → idIn (slotOf x) x ≡ b → cond b (rowIn (slotOf x)) 0 ≡ 0
     none l false e = refl
-    none l true e = eqb-true (rowIn (slotOf x)) 0 (T-true _ (rw (eqb-true (slotOf x % 2 ^ 20) x e, l) at own))
+    none l true e = rw (free-slot x l e)
 
     go : (b : Bool) → listed x ≡ b → found (slotOf x) x ≡ rowOf x
     go true l = eqb-true (found (slotOf x) x) (rowOf x) (listed-every (λ x. eqb (found (slotOf x) x) (rowOf x)) rows-test x l)
     go false l = none l (idIn (slotOf x) x) refl ∙ sym (row-of-unlisted x l)
+
+pub slot-lists : (x : ℕ) → x < 2 ^ 16 → idIn (slotOf x) x ≡ listed x
+slot-lists x h = go (listed x) refl
+  where
+    none : listed x ≡ false → (b : Bool) → idIn (slotOf x) x ≡ b → b ≡ false
+    none l false e = refl
+    none l true e =
+        let k : slotOf x % 2 ^ 20 ≡ x = eqb-true (slotOf x % 2 ^ 20) x e in
+        absurd (omega (arith, free-slot x l e))
+
+    go : (b : Bool) → listed x ≡ b → idIn (slotOf x) x ≡ b
+    go true l = listed-every (λ x. idIn (slotOf x) x) ids-test x l
+    go false l = none l (idIn (slotOf x) x) refl
 
 -- ---- what a slot has for an identifier
 

@@ -4,6 +4,7 @@ use mathlib.Core.Bool.{Bool, cond}
 use mathlib.Core.List.{List, [], _∷_, _++_}
 use Prim.Native.Nat.{ℕ, zero, suc, _+_, _*_, _/_, _%_, _^_}
 use lib.Dec.{eqb}
+use lib.ListN.{getD}
 use Rattle.studio_rules.specs.Table.{Row, rows}
 use Rattle.studio_row.specs.Packed.{rowOf}
 
@@ -34,6 +35,10 @@ slotsFrom k (suc n) = standsAt k (allIds rows) ∷ slotsFrom (suc k) n
 
 unfoldable pub slots : List ℕ
 slots = slotsFrom 0 128
+
+-- the slot in which an identifier stands if it is listed
+abbrev pub slotOf : ℕ → ℕ
+slotOf x = getD slots (place x) 0
 
 -- ---- what a slot tells
 

@@ -1,8 +1,10 @@
 // The row of an identifier by one look-up, so that no branch depends on what it is: the slots of specs/Slots, made once for
 // a file and lent to whoever looks up. (A constant array in `row` would be written to the stack at each call.)
 ghost use mathlib.Core.Path.{_≡_};
+ghost use Prim.Native.Nat.{_<_};
+ghost use Rattle.studio_rules.specs.Table.{listed};
 ghost use Rattle.studio_row.specs.Packed.{rowOf};
-ghost use Rattle.studio_lookup.specs.Slots.{slots, idIn, rowIn, found};
+ghost use Rattle.studio_lookup.specs.Slots.{slots, slotOf, idIn, rowIn};
 
 // The row of 4D4D, with which every walk begins.
 pub const FIGURE: u64 = 0x00_1_0_5_0004_1;
@@ -146,7 +148,7 @@ pub fn slots() -> [u64; 128]
 // The slot in which an identifier stands if it is listed.
 fn slot(table: &[u64; 128], id: usize) -> u64
     requires { ⌜ now table ≡ slots ⌝ }
-    ensures { λ r. ⌜ found r id ≡ rowOf id ⌝ }
+    ensures { λ r. ⌜ r ≡ slotOf id ⌝ }
 {
     table[id % 65536 * 4701 / 256 % 128]
 }
@@ -175,4 +177,13 @@ pub fn row(table: &[u64; 128], id: usize) -> u64
         return row_in(s);
     }
     0
+}
+
+// Whether an identifier is listed. (Where its row is not asked for: one test in place of two, of which one would depend on
+// what it is.)
+pub fn is_listed(table: &[u64; 128], id: usize) -> bool
+    requires { ⌜ (id < 65536) × (now table ≡ slots) ⌝ }
+    ensures { λ r. ⌜ r ≡ listed id ⌝ }
+{
+    has(slot(table, id), id)
 }

@@ -1,13 +1,15 @@
 -- One child: what its run of one comes to.
 use mathlib.Core.Path.{_≡_, refl, subst}
-use Prim.Native.Nat.{ℕ}
+use Prim.Native.Nat.{ℕ, _+_, _-_, _≤_}
 use native.Mathlib.Omega.{arith}
 use mathlib.Core.Bool.{true}
 use mathlib.Core.List.{List, []}
 use lib.Dec.{leb}
+use lib.ListN.{length}
 use lib.Seq.{slice}
 use Rattle.shared_words.specs.declared.Refusal.{Refusal}
 use Rattle.shared_words.specs.Refusals.{numberOf}
+use Rattle.shared_words.specs.Bytes.{Bytes}
 use Rattle.shared_words.specs.Conditions.{Answer, refused, accepted}
 use Rattle.studio_rules.specs.Table.{listed, rows}
 use Rattle.studio_rules.specs.Layout.{Run}
@@ -16,10 +18,13 @@ use Rattle.studio_rules.specs.Walk.{walk, top}
 use Rattle.studio_row.specs.Packed.{rowOf}
 use Rattle.studio_marks.specs.Marks.{noMarks, RuleIs}
 use Rattle.studio_head.specs.Contexts.{Context}
+use Rattle.studio_head.specs.Passes.{Passes}
 use Rattle.studio_walk.specs.declared.Ran.{Ran}
 use Rattle.studio_walk.specs.Runs.{RunIs}
 use Rattle.studio_walk.proofs.Contexts.{context-inside}
 use Rattle.studio_walk.proofs.Chunks.{clash}
+use Rattle.studio_walk.proofs.Runs.{run-ends}
+use Rattle.studio_walk.proofs.Passing.{passed-over}
 use Rattle.studio_rescue_rules.specs.Rescue.{scene}
 use Rattle.studio_rescue_sift.specs.declared.Child.{Child}
 use Rattle.studio_rescue_sift.specs.Children.{childOf}
@@ -45,3 +50,10 @@ module _ (at stop : ℕ) (ms : List ℕ) where
   pub child-kept : (a : Answer Run) (next n k : ℕ) → RunIs stop 0 0 at noMarks a (Ran.Done next n k) ms → Child.Kept ≡ childOf a
   child-kept (refused x) next n k h = absurd (clash (cc))
   child-kept (accepted t) next n k h = refl
+
+-- a child that is passed over
+pub child-passed : (s : List ℕ) (v at stop : ℕ) → Bytes s → stop ≤ length s → Passes (scene v) [] s at stop stop → Child.Kept ≡ childOf (walk (scene v) [] at (slice at stop s))
+child-passed s v at stop b l h =
+    let z : 0 + (stop - at) ≡ stop - at = omega arith in
+    child-kept at stop noMarks (walk (scene v) [] at (slice at stop s)) stop 0 (stop - at)
+    (passed-over (scene v) [] s stop 0 noMarks b l (Ran.Done stop 0 (stop - at)) noMarks at stop 0 h (rw z (run-ends (scene v) [] s stop stop 0 (stop - at) noMarks (omega arith))))

@@ -45,6 +45,10 @@ fn judge(file: &[u8], table: &[u64; 128], version: u32, at: usize, stop: usize) 
     requires { ⌜ Within (now file) (now table) at stop ⌝ }
     ensures { λ r. ⌜ r ≡ childOf (walk (scene version) [] at (slice at stop (now (file .entry)))) ⌝ }
 {
+    // an unlisted child is kept, and to see that takes no walk
+    if studio_head::pass_over(file, table, at, stop) == stop {
+        return Child::Kept;
+    }
     let row = studio_lookup::row(table, 0x3D3D);
     let mut marks = [0u32; 6];
     match studio_walk::run(file, table, row, 0, 3 <= version, at, stop, &mut marks) {

@@ -101,3 +101,15 @@ pub fn hex(text: &str) -> Vec<u8> {
         .map(|pair| u8::from_str_radix(pair, 16).unwrap())
         .collect()
 }
+
+/// Up to 512 names of 63 bytes, all different, for whoever looks names up by
+/// a number that is mixed from their bytes as the library does: all have one.
+pub fn alike(count: usize) -> Vec<String> {
+    const PARTS: [&str; 2] = ["c2Znrcp", "e0ZfbOh"];
+    let mix = |sum: u32, byte: u8| sum.wrapping_mul(16_777_619).wrapping_add(byte.into());
+    let [one, other] = PARTS.map(|part| part.bytes().fold(0, mix));
+    assert_eq!(one, other);
+    (0..count)
+        .map(|name| (0..9).map(|bit| PARTS[name >> bit & 1]).collect())
+        .collect()
+}

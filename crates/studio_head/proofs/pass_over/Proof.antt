@@ -1,5 +1,5 @@
 -- The loop's invariant: what has been passed over so far.
-use mathlib.Core.Path.{subst}
+use mathlib.Core.Path.{subst, sym, _∙_}
 use Prim.Native.Nat.{_-_}
 use native.Mathlib.Omega.{arith}
 use borrow.Author.Needs.{needs}
@@ -34,8 +34,8 @@ returns c = let i = c .before .before .before .before .loop .inv in (i .passes, 
 ends : (c : tie.After-id Inv-loop μ-loop) → HeaderWithin (c .before .before .before .before .loop .o) (c .before .before .before .before .before .before .args .end) (Header.Is (c .id .given .0 .0) (c .id .given .0 .1 .0))
 ends c = subst (HeaderWithin _ _) (c .id .given .1) (c .before .before .read-header .ensures .1)
 
-row-requires : tie.Need-row-requires Inv-loop μ-loop
-row-requires c κs = search needs
+is-listed-requires : tie.Need-is-listed-requires Inv-loop μ-loop
+is-listed-requires c κs = (omega (arith, ends (c .before) .2), c .before .before .before .before .before .before .before .pre .2)
 
 returns-2 : tie.Need-returns-2 Inv-loop μ-loop
 returns-2 c = let i = c .before .before .before .before .before .before .before .loop .inv in (i .passes, (i .past, i .before))
@@ -50,7 +50,7 @@ loop-again c =
     let d = c .before .before .before in
     let w = d .before .before .read-header in
     let x = d .before .before .before .before .before .before in
-    passed-one _ _ _ _ (d .before .before .before .before .loop .inv) (d .before .before .before .loop-test .taken) (x .pre .1) (w .result) (w .ensures .0) _ _ (c .before .row .result) (d .id .given .1) (ends d) (c .before .row .ensures) (c .if1 .left)
+    passed-one _ _ _ _ (d .before .before .before .before .loop .inv) (d .before .before .before .loop-test .taken) (x .pre .1) (w .result) (w .ensures .0) _ _ (d .id .given .1) (ends d) (sym (c .before .is-listed .ensures) ∙ c .if1 .left)
 
 returns-3 : tie.Need-returns-3 Inv-loop μ-loop
 returns-3 c = let i = c .before .loop .inv in (i .passes, (i .past, i .before))
@@ -66,7 +66,7 @@ pass-over-spec =
     enum-known-id
     enum-told
     returns
-    row-requires
+    is-listed-requires
     returns-2
     loop-less
     loop-again

@@ -1,5 +1,4 @@
 use borrow.Author.Needs.{needs}
-use Rattle.studio_lookup.proofs.Law.{slot-law}
 use Rattle.studio_lookup.proofs.slot.Statement.{statement}
 use Rattle.studio_lookup.proofs.slot.Tie as tie
 
@@ -13,7 +12,7 @@ element-copy-out-result : tie.Need-element-copy-out-result
 element-copy-out-result c = search needs
 
 returns : tie.Need-returns
-returns c = rw (c .before .pre) (slot-law (c .before .args .id))
+returns c = rw (c .before .pre)
 
 pub slot-spec : {M : Type 1} → statement M
 slot-spec = tie.close (tie.spec mul-result mul-result-2 element-copy-out-result returns)

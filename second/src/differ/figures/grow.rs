@@ -29,7 +29,7 @@ pub struct Object {
 impl Draft {
     /// A valid figure.
     pub fn grown(random: &mut Random) -> Draft {
-        let materials = (0..random.below(4)).map(|number| {
+        let materials = (0..several(random)).map(|number| {
             let bytes = random.bytes(9);
             (
                 name(number, random),
@@ -40,7 +40,7 @@ impl Draft {
             objects: vec![],
             materials: materials.collect(),
         };
-        for number in 0..random.below(4) {
+        for number in 0..several(random) {
             let object = draft.object(number, random);
             draft.objects.push(object);
         }
@@ -181,6 +181,13 @@ fn filling(bytes: usize) -> Object {
         corners: vec![0; 3 * f],
         ..Object::default()
     }
+}
+
+/// A few objects or materials; now and then more than the library compares
+/// one with the other, which is 32.
+fn several(random: &mut Random) -> usize {
+    let most = if random.chance(5) { 60 } else { 4 };
+    random.below(most)
 }
 
 /// A name like no other, as its number is in it, behind a `#` that the one

@@ -24,7 +24,7 @@ pub fn once(draft: &mut Draft, kind: u64, random: &mut Random) {
             .take(1)
             .for_each(|m| zero(&mut m.0, random)),
         1 if objects > 0 => {
-            let name = draft.objects[0].name.clone();
+            let name = draft.objects[random.below(objects)].name.clone();
             draft.objects[one].name = name;
         }
         2 if materials > 0 => {
