@@ -1,20 +1,66 @@
--- Demand 3 of Caligari files, of the calls, from the rules' demand 3.
+-- Demands 2 and 3 of Caligari files, of the calls: from "accepted exactly", and from the rules' demand 3.
 use mathlib.Core.List.{List}
 use Prim.Native.Nat.{ℕ}
 use lib.ListN.{length}
 use mathlib.Core.Path.{_≡_}
-use borrow.Author.Tests.{le-leb, lt-leb}
+use native.Mathlib.Omega.{arith}
+use lib.Dec.{leb}
+use borrow.Author.Tests.{leb-true, le-leb, lt-leb}
+use Rattle.shared_words.specs.declared.Refusal.{Refusal}
 use Rattle.shared_words.specs.Conditions.{accepted}
 use Rattle.shared_flat.specs.Put.{Mark, without, with, pieces, Moved}
-use Rattle.cob_rules.specs.Layout.{Chunk, size, bytes}
+use Rattle.cob_rules.specs.declared.Answered.{Answered}
+use Rattle.cob_rules.specs.Layout.{Chunk, Layout, size, bytes}
+use Rattle.cob_rules.specs.Rules.{Meets}
 use Rattle.cob_rules.specs.Walk.{verdict}
 use Rattle.cob_rules.specs.Gives.{list}
-use Rattle.cob_rules.specs.Calls.{checkCall, listCall, sizesCall, tablesCall}
+use Rattle.cob_rules.specs.Calls.{checkOf, checkCall, listOf, listCall, sizesCall, tablesCall}
 use Rattle.cob_rules.specs.PutIn.{ending, SameRecord, Unchanged}
-use Rattle.cob_rules.proofs.Verdict.{verdict-good}
+use Rattle.cob_rules.proofs.Verdict.{accepted-exactly, verdict-good}
 use Rattle.cob_rules.proofs.PutIn.{put-in, taken-out}
-use Rattle.claim_demands.specs.Caligari.{SameAnswers, Demand3}
+use Rattle.claim_demands.specs.Caligari.{Given, Demand2, SameAnswers, Demand3}
+use Rattle.claim_demands.proofs.Found.{layout-found, room-found}
 use Rattle.claim_demands.proofs.Related.{equally-long}
+
+-- ---- demand 2
+
+never-counted : (n : ℕ) (r : Refusal) → Answered.Refused r ≡ Answered.Count n → ⊥
+never-counted n r e = let z : _≡_ {A = ℕ} 0 1 = cc in omega arith
+
+count-is : {n k : ℕ} → Answered.Count n ≡ Answered.Count k → k ≡ n
+count-is e = cc
+
+given : (s : List ℕ) (l : Layout) → Meets s l → Given s l
+unfolding listCall sizesCall tablesCall
+given s l h =
+    let v = verdict-good s l h in
+    record {
+      list-is = λ e row r. rw (v, le-leb _ _ r);
+      sizes-are = λ e mesh m g row r. rw (v, g, le-leb _ _ r);
+      tables-are = λ e mesh m g rows r q. rw (v, g, le-leb _ _ r, le-leb _ _ q);
+    }
+
+pub demand2 : Demand2
+unfolding checkCall listCall
+demand2 = record {
+  accepted = λ s n. (
+    λ h.
+        let l = layout-found checkOf (never-counted n) (verdict s) h in
+        (l .0, accepted-exactly s (l .0) .0 (l .1), count-is (l .2)),
+    λ l. rw (verdict-good s (l .0) (l .1), l .2),
+  );
+  listed = λ e s row n. (
+    λ h.
+        let l = layout-found (λ a. listOf e row a .answer) (never-counted n) (verdict s) h in
+        let r = room-found (leb (length (list (l .0))) (e .room (length row))) _ _ (never-counted n _) (l .2) in
+        let k = count-is (r .1) in
+        (l .0, accepted-exactly s (l .0) .0 (l .1), k, rw k (leb-true _ _ (r .0))),
+    λ l. rw (given s (l .0) (l .1) .list-is e row (rw (l .2) at (l .3)), l .2),
+  );
+  given = given;
+}
+
+-- ---- demand 3
 
 same-answers : (m : List (Mark Chunk)) (last : Chunk) (s s′ : List ℕ) → verdict s ≡ accepted (ending last (without m)) →
     verdict s′ ≡ accepted (ending last (with m)) → Unchanged m last → SameAnswers (pieces size 32 m) s s′

@@ -1,7 +1,6 @@
 -- Demand 2, of the calls. The verdict of a file that meets the rules is its layout, so a call there is its fold's line for
 -- that layout; and a fold that accepts has a layout, since its line for a refusal refuses.
 use mathlib.Core.Path.{_≡_, refl, sym, ap, _∙_}
-use mathlib.Core.Bool.{Bool, true, false, cond}
 use mathlib.Core.List.{List}
 use mathlib.Core.Option.{Option, none, some}
 use Prim.Native.Nat.{ℕ}
@@ -32,6 +31,7 @@ use Rattle.studio_meshes_rules.specs.Standing.{standing}
 use Rattle.studio_meshes_rules.specs.Calls.{meshesCall}
 use Rattle.studio_write.proofs.ReadsBack.{written-reads-back}
 use Rattle.claim_demands.specs.Demand2.{RoomFor, RoomForTables, Given, Demand2}
+use Rattle.claim_demands.proofs.Found.{layout-found, room-found}
 use Rattle.studio_figure_rules.proofs.Described.{flat-reads-back}
 
 -- ---- answers: no refusal is an acceptance, and an acceptance has one value
@@ -54,37 +54,29 @@ sizes-are e = cc
 counted-is : {x y : ℕ} → Counted.Filled x ≡ Counted.Filled y → y ≡ x
 counted-is e = cc
 
--- ---- an answer z that no refusal gives: what was found on the way to it
+-- ---- what was found on the way to an answer
 
 -- the file's layout
 found-layout : {Z : Type 0} (fold : Answer Run → Z) {z : Z} → ((r : Refusal) → fold (refused r) ≡ z → ⊥) → (s : List ℕ) → Bytes s →
     fold (verdict s) ≡ z → (kids : Run) × Meets s kids × (fold (accepted kids) ≡ z)
-found-layout fold {z} never s b = go (verdict s) refl
-  where
-    go : (a : Answer Run) → verdict s ≡ a → fold a ≡ z → (kids : Run) × Meets s kids × (fold (accepted kids) ≡ z)
-    go (refused r) v e = absurd (never r e)
-    go (accepted kids) v e = (kids, accepted-exactly s b kids .0 v, e)
+found-layout fold never s b e =
+    let l = layout-found fold never (verdict s) e in
+    (l .0, accepted-exactly s b (l .0) .0 (l .1), l .2)
 
-module _ {A R : Type 0} {z : A} where
-  -- the mesh
-  found-mesh : (refuse : Refusal → Effect A R) (use-it : Mesh → Effect A R) (n : ℕ) →
-      ((r : Refusal) → refuse r .answer ≡ z → ⊥) → (o : Option Mesh) →
-      pickMesh refuse use-it n o .answer ≡ z → (m : Mesh) × (o ≡ some m) × (use-it m .answer ≡ z)
-  found-mesh refuse use-it n never none e = absurd (never (NoSuchMesh n) e)
-  found-mesh refuse use-it n never (some m) e = (m, refl, e)
-
-  -- room
-  found-room : (fits : Bool) (x y : Effect A R) → (y .answer ≡ z → ⊥) → cond fits x y .answer ≡ z → (fits ≡ true) × (x .answer ≡ z)
-  found-room true x y never e = (refl, e)
-  found-room false x y never e = absurd (never e)
+-- the mesh
+found-mesh : {A R : Type 0} {z : A} (refuse : Refusal → Effect A R) (use-it : Mesh → Effect A R) (n : ℕ) →
+    ((r : Refusal) → refuse r .answer ≡ z → ⊥) → (o : Option Mesh) →
+    pickMesh refuse use-it n o .answer ≡ z → (m : Mesh) × (o ≡ some m) × (use-it m .answer ≡ z)
+found-mesh refuse use-it n never none e = absurd (never (NoSuchMesh n) e)
+found-mesh refuse use-it n never (some m) e = (m, refl, e)
 
 -- room for all tables
 found-tables : {A B C : Type 0} (t : Tables A B C) (rows : Rows A B C) (m : Mesh) (sizes : Sizes) → tablesOf t rows m .answer ≡ Tabled.Filled sizes →
     (sizes ≡ sizesOf m) × RoomForTables t rows m
 found-tables t rows m sizes h =
-    let v = found-room (fits (t .vertices) (m .vertices) (rows .vertices)) _ _ (not-filled sizes _) h in
-    let c = found-room (fits (t .corners) (m .corners) (rows .corners)) _ _ (not-filled sizes _) (v .1) in
-    let p = found-room (fits (t .mapping) (m .mapping) (rows .mapping)) _ _ (not-filled sizes _) (c .1) in
+    let v = room-found (fits (t .vertices) (m .vertices) (rows .vertices)) _ _ (not-filled sizes _) h in
+    let c = room-found (fits (t .corners) (m .corners) (rows .corners)) _ _ (not-filled sizes _) (v .1) in
+    let p = room-found (fits (t .mapping) (m .mapping) (rows .mapping)) _ _ (not-filled sizes _) (c .1) in
     (sizes-are (p .1), record { vertices = v .0; corners = c .0; mapping = p .0 })
 
 -- room for all things of a kind
@@ -92,7 +84,7 @@ found-all : {X A : Type 0} (things : Run → List X) (e : Encoding X A) (row : L
     (kids : Run) × Meets s kids × (n ≡ length (things kids)) × RoomFor e (length (things kids)) row
 found-all things e row n s b h =
     let l = found-layout (λ a. allOf things e row a .answer) (not-counted n) s b h in
-    let r = found-room (leb (length (things (l .0))) (e .room (length row))) _ _ (not-counted n _) (l .2) in
+    let r = room-found (leb (length (things (l .0))) (e .room (length row))) _ _ (not-counted n _) (l .2) in
     (l .0, l .1, counted-is (r .1), leb-true _ _ (r .0))
 
 -- ---- what the calls give of a file that meets the rules
@@ -123,7 +115,7 @@ demand2 = record {
   listed = λ e s b row counts. (
     λ h.
         let l = found-layout (λ a. listOf e row a .answer) (not-accepted counts) s b h in
-        let r = found-room (leb (recordCount (figure (l .0))) (e .room (length row))) _ _ (not-accepted counts _) (l .2) in
+        let r = room-found (leb (recordCount (figure (l .0))) (e .room (length row))) _ _ (not-accepted counts _) (l .2) in
         (l .0, l .1, counts-are (r .1), leb-true _ _ (r .0)),
     λ l. rw (given s (l .0) (l .1) .list-is e row (l .3), l .2),
   );
@@ -137,11 +129,11 @@ demand2 = record {
         let m = l .2 in
         rw (given s (l .0) (l .1) .tables-are t mesh (m .0) (m .1) rows (m .3), m .2),
   );
-  hung = λ {A} e s b row n. (
+  parts-listed = λ {A} e s b row n. (
     λ h. found-all parts e row n s b (ap (λ (x : Effect Counted (List A)). x .answer) (sym (all-parts e s row)) ∙ h),
     λ l. rw (given s (l .0) (l .1) .parts-are e row (l .3), l .2),
   );
-  stood = λ e s b row n. (
+  meshes-listed = λ e s b row n. (
     λ h. found-all standing e row n s b h,
     λ l. rw (given s (l .0) (l .1) .meshes-are e row (l .3), l .2),
   );

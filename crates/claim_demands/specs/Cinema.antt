@@ -1,8 +1,6 @@
--- DEMAND 3 OF CINEMA 4D FILES, of the calls, in one piece and in the words of figures (Demand3): whole chunks of unlisted types put into an
--- accepted file anywhere but before PLTF, or taken out, any number together.
--- One list with marked chunks tells both files: `without m` is that of the file that has them not, `with m` that of the file that
--- has them.
+-- DEMANDS 2 AND 3 OF CINEMA 4D FILES, of the calls and in the words of figures (Demand2, Demand3).
 use mathlib.Core.Path.{_≡_}
+use mathlib.Core.Logic.{_↔_}
 use mathlib.Core.List.{List}
 use Prim.Native.Nat.{ℕ, _≤_, _<_}
 use lib.ListN.{length}
@@ -12,11 +10,33 @@ use Rattle.shared_words.specs.Encodings.{Encoding}
 use Rattle.shared_words.specs.Lists.{Pairwise}
 use Rattle.shared_flat.specs.Put.{Mark, without, with, Piece, pieces, Moved}
 use Rattle.c4d_rules.specs.declared.Found.{Found}
-use Rattle.c4d_rules.specs.Layout.{Chunk, chunkSize, bytes}
+use Rattle.c4d_rules.specs.Layout.{Chunk, Layout, chunkSize, bytes}
 use Rattle.c4d_rules.specs.Rules.{limit, Meets}
-use Rattle.c4d_rules.specs.Gives.{Object}
+use Rattle.c4d_rules.specs.Gives.{Object, objects}
 use Rattle.c4d_rules.specs.Calls.{allMaterials, twoRows, c4dCheckCall, c4dListCall}
 use Rattle.c4d_rules.specs.PutIn.{MayPut, MayTake, SameObject}
+
+-- ---- demand 2
+
+-- room for so many objects and all their materials, in whole ones
+abbrev pub RoomForAll : {A B : Type 0} → Encoding Object A → Encoding ℕ B → List Object → List A → List B → Type 0
+RoomForAll e m rs os ms = (length rs ≤ e .room (length os)) × (length (allMaterials rs) ≤ m .room (length ms))
+
+pub record Demand2 : Type 1 where
+  -- accepted exactly when the rules are met, and then with the count of the layout's objects
+  pub accepted : (s : List ℕ) (n : ℕ) → (c4dCheckCall s ≡ Found.Objects n) ↔ ((l : Layout) × Meets s l × (n ≡ length (objects l)))
+  -- the list likewise, given room
+  pub listed : {A B : Type 0} (e : Encoding Object A) (m : Encoding ℕ B) (s : List ℕ) (os : List A) (ms : List B) (n : ℕ) →
+      (c4dListCall e m s os ms .answer ≡ Found.Objects n) ↔ ((l : Layout) × Meets s l × (n ≡ length (objects l)) × RoomForAll e m (objects l) os ms)
+  -- and what it gives is that of the layout
+  pub given : (s : List ℕ) (l : Layout) → Meets s l →
+      {A B : Type 0} (e : Encoding Object A) (m : Encoding ℕ B) (os : List A) (ms : List B) → RoomForAll e m (objects l) os ms →
+      c4dListCall e m s os ms ≡ leaving (Found.Objects (length (objects l)))
+      (twoRows (filled (e .encode (objects l)) os) (filled (m .encode (allMaterials (objects l))) ms))
+
+-- ---- demand 3: whole chunks of unlisted types put into an accepted file anywhere but before PLTF, or taken out, any number together
+-- One list with marked chunks tells both files: `without m` is that of the file that has them not, `with m` that of the file that
+-- has them.
 
 -- s is the file without the chunks ps, and s′ the file with them
 pub record SameAnswers (ps : List Piece) (s s′ : List ℕ) : Type 1 where

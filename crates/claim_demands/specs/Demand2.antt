@@ -71,9 +71,9 @@ pub record Demand2 : Type 1 where
   pub tabled : {A B C : Type 0} (t : Tables A B C) (s : List ℕ) → Bytes s → (mesh : ℕ) (rows : Rows A B C) (sizes : Sizes) →
       (tablesCall t s mesh rows .answer ≡ Tabled.Filled sizes) ↔
       ((kids : Run) × Meets s kids × ((m : Mesh) × (getElem? (meshes kids) mesh ≡ some m) × (sizes ≡ sizesOf m) × RoomForTables t rows m))
-  pub hung : {A : Type 0} (e : Encoding Part A) (s : List ℕ) → Bytes s → (row : List A) (n : ℕ) →
+  pub parts-listed : {A : Type 0} (e : Encoding Part A) (s : List ℕ) → Bytes s → (row : List A) (n : ℕ) →
       (partsCall e s row .answer ≡ Counted.Filled n) ↔ ((kids : Run) × Meets s kids × (n ≡ length (parts kids)) × RoomFor e (length (parts kids)) row)
-  pub stood : {A : Type 0} (e : Encoding Standing A) (s : List ℕ) → Bytes s → (row : List A) (n : ℕ) →
+  pub meshes-listed : {A : Type 0} (e : Encoding Standing A) (s : List ℕ) → Bytes s → (row : List A) (n : ℕ) →
       (meshesCall e s row .answer ≡ Counted.Filled n) ↔ ((kids : Run) × Meets s kids × (n ≡ length (standing kids)) × RoomFor e (length (standing kids)) row)
   -- and what they give is that of the layout
   pub given : (s : List ℕ) (kids : Run) → Meets s kids → Given s kids
