@@ -46,14 +46,15 @@
  * compared two by two. Each call that reads a figure checks all of it first; the longest takes 0.02
  * to 3 milliseconds, by what is in it, and up to 10 if it is a .cob file made for that
  * (docs/BENCH.md). tds_list, tds_records, tds_meshes, tds_parts and those about one mesh take up to
- * twice that, tds_rescue up to 6. So a call for each of many meshes costs the whole file each time,
- * and one tds_meshes for all of them once. tds_sum_join and tds_sum_matches read no bytes. Stack:
- * at most 20 kilobytes; tds_c4d_list needs 540, tds_write_figure 620 where there are more than 32
- * objects or materials, the four calls on .cob files 850.
+ * twice that, tds_rescue up to 10 milliseconds. So a call for each of many meshes costs the whole
+ * file each time, and one tds_meshes for all of them once. tds_sum_join and tds_sum_matches read no
+ * bytes. Stack: at most 20 kilobytes; tds_c4d_list needs 540, tds_write_figure 620 where there are
+ * more than 32 objects or materials, the four calls on .cob files 850.
  *
  * ORDER OF REFUSALS. First the faults of the file, which are 1 to 14, 23 and 24: the first that is
  * met, walking the file from its start, a chunk's own faults before those inside it, 24 right after
- * 9 and 23 after 10. Then 16; then 17; then 15. So a damaged file is refused as damaged whatever
+ * 9 and 23 after 10. Only at a chunk's end, behind all inside it, come 14 and, of a mesh, 12 for
+ * its corners and 13. Then 16; then 17; then 15. So a damaged file is refused as damaged whatever
  * mesh was asked for and whatever room was lent.
  *
  * LANGUAGE. C89 and later, and C++. <stdint.h> came only with C99, but is there with every compiler
@@ -76,7 +77,7 @@ extern "C" {
  * lent may be filled in another way than it was built for. (Version 1 had six numbers a record, and
  * no tds_version.) CHANGELOG.md says what came with each.
  */
-#define TDS_VERSION (65536 * 2 + 256 * 6 + 1)
+#define TDS_VERSION (65536 * 2 + 256 * 6 + 2)
 uint64_t tds_version(void);
 
 /* No file longer than this is a figure. One byte more is enough to hand to tds_check to be told. */
@@ -278,8 +279,9 @@ uint64_t tds_box(const uint8_t *file, size_t file_len, uint32_t mesh, uint8_t *b
  * them. Meshes are in file order, as tds_tables, tds_mapping, tds_name and tds_box number them.
  * Every offset is one in the file, so that names, floats and corners are read where they stand and
  * nothing is copied; all of them lie in the file, and every corner is below the count of vertices.
- * Where a mesh has no vertices, no faces or no mapping (no 4110, no 4120, no 4140) both numbers of
- * it are 0. Old figures may have fewer mapping pairs than vertices: the missing ones are 0, 0.
+ * Where a mesh has no 4110, no 4120 or no 4140 both numbers of it are 0; one that is there with
+ * nothing in it has the count 0 and the offset where its first element would stand, file_len at
+ * most. Old figures may have fewer mapping pairs than vertices: the missing ones are 0, 0.
  * Answers the count of meshes, which may be 0, and fills as many from the start of the slice; or
  * refuses with a fault of the file, or 15 with the meshes needed (place). Room is meshes_len /
  * TDS_MESH_BYTES meshes.
@@ -427,9 +429,8 @@ uint64_t tds_write(const uint8_t *name, size_t name_len, const float *vertices, 
  *   15  out_len is below the size (place: the size)
  *
  * A place that would not fit in 32 bits is given as 2^32 - 1. What it writes is accepted by every
- * call above, and reads back to the same tables, names, colours, groups and words, in order. The
- * time is linear in the rows but for 29 and 30: each name is compared with the earlier ones, each
- * group's with those of the materials. A triangle A with a material B on its face:
+ * call above, and reads back to the same tables, names, colours, groups and words, in order. For
+ * the time that it takes see COST. A triangle A with a material B on its face:
  *
  *     const uint32_t objects[] = {1, 9, 3, 0, 1}, groups[] = {1, 1}, materials[] = {1};
  *     const float vertices[] = {0, 0, 0, 1, 0, 0, 0, 1, 0};

@@ -2,6 +2,8 @@
  * tds_words.h - the refusals of tds.h in words, for a program that tells its user why a figure is
  * not shown. Both functions take any number, TDS_REFUSAL(answer) for instance, and answer a string
  * that stays. All numbers have their words, those too that only calls of later versions answer.
+ * They are those of a file that is read: in the calls that write, 9 and 13 are said of what was
+ * handed in.
  *
  *     fprintf(stderr, "not shown: %s, at byte %lu\n", tds_refusal_words(TDS_REFUSAL(answer)),
  *             (unsigned long)TDS_PLACE(answer));

@@ -1,6 +1,6 @@
 // The version of the library as one number, for C. CHANGELOG.md says what came with each; include/tds.h has the same numbers.
 ghost use mathlib.Core.Path.{_≡_};
-ghost use Rattle.c_version.specs.Version.{versionCode};
+ghost use Rattle.c_version.specs.Version.{version};
 
 // Grows where a program that was built for an older library must be built again.
 const MAJOR: u64 = 2;
@@ -9,11 +9,11 @@ const MAJOR: u64 = 2;
 const MINOR: u64 = 6;
 
 // Grows where nothing changes that a program can ask for.
-const PATCH: u64 = 1;
+const PATCH: u64 = 2;
 
 // The version.
 pub fn version() -> u64
-    ensures { λ n. ⌜ n ≡ versionCode 2 6 1 ⌝ }
+    ensures { λ n. ⌜ n ≡ version ⌝ }
 {
     65536 * MAJOR + 256 * MINOR + PATCH
 }

@@ -12,7 +12,7 @@ ghost use Rattle.studio_mesh_tables.specs.Rows.{twoRows, mappingRow};
 ghost use Rattle.studio_write.specs.Write.{writeCall};
 ghost use Rattle.studio_figure_rules.specs.Described.{writeFlat};
 ghost use Rattle.studio_figure_rows.specs.Rows.{flat};
-ghost use Rattle.c_version.specs.Version.{versionCode};
+ghost use Rattle.c_version.specs.Version.{version};
 ghost use Rattle.c_codes.specs.Codes.{recordsOr, sizesOr, numbersOr, sizeOr};
 ghost use Rattle.c_answers.specs.Given.{countsGiven, nameGiven, boxGiven};
 ghost use Rattle.c4d_rules.specs.Calls.{objectBytes, twoRows as objectRows, c4dCheckCall, c4dListCall};
@@ -34,7 +34,7 @@ ghost use Rattle.c_sums.specs.Numbers.{sumsOr, zeroOr, sumIn, withPartNumber, j
 // The version of the library.
 #[no_mangle]
 pub extern "C" fn tds_version() -> u64
-    ensures { λ n. ⌜ n ≡ versionCode 2 6 1 ⌝ }
+    ensures { λ n. ⌜ n ≡ version ⌝ }
 {
     c_version::version()
 }
