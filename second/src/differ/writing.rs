@@ -8,6 +8,7 @@ use super::lent::{hex, spoken, Difference};
 use super::names;
 use super::random::Random;
 use crate::boundary::{refusal, Boundary};
+use std::ops::Range;
 
 /// What the writer is handed.
 #[derive(Clone, Debug, Default)]
@@ -164,27 +165,29 @@ impl Writing {
 
     /// Smaller writings of the same kind, to look for one that differs too.
     pub fn smaller(&self) -> Vec<Writing> {
-        let mut all = Vec::new();
-        for part in 0..3 {
-            let length = [self.name.len(), self.vertices.len(), self.corners.len()][part];
-            for by in [length / 2, 6, 3, 1] {
-                if by == 0 || by > length {
-                    continue;
-                }
-                for end in [length - by, 0] {
-                    let mut less = self.clone();
-                    match part {
-                        0 => drop(less.name.drain(end..end + by)),
-                        1 => drop(less.vertices.drain(end..end + by)),
-                        _ => drop(less.corners.drain(end..end + by)),
-                    }
-                    let change = self.size() - less.size();
-                    less.room = self.room.saturating_sub(change);
-                    all.push(less);
-                }
-            }
+        let lengths = [self.name.len(), self.vertices.len(), self.corners.len()];
+        let parts = lengths.into_iter().enumerate().flat_map(|(part, length)| {
+            let sizes = [length / 2, 6, 3, 1].into_iter();
+            let sizes = sizes.filter(move |&by| by > 0 && by <= length);
+            let ranges = sizes.flat_map(move |by| [length - by..length, 0..by]);
+            ranges.map(move |range| (part, range))
+        });
+        parts
+            .map(|(part, range)| self.without(part, range))
+            .collect()
+    }
+
+    /// The same without some bytes of the name, some floats or some corners.
+    fn without(&self, part: usize, range: Range<usize>) -> Writing {
+        let mut less = self.clone();
+        match part {
+            0 => drop(less.name.drain(range)),
+            1 => drop(less.vertices.drain(range)),
+            _ => drop(less.corners.drain(range)),
         }
-        all
+        let change = self.size() - less.size();
+        less.room = self.room.saturating_sub(change);
+        less
     }
 }
 
