@@ -79,12 +79,8 @@ pub fn object(
             continue;
         }
         match judge_texture(file, at, len, below) {
-            Texture::Refused(r) => {
-                return One::Refused(r);
-            }
-            Texture::Material(material) => {
-                note(material, row + 2 + textures, notes);
-            }
+            Texture::Refused(r) => return One::Refused(r),
+            Texture::Material(material) => note(material, row + 2 + textures, notes),
         }
         textures += 1;
         // a texture has 64 bytes: the next step need not wait for its size
