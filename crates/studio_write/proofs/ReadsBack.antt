@@ -11,7 +11,6 @@ use lib.Seq.{take-at}
 use borrow.Author.Tests.{ltb-true, lt-ltb, le-leb}
 use Rattle.studio_rules.specs.declared.Tabled.{Tabled}
 use Rattle.studio_rules.specs.OwnData.{count, vertexNumbers, faceCorners}
-use Rattle.studio_rules.specs.Layout.{figure, bytes}
 use Rattle.studio_rules.specs.Rules.{allBelow, Meets}
 use Rattle.shared_words.specs.Effects.{Effect, leaving, filled}
 use Rattle.studio_rules.specs.Calls.{Rows, inNumbers, tablesOf}
@@ -19,7 +18,7 @@ use Rattle.shared_words.proofs.Bools.{every-weaker}
 use Rattle.shared_words.proofs.Bytes.{value-le}
 use Rattle.studio_rules.proofs.Verdict.{verdict-good}
 use Rattle.studio_write_judge.specs.Judged.{triples, judged}
-use Rattle.studio_write_bytes.specs.Bare.{nameData, vertexData, faceData, bare}
+use Rattle.studio_write_bytes.specs.Bare.{nameData, vertexData, faceData, bare, bareBytes}
 use Rattle.shared_words.specs.declared.Written.{Written}
 use Rattle.shared_words.specs.declared.Written.the-variants.{Size}
 use Rattle.studio_write.specs.Write.{writeCall}
@@ -68,16 +67,16 @@ module _ (name : List ℕ) (vertices : List Float) (corners : List ℕ) (room si
         let fits : length (map (toBits binary32) vertices) ≤ length (rows .vertices) = omega (arith, length-map vertices (toBits binary32)) in
         rw (vertex-numbers, face-corners, vertex-count, face-count, le-leb _ _ fits, le-leb (length corners) (length (rows .corners)) c, le-leb 0 (length (rows .mapping)) (omega arith), floats-back vertices f)
 
-    meets : Meets (bytes (figure (bare name vertices corners))) (bare name vertices corners)
+    meets : Meets (bareBytes name vertices corners) (bare name vertices corners)
     meets = record {
       is = refl;
       within-limit = omega (arith, length-bare name vertices corners (r .whole-vertices));
       chunks = obeys (nameData name) (vertexData vertices) (faceData corners) exact-data;
     }
 
-    reads-back : ReadsBack name vertices corners (bytes (figure (bare name vertices corners)))
+    reads-back : ReadsBack name vertices corners (bareBytes name vertices corners)
     reads-back =
-        let e = verdict-good (bytes (figure (bare name vertices corners))) (bare name vertices corners) meets in
+        let e = verdict-good (bareBytes name vertices corners) (bare name vertices corners) meets in
         let named : length (nameData name) ≡ 1 + length name = length-append name (0 ∷ []) ∙ omega arith in
         let unzeroed : length (nameData name) - 1 ≡ length name = omega arith in
         let more = behind (nameData name) (vertexData vertices) (faceData corners) in
@@ -96,7 +95,7 @@ module _ (name : List ℕ) (vertices : List Float) (corners : List ℕ) (room si
 
 pub written-reads-back : WrittenReadsBack
 written-reads-back name vertices corners out size f e =
-    let file : List ℕ = bytes (figure (bare name vertices corners)) in
+    let file : List ℕ = bareBytes name vertices corners in
     let j : judged name vertices corners (length out) ≡ Size size = sym (answered name vertices corners out) ∙ e in
     let r = ready name vertices corners (length out) size j in
     let long : length file ≡ size = length-bare name vertices corners (r .whole-vertices) ∙ sym (r .size-is) in

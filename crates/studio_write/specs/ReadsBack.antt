@@ -10,7 +10,6 @@ use Rattle.studio_rules.specs.declared.Checked.{Checked}
 use Rattle.studio_rules.specs.declared.Tabled.{Tabled}
 use Rattle.studio_rules.specs.declared.Named.{Named}
 use Rattle.shared_words.specs.Lists.{every}
-use Rattle.studio_rules.specs.Layout.{figure, bytes}
 use Rattle.studio_rules.specs.Rules.{Meets}
 use Rattle.shared_words.specs.Conditions.{accepted}
 use Rattle.studio_rules.specs.Walk.{verdict}
@@ -20,7 +19,7 @@ use Rattle.shared_words.specs.Effects.{leaving, filled}
 use Rattle.studio_rules.specs.Calls.{listCall, Rows, inNumbers, tablesCall, nameCall}
 use Rattle.shared_words.specs.declared.Written.the-variants.{Size}
 use Rattle.studio_write_judge.specs.Judged.{triples, figureSize}
-use Rattle.studio_write_bytes.specs.Bare.{bare}
+use Rattle.studio_write_bytes.specs.Bare.{bare, bareBytes}
 use Rattle.studio_write.specs.Write.{writeCall}
 
 -- each is the value of an f32, as the elements of a slice are
@@ -39,7 +38,7 @@ sixRecords k n f =
 
 -- THE FILE s READS BACK to a name, a row of floats and a row of corners
 pub record ReadsBack (name : List ℕ) (vertices : List Float) (corners s : List ℕ) : Type 0 where
-  pub is : s ≡ bytes (figure (bare name vertices corners))
+  pub is : s ≡ bareBytes name vertices corners
   pub size : length s ≡ figureSize name vertices corners
   pub meets-rules : Meets s (bare name vertices corners)
   pub is-accepted : verdict s ≡ accepted (bare name vertices corners)

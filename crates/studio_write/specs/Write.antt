@@ -4,12 +4,11 @@ use Prim.Native.Nat.{ℕ}
 use mathlib.Core.List.{List}
 use lib.Ieee.{Float}
 use lib.ListN.{length}
-use Rattle.studio_rules.specs.Layout.{figure, bytes}
 use Rattle.shared_words.specs.Effects.{Effect, leaving, filled}
 use Rattle.shared_words.specs.declared.Written.{Written}
 use Rattle.shared_words.specs.declared.Written.the-variants.{Size, Refused}
 use Rattle.studio_write_judge.specs.Judged.{judged}
-use Rattle.studio_write_bytes.specs.Bare.{bare}
+use Rattle.studio_write_bytes.specs.Bare.{bareBytes}
 
 -- the buffer afterwards: a refusal leaves it untouched, and bytes after the size stay
 abbrev pub writing : List ℕ → List ℕ → Written → Effect Written (List ℕ)
@@ -18,4 +17,4 @@ writing file out (Size size) = leaving (Size size) (filled file out)
 
 -- THE CALL
 unfoldable pub writeCall : List ℕ → List Float → List ℕ → List ℕ → Effect Written (List ℕ)
-writeCall name vertices corners out = writing (bytes (figure (bare name vertices corners))) out (judged name vertices corners (length out))
+writeCall name vertices corners out = writing (bareBytes name vertices corners) out (judged name vertices corners (length out))
