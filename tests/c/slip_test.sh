@@ -153,6 +153,32 @@ stick --against "$E" "$T/copied"
 status_is 1
 matches out "$T/copied/stick.slip: missing: copy it again"
 
+try 'what is on the slip and not on the stick is said also where the master has it not'
+full_edition master
+fresh beside
+triangle >"$F/extra.3ds"
+slip "$F"
+cp "$T/slip" "$F/stick.slip"
+cp "$F/stick.slip" "$T/master/stick.slip"
+rm "$F/extra.3ds"
+words="$F/extra.3ds: missing here and in the master, though it is on the slip: see that it is the right master, and the slip no old one"
+for option in --against --copy; do
+    [ "$option" = --copy ] && rm "$T/master/stick.slip" # an edition that is not as its own slip says is not copied
+    stick "$option" "$T/master" "$F"
+    status_is 1
+    matches out "$words"
+    has out ', 1 missing, '
+done
+try 'and once where it is missing against the master too'
+cp "$F/stick.slip" "$T/master/stick.slip"
+rm "$F/vice.3ds"
+stick --against "$T/master" "$F"
+status_is 1
+matches out "$words"
+matches out "$F/vice.3ds: missing: copy it again"
+last "DO NOT SEAL: 6 figures checked, 0 refused, 2 missing, $seconds: see above"
+lines out 3
+
 try 'several sticks, some with a slip'
 cp "$E/stick.slip" "$T/copied"
 stick "$T/copied" samples/edition
