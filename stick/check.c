@@ -87,11 +87,19 @@ static void pass_by(struct check *check, const struct subject *subject) {
     }
 }
 
+/* Whether it is said of a file that the master has none of its name. */
+static bool is_strange(struct check *check, const struct subject *subject) {
+    if (check->in_master.manifest == NULL || subject->master != NULL) {
+        return false;
+    }
+    report_found(check->report, FOUND_EXTRA, subject->path, "not in the master",
+                 "delete it, or see that it is the right master");
+    return true;
+}
+
 /* Whether it is said of a file that it does not belong on this stick. */
 static bool is_extra(struct check *check, const struct subject *subject) {
-    if (check->in_master.manifest != NULL && subject->master == NULL) {
-        report_found(check->report, FOUND_EXTRA, subject->path, "not in the master",
-                     "delete it, or see that it is the right master");
+    if (is_strange(check, subject)) {
         return true;
     }
     if (check->on_slip.manifest != NULL && subject->entry == NULL) {
@@ -117,11 +125,11 @@ static void judge_file(struct check *check, struct subject *subject) {
     }
 }
 
-/* The slip has been read already; here it is only compared with the master's, if that has one. */
+/* The slip has been read already; here it is only compared with the master's. */
 static void look_at_slip(struct check *check, struct subject *subject) {
     subject->summed = false;
     subject->entry = NULL;
-    if (subject->master != NULL) {
+    if (!is_strange(check, subject) && subject->master != NULL) {
         check_file(check, subject);
     }
 }

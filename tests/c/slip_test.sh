@@ -179,6 +179,17 @@ matches out "$F/vice.3ds: missing: copy it again"
 last "DO NOT SEAL: 6 figures checked, 0 refused, 2 missing, $seconds: see above"
 lines out 3
 
+try 'a slip that the master has not'
+full_edition bare
+fresh unexpected
+for option in --against --copy; do
+    stick "$option" "$T/bare" "$F"
+    status_is 1
+    matches out "$F/stick.slip: not in the master: delete it, or see that it is the right master"
+    last "DO NOT SEAL: 7 figures checked, 0 refused, 1 not expected here, $seconds: see above"
+done
+same 'the slip, which is left alone,' "$E/stick.slip" "$F/stick.slip"
+
 try 'several sticks, some with a slip'
 cp "$E/stick.slip" "$T/copied"
 stick "$T/copied" samples/edition
