@@ -129,6 +129,9 @@ static void judge_file(struct check *check, struct subject *subject) {
 static void look_at_slip(struct check *check, struct subject *subject) {
     subject->summed = false;
     subject->entry = NULL;
+    if (check->slip.state == SLIP_UNREADABLE) {
+        return; /* which was said */
+    }
     if (!is_strange(check, subject) && subject->master != NULL) {
         check_file(check, subject);
     }

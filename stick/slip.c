@@ -6,6 +6,7 @@
 #include <strings.h>
 
 #include "folder.h"
+#include "longpath.h"
 #include "reading.h"
 #include "tds.h"
 
@@ -13,17 +14,28 @@ bool is_slip(const char *below) {
     return strcasecmp(below, SLIP_NAME) == 0;
 }
 
+/* Of a link, a pipe or the like the walk says what it is. */
+static bool is_file_or_folder(const char *path) {
+    struct stat status;
+    return long_stat(path, 1, &status) == 0 && (S_ISREG(status.st_mode) || S_ISDIR(status.st_mode));
+}
+
 /* The path of the slip in a folder, or NULL. */
 static char *find(const char *folder) {
     struct text path = {0};
     struct folder names;
+    bool found = false;
     folder_read(&names, folder, true);
-    for (size_t i = 0; i < names.count && path.bytes == NULL; i++) {
+    for (size_t i = 0; i < names.count && !found; i++) {
         if (is_slip(names.names[i])) {
             text_path(&path, folder, names.names[i]);
+            found = is_file_or_folder(path.bytes);
         }
     }
     folder_free(&names);
+    if (!found) {
+        text_free(&path);
+    }
     return path.bytes;
 }
 

@@ -114,6 +114,30 @@ stick "$F"
 status_is 2
 has err "$F/stick.slip: not checked: it is a link"
 
+try 'a link or a pipe in the place of the slip is one problem'
+edition link_for_slip
+ln -s adze.3ds "$F/stick.slip"
+stick "$F"
+status_is 2
+lines err 1
+matches err "stick: $F/stick.slip: not checked: it is a link, and links are not followed: put the file itself there"
+unsealed 6 0 1
+has out '; structure only: no slip on this stick'
+rm "$F/stick.slip"
+mkfifo "$F/stick.slip"
+stick "$F"
+status_is 2
+lines err 1
+matches err "stick: $F/stick.slip: not checked: it is neither a file nor a folder, but a pipe, a device or the like: take it off the stick"
+unsealed 6 0 1
+
+try 'a slip that cannot be read is one problem against a master too'
+fresh unread_too
+faulty "read:$EIO:unread_too/stick.slip" --against "$E" "$F"
+status_is 2
+lines err 1
+unsealed 7 0 1
+
 try 'a folder in the place of the slip'
 edition folder_for_slip
 mkdir "$F/stick.slip"
