@@ -70,6 +70,32 @@ if [ "$(find "$F" -iname adze.3ds | wc -l)" -eq 2 ]; then
     matches out "$F/Adze.3ds: not on the slip: .*"
 fi
 
+try 'two slips, where letters of either case are told apart'
+fresh two_slips
+echo junk >"$F/Stick.Slip"
+cp -R "$E" "$T/one_slip"
+if [ "$(find "$F" -iname stick.slip | wc -l)" -eq 2 ]; then
+    words="stick: $F/Stick.Slip: not checked: stick.slip is there too, and which of these slips is right cannot be told: delete one"
+    stick "$F"
+    status_is 2
+    matches err "$words"
+    lines err 1
+    last "DO NOT SEAL: 7 figures checked, 0 refused, 1 could not be checked, $seconds: see above; .*"
+    stick --against "$T/one_slip" "$F"
+    status_is 2
+    matches err "$words"
+    lines err 1
+    last "DO NOT SEAL: 7 figures checked, 0 refused, 1 could not be checked, $seconds: see above"
+    try 'a link beside the slip is one problem, and the slip is used'
+    rm "$F/Stick.Slip" "$F/saw.3ds"
+    ln -s stick.slip "$F/Stick.Slip"
+    stick "$F"
+    status_is 2
+    matches err "stick: $F/Stick.Slip: not checked: it is a link, .*"
+    lines err 1
+    last "DO NOT SEAL: 6 figures checked, 0 refused, 1 missing, 1 could not be checked, $seconds: see above"
+fi
+
 try 'a slip that is broken'
 fresh broken
 turn "$F/stick.slip" 0
