@@ -72,6 +72,17 @@ matches err "stick: $T/damaged: not copied: the edition itself is not well: see 
 last 'DO NOT SEAL: .*'
 if [ -z "$(ls -A "$T/four")" ]; then pass; else fail 'something was copied'; fi
 
+try 'an edition that cannot be read whole once it was checked is not copied'
+cp -R "$E" "$T/changing"
+if traced 'do' "ln -s adze.3ds '$T/changing/z.3ds'" "$T/changing/vice.3ds" --copy "$T/changing" "$T/four"; then
+    status_is 2
+    matches err "stick: $T/changing/z.3ds: not checked: it is neither a file nor a folder: take it out of there"
+    matches err "stick: $T/four: not checked: the edition could not be read whole, and nothing was copied: see above"
+    lines err 2
+    last 'DO NOT SEAL: .*'
+    if [ -z "$(ls -A "$T/four")" ]; then pass; else fail 'something was copied'; fi
+fi
+
 try 'a stick that is not there is not made'
 stick --copy "$E" "$T/nowhere" "$T/two"
 status_is 2
