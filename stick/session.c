@@ -9,6 +9,7 @@
 #include "longpath.h"
 #include "roomy.h"
 #include "slip.h"
+#include "stop.h"
 #include "verdict.h"
 
 enum { MOST_READERS = 40 }; /* a batch */
@@ -31,10 +32,19 @@ static void single_start(struct screen *screen, struct report *report,
     report_start(report, &options->style, screen, 0);
 }
 
+/* After a check: what was to be done next is not, and why. */
+static void say_not_done(struct report *report, const char *folder, const char *label,
+                         const char *words, const char *remedy) {
+    bool by_hand = report->unfinished && stopped();
+    struct trouble trouble;
+    trouble_of_words(&trouble, by_hand ? "stopped by hand" : words,
+                     by_hand ? "start again" : remedy);
+    report_trouble(report, folder, label, &trouble);
+}
+
 /* The edition must be well itself: its faults would be on every stick. */
 static int check_edition(const struct options *options) {
     struct against nothing = {0};
-    struct trouble trouble;
     struct report report;
     struct screen screen;
     int status;
@@ -42,9 +52,8 @@ static int check_edition(const struct options *options) {
     check_stick(options->edition, &nothing, NULL, &report);
     status = report_status(&report);
     if (status != 0) {
-        trouble_of_words(&trouble, "the edition itself is not well",
-                         "see above; nothing was copied");
-        report_trouble(&report, options->edition, "not copied", &trouble);
+        say_not_done(&report, options->edition, "not copied", "the edition itself is not well",
+                     "see above; nothing was copied");
         status = verdict_of_all(&report, 0);
     }
     screen_end(&screen);
@@ -93,16 +102,15 @@ static bool is_file(const char *path) {
 /* A slip is written only for a folder in which all is well, and that has none yet. */
 static void check_and_write_slip(const struct session *session, const char *folder,
                                  struct report *report) {
+    const char *label = "no slip was written";
     struct manifest files = {0};
-    struct trouble trouble;
     check_stick(folder, &session->against, &files, report);
     manifest_sort(&files);
     if (report_status(report) != 0) {
-        trouble_of_words(&trouble, "not all is well in it", "see above");
-        report_trouble(report, folder, "no slip was written", &trouble);
+        say_not_done(report, folder, label, "not all is well in it", "see above");
     } else if (report->bare == 0) {
-        trouble_of_words(&trouble, "there is one already, and it is left alone", "delete it first");
-        report_trouble(report, folder, "no slip was written", &trouble);
+        say_not_done(report, folder, label, "there is one already, and it is left alone",
+                     "delete it first");
     } else if (slip_write(folder, &files, report)) {
         report->bare = 0;
         report->slips = 1;

@@ -159,6 +159,15 @@ if traced 'do' "kill -INT \$PROCESS" "$E/texts/more/film.bin" --copy "$E" "$T/st
     last 'DO NOT SEAL: not finished: .*'
     if find "$T/stopped" -name '*.part*' | grep -q .; then fail 'a part is left'; else pass; fi
 fi
+try 'stopped by hand while the edition is checked'
+mkdir "$T/stopped_early"
+if traced 'do' "kill -INT \$PROCESS" "$E/chisel.3ds" --copy "$E" "$T/stopped_early"; then
+    status_is 2
+    matches err "stick: $E: not copied: stopped by hand: start again"
+    lines err 1
+    last 'DO NOT SEAL: not finished: .*'
+    if [ -z "$(ls -A "$T/stopped_early")" ]; then pass; else fail 'something was copied'; fi
+fi
 
 try 'a folder where the edition has a file'
 mkdir -p "$T/folders/adze.3ds"
