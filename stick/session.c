@@ -53,7 +53,7 @@ static int check_edition(const struct options *options) {
     status = report_status(&report);
     if (status != 0) {
         say_not_done(&report, options->edition, "not copied", "the edition itself is not well",
-                     "see above; nothing was copied");
+                     "see the other lines; nothing was copied");
         status = verdict_of_all(&report, 0);
     }
     screen_end(&screen);
@@ -107,7 +107,7 @@ static void check_and_write_slip(const struct session *session, const char *fold
     check_stick(folder, &session->against, &files, report);
     manifest_sort(&files);
     if (report_status(report) != 0) {
-        say_not_done(report, folder, label, "not all is well in it", "see above");
+        say_not_done(report, folder, label, "not all is well in it", "see the other lines");
     } else if (report->bare == 0) {
         say_not_done(report, folder, label, "there is one already, and it is left alone",
                      "delete it first");

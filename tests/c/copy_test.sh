@@ -68,9 +68,17 @@ mkdir "$T/four"
 stick --copy "$T/damaged" "$T/four"
 status_is 2
 matches out "$T/damaged/adze.3ds: refused: .*"
-matches err "stick: $T/damaged: not copied: the edition itself is not well: see above; nothing was copied"
+matches err "stick: $T/damaged: not copied: the edition itself is not well: see the other lines; nothing was copied"
 last 'DO NOT SEAL: .*'
 if [ -z "$(ls -A "$T/four")" ]; then pass; else fail 'something was copied'; fi
+try 'and where the reason comes below, it is not looked for above'
+cp -R "$E" "$T/almost"
+echo x >"$T/almost/adze.3ds.part"
+stick --copy "$T/almost" "$T/four"
+status_is 2
+matches err "stick: $T/almost: not copied: the edition itself is not well: see the other lines; nothing was copied"
+lines err 1
+matches out "not checked: 1 file almost named as a figure: $T/almost/adze.3ds.part: copy the figure again, and delete this"
 
 try 'an edition that cannot be read whole once it was checked is not copied'
 cp -R "$E" "$T/changing"

@@ -38,7 +38,7 @@ mkdir "$T/unwell"
 cp samples/damaged/short-length-of-five.3ds samples/edition/adze.3ds "$T/unwell"
 stick --write-slip "$T/unwell"
 status_is 2
-matches err "stick: $T/unwell: no slip was written: not all is well in it: see above"
+matches err "stick: $T/unwell: no slip was written: not all is well in it: see the other lines"
 if [ -e "$T/unwell/stick.slip" ]; then fail 'it was written'; else pass; fi
 for name in ._adze.3ds adze.3ds.part adze.cob; do
     rm -f "$T/unwell"/* "$T/unwell"/._*
