@@ -87,11 +87,19 @@ static void pass_by(struct check *check, const struct subject *subject) {
     }
 }
 
+/* Whether it is said of a file that the master has none of its name. */
+static bool is_strange(struct check *check, const struct subject *subject) {
+    if (check->in_master.manifest == NULL || subject->master != NULL) {
+        return false;
+    }
+    report_found(check->report, FOUND_EXTRA, subject->path, "not in the master",
+                 "delete it, or see that it is the right master");
+    return true;
+}
+
 /* Whether it is said of a file that it does not belong on this stick. */
 static bool is_extra(struct check *check, const struct subject *subject) {
-    if (check->in_master.manifest != NULL && subject->master == NULL) {
-        report_found(check->report, FOUND_EXTRA, subject->path, "not in the master",
-                     "delete it, or see that it is the right master");
+    if (is_strange(check, subject)) {
         return true;
     }
     if (check->on_slip.manifest != NULL && subject->entry == NULL) {
@@ -117,11 +125,14 @@ static void judge_file(struct check *check, struct subject *subject) {
     }
 }
 
-/* The slip has been read already; here it is only compared with the master's, if that has one. */
+/* The slip has been read already; here it is only compared with the master's. */
 static void look_at_slip(struct check *check, struct subject *subject) {
     subject->summed = false;
     subject->entry = NULL;
-    if (subject->master != NULL) {
+    if (check->slip.state == SLIP_UNREADABLE) {
+        return; /* which was said */
+    }
+    if (!is_strange(check, subject) && subject->master != NULL) {
         check_file(check, subject);
     }
 }
@@ -210,16 +221,36 @@ static void look_at(struct check *check, const struct entry *entry) {
     }
 }
 
-/* What should have been met and was not. */
-static void say_missing(struct check *check, const struct presence *presence) {
+static void say_missing(struct check *check, const char *name, const char *words,
+                        const char *remedy) {
     struct text path = {0};
-    for (size_t i = 0; presence->manifest != NULL && i < presence->manifest->count; i++) {
-        if (!presence->met[i]) {
-            text_path(&path, check->root, presence->manifest->entries[i].name);
-            report_found(check->report, FOUND_MISSING, path.bytes, NULL, "copy it again");
+    text_path(&path, check->root, name);
+    report_found(check->report, FOUND_MISSING, path.bytes, words, remedy);
+    text_free(&path);
+}
+
+static void say_missing_of_master(struct check *check) {
+    const struct presence *master = &check->in_master;
+    for (size_t i = 0; master->manifest != NULL && i < master->manifest->count; i++) {
+        if (!master->met[i]) {
+            say_missing(check, master->manifest->entries[i].name, NULL, "copy it again");
         }
     }
-    text_free(&path);
+}
+
+/* After that of the master: meeting a name there now tells that it was said. */
+static void say_missing_of_slip(struct check *check) {
+    const struct presence *slip = &check->on_slip;
+    bool alone = check->in_master.manifest == NULL;
+    for (size_t i = 0; slip->manifest != NULL && i < slip->manifest->count; i++) {
+        const char *name = slip->manifest->entries[i].name;
+        if (!slip->met[i] && presence_meet(&check->in_master, name) == NULL) {
+            say_missing(check, name,
+                        alone ? NULL : "missing here and in the master, though it is on the slip",
+                        alone ? "copy it again"
+                              : "see that it is the right master, and the slip no old one");
+        }
+    }
 }
 
 /* What only the whole walk can tell. */
@@ -240,8 +271,8 @@ static void at_end(struct check *check) {
         could_not_for_words(check, check->root, "there is no figure in this folder",
                             "see that it is the right folder, and that the edition was copied");
     }
-    /* What the master has is on its slip too, and is said once. */
-    say_missing(check, check->in_master.manifest != NULL ? &check->in_master : &check->on_slip);
+    say_missing_of_master(check);
+    say_missing_of_slip(check);
 }
 
 /* The slip of this stick, if it has one that can be used. */

@@ -162,6 +162,7 @@ void report_join(struct report *sum, const struct report *report) {
     sum->folders += report->folders;
     sum->unwell += report_status(report) != 0;
     sum->bare += report->bare;
+    sum->uncompared += report->uncompared;
     sum->slips += report->slips;
     sum->slip_files += report->slip_files;
     sum->from_memory = sum->from_memory || report->from_memory;

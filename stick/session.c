@@ -9,6 +9,7 @@
 #include "longpath.h"
 #include "roomy.h"
 #include "slip.h"
+#include "stop.h"
 #include "verdict.h"
 
 enum { MOST_READERS = 40 }; /* a batch */
@@ -31,10 +32,19 @@ static void single_start(struct screen *screen, struct report *report,
     report_start(report, &options->style, screen, 0);
 }
 
+/* After a check: what was to be done next is not, and why. */
+static void say_not_done(struct report *report, const char *folder, const char *label,
+                         const char *words, const char *remedy) {
+    bool by_hand = report->unfinished && stopped();
+    struct trouble trouble;
+    trouble_of_words(&trouble, by_hand ? "stopped by hand" : words,
+                     by_hand ? "start again" : remedy);
+    report_trouble(report, folder, label, &trouble);
+}
+
 /* The edition must be well itself: its faults would be on every stick. */
 static int check_edition(const struct options *options) {
     struct against nothing = {0};
-    struct trouble trouble;
     struct report report;
     struct screen screen;
     int status;
@@ -42,9 +52,8 @@ static int check_edition(const struct options *options) {
     check_stick(options->edition, &nothing, NULL, &report);
     status = report_status(&report);
     if (status != 0) {
-        trouble_of_words(&trouble, "the edition itself is not well",
-                         "see above; nothing was copied");
-        report_trouble(&report, options->edition, "not copied", &trouble);
+        say_not_done(&report, options->edition, "not copied", "the edition itself is not well",
+                     "see the other lines; nothing was copied");
         status = verdict_of_all(&report, 0);
     }
     screen_end(&screen);
@@ -52,16 +61,17 @@ static int check_edition(const struct options *options) {
     return status;
 }
 
-static int read_master(struct session *session, const char *folder) {
+/* What of the master could not be read is said here, once for all sticks. */
+static void read_master(struct session *session, const char *folder) {
     struct report report;
     struct screen screen;
-    int status;
     single_start(&screen, &report, session->options);
     manifest_of_folder(&session->manifest, folder, &report);
-    status = report_status(&report);
+    session->unread = report_status(&report) != 0;
+    session->against =
+        (struct against){session->unread ? NULL : folder, &session->manifest, "copy it again"};
     screen_end(&screen);
     report_free(&report);
-    return status;
 }
 
 int session_start(struct session *session, const struct options *options) {
@@ -72,8 +82,7 @@ int session_start(struct session *session, const struct options *options) {
         status = check_edition(options);
     }
     if (status == 0 && folder != NULL) {
-        status = read_master(session, folder);
-        session->against = (struct against){folder, &session->manifest, "copy it again"};
+        read_master(session, folder);
     }
     if (options->edition != NULL) {
         session->against.again = "it was there before and is left alone: delete it, copy again";
@@ -93,16 +102,15 @@ static bool is_file(const char *path) {
 /* A slip is written only for a folder in which all is well, and that has none yet. */
 static void check_and_write_slip(const struct session *session, const char *folder,
                                  struct report *report) {
+    const char *label = "no slip was written";
     struct manifest files = {0};
-    struct trouble trouble;
     check_stick(folder, &session->against, &files, report);
     manifest_sort(&files);
     if (report_status(report) != 0) {
-        trouble_of_words(&trouble, "not all is well in it", "see above");
-        report_trouble(report, folder, "no slip was written", &trouble);
+        say_not_done(report, folder, label, "not all is well in it", "see the other lines");
     } else if (report->bare == 0) {
-        trouble_of_words(&trouble, "there is one already, and it is left alone", "delete it first");
-        report_trouble(report, folder, "no slip was written", &trouble);
+        say_not_done(report, folder, label, "there is one already, and it is left alone",
+                     "delete it first");
     } else if (slip_write(folder, &files, report)) {
         report->bare = 0;
         report->slips = 1;
@@ -113,15 +121,28 @@ static void check_and_write_slip(const struct session *session, const char *fold
 
 /* Whether nothing can be done with a folder, and why. */
 static bool is_unfit(const struct round *round, size_t job, struct trouble *trouble) {
-    const char *folder = round->folders[job], *master = round->session->options->against;
+    const struct options *options = round->session->options;
+    const char *folder = round->folders[job], *master = options->against;
     if (*folder == '\0') {
         trouble_of_words(trouble, "the name is empty", "give a folder, for example /media/stick");
     } else if (master != NULL && long_same_folder(master, folder)) { /* it would pass in any case */
         trouble_of_words(trouble, "it is the master itself", "give the folder of the stick");
+    } else if (options->edition != NULL && round->session->unread) {
+        trouble_of_words(trouble, "the edition could not be read whole, and nothing was copied",
+                         "see above");
     } else {
         return false;
     }
     return true;
+}
+
+/* A stick that was checked by itself only does not pass. */
+static void say_not_compared(const char *folder, struct report *report) {
+    struct trouble trouble;
+    trouble_of_words(&trouble, "the master could not be read whole",
+                     "see above, and mend the master");
+    report_trouble(report, folder, "not compared", &trouble);
+    report->uncompared = 1;
 }
 
 static void work_on(struct round *round, size_t job) {
@@ -140,6 +161,9 @@ static void work_on(struct round *round, size_t job) {
         check_and_write_slip(session, folder, report);
     } else if (good) {
         check_stick(folder, &session->against, NULL, report);
+    }
+    if (good && session->unread) {
+        say_not_compared(folder, report);
     }
     if (round->count > 1 && *folder != '\0' && !is_file(folder)) {
         verdict_of_folder(report, folder); /* also where it is not there any more */

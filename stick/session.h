@@ -9,6 +9,7 @@ struct session {
     const struct options *options;
     struct manifest manifest; /* of the master or the edition */
     struct against against;
+    bool unread; /* that could not be read whole: nothing is compared with it, or copied */
 };
 
 /*

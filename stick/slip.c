@@ -6,6 +6,7 @@
 #include <strings.h>
 
 #include "folder.h"
+#include "longpath.h"
 #include "reading.h"
 #include "tds.h"
 
@@ -13,18 +14,46 @@ bool is_slip(const char *below) {
     return strcasecmp(below, SLIP_NAME) == 0;
 }
 
-/* The path of the slip in a folder, or NULL. */
-static char *find(const char *folder) {
+/* Of a link, a pipe or the like the walk says what it is. */
+static bool is_file_or_folder(const char *path) {
+    struct stat status;
+    return long_stat(path, 1, &status) == 0 && (S_ISREG(status.st_mode) || S_ISDIR(status.st_mode));
+}
+
+/* A second slip is there: none is used. */
+static void note_other(struct slip *slip, const char *name) {
+    struct text words = {0};
+    text_format(&words, "%s is there too, and which of these slips is right cannot be told", name);
+    trouble_of_words(&slip->trouble, words.bytes, "delete one");
+    slip->state = SLIP_UNREADABLE;
+    text_free(&words);
+}
+
+/* Takes up something that has the name of a slip. */
+static void take_up(struct slip *slip, const char *path, const char *name) {
+    if (!is_file_or_folder(path)) {
+        return;
+    }
+    if (slip->path == NULL) {
+        slip->path = need_copy(path);
+    } else {
+        note_other(slip, name);
+    }
+}
+
+/* Finds the slip in a folder. Where letters of either case are told apart, there can be two. */
+static void find(struct slip *slip, const char *folder) {
     struct text path = {0};
     struct folder names;
     folder_read(&names, folder, true);
-    for (size_t i = 0; i < names.count && path.bytes == NULL; i++) {
+    for (size_t i = 0; i < names.count && slip->state == SLIP_NONE; i++) {
         if (is_slip(names.names[i])) {
             text_path(&path, folder, names.names[i]);
+            take_up(slip, path.bytes, names.names[i]);
         }
     }
     folder_free(&names);
-    return path.bytes;
+    text_free(&path);
 }
 
 /* Reads the file; one byte over the longest slip shows that it is none. */
@@ -55,8 +84,9 @@ static void take_entries(struct slip *slip, const uint8_t *bytes, const uint8_t 
 void slip_read(struct slip *slip, const char *folder) {
     uint8_t *bytes, *entries;
     size_t length;
-    *slip = (struct slip){.path = find(folder), .settled = true};
-    if (slip->path == NULL) {
+    *slip = (struct slip){.settled = true};
+    find(slip, folder);
+    if (slip->path == NULL || slip->state == SLIP_UNREADABLE) {
         return;
     }
     bytes = need_memory(NULL, TDS_LONGEST_SLIP + 1);

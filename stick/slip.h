@@ -11,7 +11,7 @@ enum slip_state {
     SLIP_NONE,
     SLIP_GOOD,
     SLIP_BROKEN,    /* it breaks the rules of slips */
-    SLIP_UNREADABLE /* the stick did not hand it out */
+    SLIP_UNREADABLE /* the stick did not hand it out, or there are two */
 };
 
 struct slip {

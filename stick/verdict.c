@@ -71,6 +71,9 @@ static void add_uncovered(struct text *line, const struct report *report) {
         text_format(line, "; structure only on %lu of %lu: no slip there", report->bare,
                     report->folders);
     }
+    if (report->uncompared > 0) {
+        text_add(line, "; not compared with the master, which could not be read");
+    }
     if (report->slips == 1) {
         text_format(line, "; a slip was written, with %lu file%s", report->slip_files,
                     report->slip_files == 1 ? "" : "s");
@@ -156,6 +159,7 @@ static void add_json(struct text *lines, const struct report *sum, double second
     json_number(lines, "not_checked", sum->count[FOUND_UNCHECKED] + sum->near.count);
     json_number(lines, "of_no_known_kind", sum->unknown.count);
     json_number(lines, "structure_only", sum->bare);
+    json_number(lines, "not_compared", sum->uncompared);
     json_number(lines, "slips_written", sum->slips);
     json_number(lines, "from_memory", sum->from_memory);
     json_number(lines, "not_finished", sum->unfinished);

@@ -167,9 +167,29 @@ matches err "stick: $T/good/chisel.3ds: not checked: the master's file of this n
 mkdir "$T/linked"
 triangle >"$T/linked/t.3ds"
 ln -s t.3ds "$T/linked/u.3ds"
-stick --against "$T/linked" "$T/good"
+stick --against "$T/linked" "$T/good" "$T/bad"
 status_is 2
-has err "$T/linked/u.3ds: not checked: it is neither a file nor a folder"
+matches err "stick: $T/linked/u.3ds: not checked: it is neither a file nor a folder: take it out of there"
+try 'the sticks are still checked by themselves then, and do not pass'
+for name in good bad; do
+    matches err "stick: $T/$name: not compared: the master could not be read whole: see above, and mend the master"
+done
+lines err 3
+matches out "$T/bad/adze.3ds: refused: .*"
+matches out "$T/good: DO NOT SEAL: 6 figures checked, 0 refused, 1 could not be checked; .*; not compared with the master, which could not be read"
+last "DO NOT SEAL: 2 of 2 folders, 12 figures checked, 1 refused, 2 could not be checked, $seconds: see above; .*; not compared with the master, which .*"
+lacks out 'not in the master'
+stick --quiet --against "$T/linked" "$T/good"
+status_is 2
+lines err 2
+lines out 0
+stick --json --against "$T/linked" "$T/good"
+status_is 2
+lines err 0
+has out "{\"path\":\"$T/good\",\"result\":\"not compared\",\"words\":\"the master could not be read whole\","
+last '\{"verdict":"DO NOT SEAL","status":2,"folders":1,"unwell":1,"figures":6,.*,"not_compared":1,.*\}'
+stick --json --against samples/edition "$T/good"
+last '\{"verdict":"PASS","status":0,.*,"not_compared":0,.*\}'
 
 # --- for programs
 

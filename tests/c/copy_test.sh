@@ -68,9 +68,28 @@ mkdir "$T/four"
 stick --copy "$T/damaged" "$T/four"
 status_is 2
 matches out "$T/damaged/adze.3ds: refused: .*"
-matches err "stick: $T/damaged: not copied: the edition itself is not well: see above; nothing was copied"
+matches err "stick: $T/damaged: not copied: the edition itself is not well: see the other lines; nothing was copied"
 last 'DO NOT SEAL: .*'
 if [ -z "$(ls -A "$T/four")" ]; then pass; else fail 'something was copied'; fi
+try 'and where the reason comes below, it is not looked for above'
+cp -R "$E" "$T/almost"
+echo x >"$T/almost/adze.3ds.part"
+stick --copy "$T/almost" "$T/four"
+status_is 2
+matches err "stick: $T/almost: not copied: the edition itself is not well: see the other lines; nothing was copied"
+lines err 1
+matches out "not checked: 1 file almost named as a figure: $T/almost/adze.3ds.part: copy the figure again, and delete this"
+
+try 'an edition that cannot be read whole once it was checked is not copied'
+cp -R "$E" "$T/changing"
+if traced 'do' "ln -s adze.3ds '$T/changing/z.3ds'" "$T/changing/vice.3ds" --copy "$T/changing" "$T/four"; then
+    status_is 2
+    matches err "stick: $T/changing/z.3ds: not checked: it is neither a file nor a folder: take it out of there"
+    matches err "stick: $T/four: not checked: the edition could not be read whole, and nothing was copied: see above"
+    lines err 2
+    last 'DO NOT SEAL: .*'
+    if [ -z "$(ls -A "$T/four")" ]; then pass; else fail 'something was copied'; fi
+fi
 
 try 'a stick that is not there is not made'
 stick --copy "$E" "$T/nowhere" "$T/two"
@@ -147,6 +166,15 @@ if traced 'do' "kill -INT \$PROCESS" "$E/texts/more/film.bin" --copy "$E" "$T/st
     status_is 2
     last 'DO NOT SEAL: not finished: .*'
     if find "$T/stopped" -name '*.part*' | grep -q .; then fail 'a part is left'; else pass; fi
+fi
+try 'stopped by hand while the edition is checked'
+mkdir "$T/stopped_early"
+if traced 'do' "kill -INT \$PROCESS" "$E/chisel.3ds" --copy "$E" "$T/stopped_early"; then
+    status_is 2
+    matches err "stick: $E: not copied: stopped by hand: start again"
+    lines err 1
+    last 'DO NOT SEAL: not finished: .*'
+    if [ -z "$(ls -A "$T/stopped_early")" ]; then pass; else fail 'something was copied'; fi
 fi
 
 try 'a folder where the edition has a file'

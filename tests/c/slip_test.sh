@@ -70,6 +70,32 @@ if [ "$(find "$F" -iname adze.3ds | wc -l)" -eq 2 ]; then
     matches out "$F/Adze.3ds: not on the slip: .*"
 fi
 
+try 'two slips, where letters of either case are told apart'
+fresh two_slips
+echo junk >"$F/Stick.Slip"
+cp -R "$E" "$T/one_slip"
+if [ "$(find "$F" -iname stick.slip | wc -l)" -eq 2 ]; then
+    words="stick: $F/Stick.Slip: not checked: stick.slip is there too, and which of these slips is right cannot be told: delete one"
+    stick "$F"
+    status_is 2
+    matches err "$words"
+    lines err 1
+    last "DO NOT SEAL: 7 figures checked, 0 refused, 1 could not be checked, $seconds: see above; .*"
+    stick --against "$T/one_slip" "$F"
+    status_is 2
+    matches err "$words"
+    lines err 1
+    last "DO NOT SEAL: 7 figures checked, 0 refused, 1 could not be checked, $seconds: see above"
+    try 'a link beside the slip is one problem, and the slip is used'
+    rm "$F/Stick.Slip" "$F/saw.3ds"
+    ln -s stick.slip "$F/Stick.Slip"
+    stick "$F"
+    status_is 2
+    matches err "stick: $F/Stick.Slip: not checked: it is a link, .*"
+    lines err 1
+    last "DO NOT SEAL: 6 figures checked, 0 refused, 1 missing, 1 could not be checked, $seconds: see above"
+fi
+
 try 'a slip that is broken'
 fresh broken
 turn "$F/stick.slip" 0
@@ -114,6 +140,30 @@ stick "$F"
 status_is 2
 has err "$F/stick.slip: not checked: it is a link"
 
+try 'a link or a pipe in the place of the slip is one problem'
+edition link_for_slip
+ln -s adze.3ds "$F/stick.slip"
+stick "$F"
+status_is 2
+lines err 1
+matches err "stick: $F/stick.slip: not checked: it is a link, and links are not followed: put the file itself there"
+unsealed 6 0 1
+has out '; structure only: no slip on this stick'
+rm "$F/stick.slip"
+mkfifo "$F/stick.slip"
+stick "$F"
+status_is 2
+lines err 1
+matches err "stick: $F/stick.slip: not checked: it is neither a file nor a folder, but a pipe, a device or the like: take it off the stick"
+unsealed 6 0 1
+
+try 'a slip that cannot be read is one problem against a master too'
+fresh unread_too
+faulty "read:$EIO:unread_too/stick.slip" --against "$E" "$F"
+status_is 2
+lines err 1
+unsealed 7 0 1
+
 try 'a folder in the place of the slip'
 edition folder_for_slip
 mkdir "$F/stick.slip"
@@ -152,6 +202,43 @@ rm "$T/copied/stick.slip"
 stick --against "$E" "$T/copied"
 status_is 1
 matches out "$T/copied/stick.slip: missing: copy it again"
+
+try 'what is on the slip and not on the stick is said also where the master has it not'
+full_edition master
+fresh beside
+triangle >"$F/extra.3ds"
+slip "$F"
+cp "$T/slip" "$F/stick.slip"
+cp "$F/stick.slip" "$T/master/stick.slip"
+rm "$F/extra.3ds"
+words="$F/extra.3ds: missing here and in the master, though it is on the slip: see that it is the right master, and the slip no old one"
+for option in --against --copy; do
+    [ "$option" = --copy ] && rm "$T/master/stick.slip" # an edition that is not as its own slip says is not copied
+    stick "$option" "$T/master" "$F"
+    status_is 1
+    matches out "$words"
+    has out ', 1 missing, '
+done
+try 'and once where it is missing against the master too'
+cp "$F/stick.slip" "$T/master/stick.slip"
+rm "$F/vice.3ds"
+stick --against "$T/master" "$F"
+status_is 1
+matches out "$words"
+matches out "$F/vice.3ds: missing: copy it again"
+last "DO NOT SEAL: 6 figures checked, 0 refused, 2 missing, $seconds: see above"
+lines out 3
+
+try 'a slip that the master has not'
+full_edition bare
+fresh unexpected
+for option in --against --copy; do
+    stick "$option" "$T/bare" "$F"
+    status_is 1
+    matches out "$F/stick.slip: not in the master: delete it, or see that it is the right master"
+    last "DO NOT SEAL: 7 figures checked, 0 refused, 1 not expected here, $seconds: see above"
+done
+same 'the slip, which is left alone,' "$E/stick.slip" "$F/stick.slip"
 
 try 'several sticks, some with a slip'
 cp "$E/stick.slip" "$T/copied"

@@ -38,7 +38,7 @@ mkdir "$T/unwell"
 cp samples/damaged/short-length-of-five.3ds samples/edition/adze.3ds "$T/unwell"
 stick --write-slip "$T/unwell"
 status_is 2
-matches err "stick: $T/unwell: no slip was written: not all is well in it: see above"
+matches err "stick: $T/unwell: no slip was written: not all is well in it: see the other lines"
 if [ -e "$T/unwell/stick.slip" ]; then fail 'it was written'; else pass; fi
 for name in ._adze.3ds adze.3ds.part adze.cob; do
     rm -f "$T/unwell"/* "$T/unwell"/._*
@@ -113,6 +113,17 @@ faulty "write:$ENOSPC:full/stick.slip" --write-slip "$T/full"
 status_is 2
 has err "$T/full/stick.slip: no slip was written: the stick is full: take a larger stick, or make room on it"
 if [ "$(ls -A "$T/full")" = t.3ds ]; then pass; else fail "$(ls -A "$T/full")"; fi
+
+try 'stopped by hand: no slip is written'
+mkdir "$T/stopped"
+cp samples/edition/*.3ds "$T/stopped"
+if traced 'do' "kill -INT \$PROCESS" "$T/stopped/chisel.3ds" --write-slip "$T/stopped"; then
+    status_is 2
+    matches err "stick: $T/stopped: no slip was written: stopped by hand: start again"
+    lines err 1
+    last 'DO NOT SEAL: not finished: .*'
+    if [ -e "$T/stopped/stick.slip" ]; then fail 'it was written'; else pass; fi
+fi
 
 try 'wrong commands'
 stick --write-slip --copy "$E" "$E"
