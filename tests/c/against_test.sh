@@ -207,7 +207,8 @@ status_is 2
 lines err 0
 lines out 8
 matches out "\{\"path\":\"$F/adze.3ds\",\"result\":\"OK\"\}"
-matches out "\{\"path\":\"$F/a\\\\\"b\\\\\\\\\\\\\\\\.3ds\",\"result\":\"refused\",\"refusal\":4,\"name\":\"SHORT\",\"place\":[0-9]+,\"words\":\"[^\"]+\",\"remedy\":\"[^\"]+\"\}"
+FOUND='"refusal":4,"name":"SHORT","place":[0-9]+,"words":"[^"]+","remedy":"[^"]+"'
+matches out "\{\"path\":\"$F/a\\\\\"b\\\\\\\\\\\\\\\\.3ds\",\"result\":\"refused\",$FOUND\}"
 has out 'c\\xFF\\x0A.3ds","result":"refused","refusal":2'
 matches out "\{\"path\":\"$F/\._adze.3ds\",\"result\":\"left by another computer\",\"remedy\":\"delete it\"\}"
 has out 'd.3ds.part","result":"not checked","words":"it is almost named as a figure","remedy":"copy the figure again, and delete this"'

@@ -41,7 +41,11 @@ else
     package --modversion tds >"$T/out" 2>"$T/err"
     matches out '[0-9]+\.[0-9]+\.[0-9]+'
     if grep -q '^#define TDS_VERSION' include/tds.h; then
-        printf '#include <stdio.h>\n#include <tds.h>\nint main(void) { int v = TDS_VERSION; printf("%%d.%%d.%%d\\n", v >> 16, v >> 8 & 255, v & 255); return 0; }\n' >"$T/outside/version.c"
+        cat >"$T/outside/version.c" <<'END'
+#include <stdio.h>
+#include <tds.h>
+int main(void) { int v = TDS_VERSION; printf("%d.%d.%d\n", v >> 16, v >> 8 & 255, v & 255); return 0; }
+END
         # shellcheck disable=SC2046,SC2086
         (cd "$T/outside" && ${CC:-cc} ${CFLAGS:-} version.c $(cat "$T/flags") -o version && ./version) >"$T/version" 2>"$T/err"
         same 'the version of the package and of the header' "$T/out" "$T/version"

@@ -16,7 +16,8 @@ try 'a damaged figure has one line with path, name, number, place and what to do
 stick samples/damaged/overrun-length-bit-turned.3ds
 status_is 1
 P=$(sed -n 's/^overrun-length-bit-turned.3ds 5 //p' samples/damaged/expected.txt)
-matches out "samples/damaged/overrun-length-bit-turned.3ds: refused: OVERRUN \(5\): a length runs past the end of the chunk around it, at byte $P: copy this figure again"
+WORDS='a length runs past the end of the chunk around it'
+matches out "samples/damaged/overrun-length-bit-turned.3ds: refused: OVERRUN \(5\): $WORDS, at byte $P: copy this figure again"
 unsealed 1 1 0
 lines out 2
 lines err 0
