@@ -25,21 +25,40 @@ static void set_paths(struct copying *copying, const char *name) {
     text_path(&copying->to, copying->stick, name);
 }
 
-/* Makes the folders on the way to a file. Answers 0 or the system's error. */
-static int make_folders(struct copying *copying) {
+/* Makes a folder, or finds one: a link there would lead the copy away from the stick. */
+static bool make_folder(const char *path, struct trouble *trouble) {
+    struct stat status;
+    if (long_mkdir(path) == 0) {
+        return true;
+    }
+    if (errno != EEXIST || long_stat(path, 1, &status) != 0) {
+        trouble_of_system(trouble, errno);
+        return false;
+    }
+    if (!S_ISDIR(status.st_mode)) {
+        trouble_of_words(trouble,
+                         S_ISLNK(status.st_mode)
+                             ? "it is a link, and links are not followed"
+                             : "it is no folder, and the edition has one of this name",
+                         "take it off the stick, and copy again");
+        return false;
+    }
+    return true;
+}
+
+/* Makes the folders on the way to a file; the path is cut at one that fails, and is said so. */
+static bool make_folders(struct copying *copying, struct trouble *trouble) {
     char *path = copying->to.bytes;
     for (char *at = path + strlen(copying->stick) + 1; *at != '\0'; at++) {
-        int error = 0;
         if (*at == '/') {
             *at = '\0';
-            error = long_mkdir(path) == 0 || errno == EEXIST ? 0 : errno;
+            if (!make_folder(path, trouble)) {
+                return false;
+            }
             *at = '/';
         }
-        if (error != 0) {
-            return error;
-        }
     }
-    return 0;
+    return true;
 }
 
 /* Carries the bytes over. Answers false and says why. */
@@ -63,13 +82,9 @@ static bool copy_file(struct copying *copying, struct trouble *trouble) {
     struct trouble later;
     struct reading reading;
     struct writing writing;
-    int error = make_folders(copying);
     bool good;
-    if (error != 0) {
-        trouble_of_system(trouble, error);
-        return false;
-    }
-    if (!reading_open(&reading, copying->from.bytes, FROM_ANYWHERE, trouble)) {
+    if (!make_folders(copying, trouble) ||
+        !reading_open(&reading, copying->from.bytes, FROM_ANYWHERE, trouble)) {
         return false;
     }
     good = writing_open(&writing, copying->to.bytes, trouble);

@@ -89,6 +89,33 @@ stick --copy "$E" "$T/file"
 status_is 2
 has err "$T/file: not copied: it is not a folder"
 
+try 'a link to a folder on the stick is not followed: nothing is written outside'
+mkdir -p "$T/outside" "$T/linked" "$T/deeper/texts"
+ln -s "$T/outside" "$T/linked/texts"
+ln -s "$T/outside" "$T/deeper/texts/more"
+for link in linked/texts deeper/texts/more; do
+    stick --copy "$E" "$T/${link%%/*}"
+    status_is 2
+    matches err "stick: $T/$link: not copied: it is a link, and links are not followed: take it off the stick, and copy again"
+    lines err 1
+    last 'DO NOT SEAL: not finished: .*'
+done
+if [ -z "$(ls -A "$T/outside")" ]; then pass; else fail "written: $(ls -A "$T/outside")"; fi
+try 'a stick that is itself reached by a link'
+mkdir "$T/real"
+ln -s "$T/real" "$T/to-real"
+stick --copy "$E" "$T/to-real"
+status_is 0
+as_edition "$T/real"
+try 'a file on the stick where the edition has a folder'
+mkdir "$T/filed"
+echo mine >"$T/filed/texts"
+stick --copy "$E" "$T/filed"
+status_is 2
+matches err "stick: $T/filed/texts: not copied: it is no folder, and the edition has one of this name: take it off the stick, and copy again"
+lines err 1
+if [ "$(cat "$T/filed/texts")" = mine ]; then pass; else fail 'it was changed'; fi
+
 # broken FAULT WORDS: a copy to a new stick that fails; nothing half is left, and it is one line.
 broken() {
     rm -rf "$T/new"
