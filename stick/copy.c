@@ -105,7 +105,21 @@ static bool stands(const char *path) {
     return long_stat(path, 1, &status) == 0;
 }
 
-/* The stick must be there, be a folder, and be another one than the edition. */
+/* What is written to one of the two would be in the other, if one lay inside the other. */
+static bool are_apart(const struct copying *copying, struct trouble *trouble) {
+    if (long_same_folder(copying->stick, copying->edition)) {
+        trouble_of_words(trouble, "it is the edition itself", "give the folder of the stick");
+    } else if (long_lies_in(copying->stick, copying->edition)) {
+        trouble_of_words(trouble, "it lies inside the edition", "give the folder of the stick");
+    } else if (long_lies_in(copying->edition, copying->stick)) {
+        trouble_of_words(trouble, "the edition lies inside it", "put the edition elsewhere");
+    } else {
+        return true;
+    }
+    return false;
+}
+
+/* The stick must be there, be a folder, and have nothing to do with the edition. */
 static bool fit_to_copy_to(const struct copying *copying, struct trouble *trouble) {
     struct stat edition, stick;
     if (long_stat(copying->stick, 0, &stick) != 0 ||
@@ -117,11 +131,7 @@ static bool fit_to_copy_to(const struct copying *copying, struct trouble *troubl
         trouble_of_words(trouble, "it is not a folder", "give the folder of the stick");
         return false;
     }
-    if (stick.st_dev == edition.st_dev && stick.st_ino == edition.st_ino) {
-        trouble_of_words(trouble, "it is the edition itself", "give the folder of the stick");
-        return false;
-    }
-    return true;
+    return are_apart(copying, trouble);
 }
 
 static bool copy_all(struct copying *copying, const struct manifest *manifest,

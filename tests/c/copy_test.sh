@@ -89,6 +89,39 @@ stick --copy "$E" "$T/file"
 status_is 2
 has err "$T/file: not copied: it is not a folder"
 
+# refused EDITION STICK WORDS: nothing is written, neither there nor in the edition, and one line says why.
+refused() {
+    find "$1/" "$2/" >"$T/before"
+    stick --copy "$1" "$2"
+    status_is 2
+    has err "stick: $2: not copied: $3"
+    lines err 1
+    last 'DO NOT SEAL: .*'
+    find "$1/" "$2/" >"$T/after"
+    same 'what is there' "$T/before" "$T/after"
+}
+try 'a stick inside the edition, by whatever name: each copy would be copied again'
+cp -R "$E" "$T/around"
+mkdir -p "$T/around/deep/stick"
+ln -s "$T/around/deep/stick" "$T/to-inside"
+ln -s "$T/around" "$T/to-around"
+inside='it lies inside the edition: give the folder of the stick'
+refused "$T/around" "$T/around/deep/stick" "$inside"
+refused "$T/around" "$T/around/deep/../deep/stick/" "$inside"
+refused "$T/around" "$T/to-inside" "$inside"
+refused "$T/to-around" "$T/around/deep" "$inside"
+cd "$T/around/deep/stick" || exit 2
+refused ../.. . "$inside"
+cd "$OLDPWD" || exit 2
+try 'an edition inside the stick: its files would be none of the stick'
+mkdir "$T/holder"
+cp -R "$E" "$T/holder/edition"
+refused "$T/holder/edition" "$T/holder" 'the edition lies inside it: put the edition elsewhere'
+try 'a stick beside the edition, whose name begins alike'
+mkdir "$T/around-too"
+stick --copy "$E" "$T/around-too"
+status_is 0
+
 try 'a link to a folder on the stick is not followed: nothing is written outside'
 mkdir -p "$T/outside" "$T/linked" "$T/deeper/texts"
 ln -s "$T/outside" "$T/linked/texts"
