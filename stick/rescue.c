@@ -60,7 +60,8 @@ static bool read_figure(struct patient *patient) {
 /* The name in a chunk, up to its zero; NULL where the chunk is no object, or has none. */
 static const char *name_in(const uint8_t *chunk, size_t length) {
     const uint8_t *name = chunk + HEADER_BYTES;
-    if (length <= HEADER_BYTES || tds_get2(chunk) != OBJECT || tds_get4(chunk + 2) != length) {
+    if (length <= HEADER_BYTES || tds_get2(chunk) != OBJECT || tds_get4(chunk + 2) != length ||
+        *name == '\0') {
         return NULL;
     }
     return memchr(name, '\0', length - HEADER_BYTES) == NULL ? NULL : (const char *)name;
