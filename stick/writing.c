@@ -18,7 +18,7 @@ bool writing_open(struct writing *writing, const char *path, struct trouble *tro
     errno = EEXIST;
     for (int i = 0; i < MOST_PARTS && writing->file < 0 && errno == EEXIST; i++) {
         text_cut(&writing->part, 0);
-        text_format(&writing->part, "%s.part", path);
+        text_format(&writing->part, "%s" PART_ENDING, path);
         if (i > 0) {
             text_format(&writing->part, "%d", i);
         }
