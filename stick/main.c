@@ -86,7 +86,9 @@ int main(int argc, char **argv) {
         stop_on_signals();
         return work_with_room(&options);
     case TASK_RESCUE: {
-        int status = rescue(options.rescue, options.arguments[0]);
+        int status;
+        stop_on_signals();
+        status = rescue(options.rescue, options.arguments[0]);
         return printed() == 0 ? status : 2;
     }
     case TASK_HELP:

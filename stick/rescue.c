@@ -10,6 +10,7 @@
 
 #include "escape.h"
 #include "reading.h"
+#include "stop.h"
 #include "tds_words.h"
 #include "writing.h"
 
@@ -125,12 +126,23 @@ static void say_beyond(const struct patient *patient, uint64_t answer) {
     text_free(&escaped);
 }
 
+/* Whether the work is to end, which is the trouble then. */
+static bool is_stopped(struct trouble *trouble) {
+    bool asked = stopped();
+    if (asked) {
+        trouble_of_words(trouble, "stopped by hand, and nothing was written",
+                         "give the command again");
+    }
+    return asked;
+}
+
 static bool write_mended(const struct patient *patient, const char *path) {
     struct writing writing;
     struct trouble trouble;
     bool good = writing_open(&writing, path, &trouble);
     if (good) {
-        bool added = writing_add(&writing, patient->out, patient->size, &trouble);
+        bool added =
+            writing_add(&writing, patient->out, patient->size, &trouble) && !is_stopped(&trouble);
         struct trouble later;
         good = writing_close(&writing, added, added ? &trouble : &later);
     }

@@ -209,6 +209,15 @@ if traced 'do' "kill -INT \$PROCESS" "$E/texts/more/film.bin" --copy "$E" "$T/st
     if find "$T/stopped" -name '*.part*' | grep -q .; then fail 'a part is left'; else pass; fi
 fi
 
+try 'a file that is longer than this shell allows: nothing half is left'
+mkdir "$T/limited"
+# shellcheck disable=SC2016
+run sh -c 'ulimit -f 2000 && exec "$0" "$@"' "$S" --copy "$E" "$T/limited"
+status_is 2
+has err "$T/limited/texts/more/film.bin: not copied: the file is too big for the stick"
+lines err 1
+if find "$T/limited" -name '*.part*' | grep -q .; then fail 'a part is left'; else pass; fi
+
 try 'a folder where the edition has a file'
 mkdir -p "$T/folders/adze.3ds"
 stick --copy "$E" "$T/folders"

@@ -118,6 +118,16 @@ status_is 1
 matches out "$T/nameless.3ds: cut: an object, at byte 12, 12 bytes: .*"
 rm "$L"
 
+try 'stopped by hand: nothing is left, and that is said'
+for number in 1 2 15; do
+    faulty "stop:$number:left.3ds" --rescue "$D/name-zero-byte-lost.3ds" "$L"
+    status_is 2
+    lines out 0
+    matches err "stick: $L: stopped by hand, and nothing was written: give the command again"
+    lines err 1
+    nothing
+done
+
 try 'mistakes in the command line'
 stick --rescue "$D/name-zero-byte-lost.3ds"
 status_is 2
