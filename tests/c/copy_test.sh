@@ -218,6 +218,32 @@ has err "$T/limited/texts/more/film.bin: not copied: the file is too big for the
 lines err 1
 if find "$T/limited" -name '*.part*' | grep -q .; then fail 'a part is left'; else pass; fi
 
+try 'names so long that nothing can be put behind them'
+folder long_names
+for name in "$(printf '%0251d' 0)" "$(printf '%0246d' 0)" "x$(printf '%0125d' 0 | sed 's/0/\xC3\xA9/g')"; do
+    triangle >"$F/$name.3ds"
+    mkdir "$T/long"
+    memory=$RUN
+    RUN= # what is killed frees nothing
+    faulty 'stop:9:long/' --copy "$F" "$T/long" # as if the computer had been switched off
+    RUN=$memory
+    stick "$T/long"
+    status_is 2
+    has out 'not checked: 1 file almost named as a figure: '
+    lacks out '\x' # no character is cut in two
+    stick --copy "$F" "$T/long"
+    status_is 1
+    has out ': not in the master: delete it'
+    same 'the copy' "$F/$name.3ds" "$T/long/$name.3ds"
+    rm -r "$T/long"
+    mkdir "$T/long"
+    faulty "write:$ENOSPC:long/" --copy "$F" "$T/long"
+    status_is 2
+    has err "$T/long/$name.3ds: not copied: the stick is full"
+    if [ -z "$(ls -A "$T/long")" ]; then pass; else fail "a part is left: $(ls -A "$T/long")"; fi
+    rm -r "$T/long" "$F/$name.3ds"
+done
+
 try 'a folder where the edition has a file'
 mkdir -p "$T/folders/adze.3ds"
 stick --copy "$E" "$T/folders"
