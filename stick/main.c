@@ -55,7 +55,8 @@ static int work_with_room(const struct options *options) {
 /* Ends a task that only prints something. */
 static int printed(void) {
     if (fflush(stdout) != 0 || ferror(stdout)) {
-        fprintf(stderr, "stick: cannot write: %s\n", strerror(errno));
+        fprintf(stderr, "stick: cannot write: see that there is room where these lines go (%s)\n",
+                strerror(errno));
         return 2;
     }
     return 0;

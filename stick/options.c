@@ -112,7 +112,7 @@ static void take_folder(struct options *options, const char **folder, const char
     struct stat status;
     *folder = path;
     if (long_stat(path, 0, &status) != 0 || !S_ISDIR(status.st_mode)) {
-        mistake(options, "there is no folder ", path, "");
+        mistake(options, "there is no folder ", path, ": see that it is there, and the name right");
     }
 }
 

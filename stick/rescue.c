@@ -120,9 +120,10 @@ static void say_beyond(const struct patient *patient, uint64_t answer) {
     struct text escaped = {0};
     int number = TDS_REFUSAL(answer);
     text_escaped(&escaped, patient->path);
-    printf("%s: nothing can be mended: %s (%d): %s, at byte %lu\n", escaped.bytes,
-           tds_refusal_name(number), number, tds_refusal_words(number),
-           (unsigned long)TDS_PLACE(answer));
+    printf(
+        "%s: nothing can be mended: %s (%d): %s, at byte %lu: take another copy of this figure\n",
+        escaped.bytes, tds_refusal_name(number), number, tds_refusal_words(number),
+        (unsigned long)TDS_PLACE(answer));
     text_free(&escaped);
 }
 

@@ -83,7 +83,7 @@ status_is 2
 has err "$E: not copied: it is the edition itself"
 stick --copy "$T/nothing" "$T/two"
 status_is 2
-has err "stick: there is no folder $T/nothing"
+matches err "stick: there is no folder $T/nothing: see that it is there, and the name right"
 echo x >"$T/file"
 stick --copy "$E" "$T/file"
 status_is 2

@@ -75,7 +75,7 @@ try 'what nothing mends'
 for name in missing-editor-mark-bit-turned trailing-one-byte-added not-a-figure-empty-file father-own-number-bit-turned; do
     stick --rescue "$D/$name.3ds" "$L"
     status_is 1
-    matches out "$D/$name.3ds: nothing can be mended: .*"
+    matches out "$D/$name.3ds: nothing can be mended: .*, at byte [0-9]+: take another copy of this figure"
     lines out 1
     nothing
 done

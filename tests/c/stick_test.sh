@@ -423,6 +423,7 @@ if [ -w /dev/full ]; then
     $RUN "$S" --help >/dev/full 2>"$T/err"
     status=$?
     status_is 2
+    matches err 'stick: cannot write: see that there is room where these lines go \(No space left on device\)'
 else
     skip 'there is no /dev/full'
 fi
