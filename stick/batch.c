@@ -1,14 +1,13 @@
-/* A batch: waits for each next stick at a path, counts them, and keeps a dated log. */
+/* A batch: waits for each next stick at a path, counts them, and keeps a log. */
 #include "batch.h"
 
-#include <errno.h>
 #include <stdio.h>
-#include <string.h>
 #include <sys/stat.h>
 #include <time.h>
 
 #include "folder.h"
 #include "json.h"
+#include "log.h"
 #include "longpath.h"
 #include "names.h"
 #include "stop.h"
@@ -22,7 +21,7 @@ struct batch {
     unsigned long passed;
     struct names failed;
     int status; /* the worst so far */
-    FILE *log;
+    struct log log;
     struct stat stick; /* the one that is in */
 };
 
@@ -65,34 +64,11 @@ static void say(const struct batch *batch, const char *words) {
     }
 }
 
-/* A line of the log begins with the date; colours are for terminals only. */
-static void write_log(struct batch *batch, const char *lines) {
-    char date[40];
-    time_t now = time(NULL);
-    struct tm local;
-    localtime_r(&now, &local);
-    strftime(date, sizeof date, "%Y-%m-%d %H:%M:%S", &local);
-    while (*lines != '\0') {
-        size_t length = strcspn(lines, "\n");
-        fprintf(batch->log, "%s stick %lu of %lu: ", date, batch->number, batch->of);
-        for (size_t i = 0; i < length; i++) {
-            if (lines[i] == '\033') {
-                i += strcspn(lines + i, "m");
-            } else {
-                fputc(lines[i], batch->log);
-            }
-        }
-        fputc('\n', batch->log);
-        lines += length + (lines[length] == '\n');
-    }
-    fflush(batch->log);
-}
-
 static void work_on_stick(struct batch *batch) {
     struct text lines = {0}, number = {0};
     int status;
     status = session_work(batch->session, &batch->folder, 1, &lines);
-    write_log(batch, lines.length == 0 ? "PASS" : lines.bytes);
+    log_add(&batch->log, batch->number, batch->of, lines.length == 0 ? "PASS" : lines.bytes);
     batch->status = status > batch->status ? status : batch->status;
     batch->passed += status == 0;
     if (status != 0) {
@@ -121,73 +97,68 @@ static void next_stick(struct batch *batch) {
     }
 }
 
-static void add_plain_end(const struct batch *batch, bool finished, struct text *line) {
-    add_verdict_word(line, finished && batch->status == 0);
+static bool is_finished(const struct batch *batch) {
+    return batch->passed + batch->failed.count == batch->of;
+}
+
+static int status_of(const struct batch *batch) {
+    return is_finished(batch) && !batch->log.failed ? batch->status : 2;
+}
+
+static void add_plain_end(const struct batch *batch, struct text *line) {
+    add_verdict_word(line, status_of(batch) == 0);
     text_format(line, ": %s%lu of %lu sticks passed",
-                finished ? "" : "not finished: ", batch->passed, batch->of);
+                is_finished(batch) ? "" : "not finished: ", batch->passed, batch->of);
     if (batch->failed.count > 0) {
         text_add(line, "; not these: ");
         names_say(&batch->failed, line);
     }
-    text_add(line, "\n");
+    text_format(line, "%s\n", batch->log.failed ? "; the log is not whole" : "");
 }
 
-static void add_json_end(const struct batch *batch, bool finished, struct text *line) {
+static void add_json_end(const struct batch *batch, struct text *line) {
     json_begin(line);
-    json_string(line, "verdict", verdict_word(finished && batch->status == 0));
+    json_string(line, "verdict", verdict_word(status_of(batch) == 0));
     json_number(line, "sticks", batch->of);
     json_number(line, "passed", batch->passed);
     json_string(line, "not_these", batch->failed.list.bytes);
-    json_number(line, "not_finished", !finished);
+    json_string(line, "log", batch->log.failed ? "not whole" : NULL);
+    json_number(line, "not_finished", !is_finished(batch));
     json_end(line);
 }
 
-static int end_of(struct batch *batch) {
-    bool finished = batch->passed + batch->failed.count == batch->of;
-    struct text line = {0};
+static void set_end(const struct batch *batch, struct text *line) {
+    text_cut(line, 0);
     if (batch->session->options->style.json) {
-        add_json_end(batch, finished, &line);
+        add_json_end(batch, line);
     } else {
-        add_plain_end(batch, finished, &line);
+        add_plain_end(batch, line);
     }
-    fputs(line.bytes, stdout);
-    write_log(batch, line.bytes);
-    text_free(&line);
-    names_free(&batch->failed);
-    return finished ? batch->status : 2;
 }
 
-/* The log of this day, in the folder from which the program was started. */
-static FILE *open_log(const char *path) {
-    char name[60];
-    time_t now = time(NULL);
-    struct tm local;
-    FILE *log;
-    localtime_r(&now, &local);
-    strftime(name, sizeof name, "stick-batch-%Y-%m-%d.log", &local);
-    log = fopen(path == NULL ? name : path, "a");
-    if (log == NULL) {
-        fprintf(stderr, "stick: the log %s cannot be written: %s\n", path == NULL ? name : path,
-                strerror(errno));
-    }
-    return log;
+/* The last line goes to the log first: should that fail, the line says so too. */
+static void say_end(struct batch *batch) {
+    struct text line = {0};
+    set_end(batch, &line);
+    log_add(&batch->log, batch->number, batch->of, line.bytes);
+    log_close(&batch->log);
+    set_end(batch, &line);
+    fputs(line.bytes, stdout);
+    text_free(&line);
 }
 
 int batch_run(struct session *session, char *folder) {
     struct batch batch = {.session = session, .folder = folder, .of = session->options->batch};
     int status;
-    batch.log = open_log(session->options->log);
-    if (batch.log == NULL) {
+    if (!log_open(&batch.log, session->options->log)) {
         return 2;
     }
     while (!stopped() && batch.number < batch.of) {
         batch.number++;
         next_stick(&batch);
     }
-    status = end_of(&batch);
-    if (fclose(batch.log) != 0) {
-        fprintf(stderr, "stick: the log could not be written: %s\n", strerror(errno));
-        status = 2;
-    }
+    say_end(&batch);
+    status = status_of(&batch);
+    names_free(&batch.failed);
     return status;
 }

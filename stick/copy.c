@@ -25,21 +25,40 @@ static void set_paths(struct copying *copying, const char *name) {
     text_path(&copying->to, copying->stick, name);
 }
 
-/* Makes the folders on the way to a file. Answers 0 or the system's error. */
-static int make_folders(struct copying *copying) {
+/* Makes a folder, or finds one: a link there would lead the copy away from the stick. */
+static bool make_folder(const char *path, struct trouble *trouble) {
+    struct stat status;
+    if (long_mkdir(path) == 0) {
+        return true;
+    }
+    if (errno != EEXIST || long_stat(path, 1, &status) != 0) {
+        trouble_of_system(trouble, errno);
+        return false;
+    }
+    if (!S_ISDIR(status.st_mode)) {
+        trouble_of_words(trouble,
+                         S_ISLNK(status.st_mode)
+                             ? "it is a link, and links are not followed"
+                             : "it is no folder, and the edition has one of this name",
+                         "take it off the stick, and copy again");
+        return false;
+    }
+    return true;
+}
+
+/* Makes the folders on the way to a file; the path is cut at one that fails, and is said so. */
+static bool make_folders(struct copying *copying, struct trouble *trouble) {
     char *path = copying->to.bytes;
     for (char *at = path + strlen(copying->stick) + 1; *at != '\0'; at++) {
-        int error = 0;
         if (*at == '/') {
             *at = '\0';
-            error = long_mkdir(path) == 0 || errno == EEXIST ? 0 : errno;
+            if (!make_folder(path, trouble)) {
+                return false;
+            }
             *at = '/';
         }
-        if (error != 0) {
-            return error;
-        }
     }
-    return 0;
+    return true;
 }
 
 /* Carries the bytes over. Answers false and says why. */
@@ -63,13 +82,9 @@ static bool copy_file(struct copying *copying, struct trouble *trouble) {
     struct trouble later;
     struct reading reading;
     struct writing writing;
-    int error = make_folders(copying);
     bool good;
-    if (error != 0) {
-        trouble_of_system(trouble, error);
-        return false;
-    }
-    if (!reading_open(&reading, copying->from.bytes, FROM_ANYWHERE, trouble)) {
+    if (!make_folders(copying, trouble) ||
+        !reading_open(&reading, copying->from.bytes, FROM_ANYWHERE, trouble)) {
         return false;
     }
     good = writing_open(&writing, copying->to.bytes, trouble);
@@ -90,7 +105,21 @@ static bool stands(const char *path) {
     return long_stat(path, 1, &status) == 0;
 }
 
-/* The stick must be there, be a folder, and be another one than the edition. */
+/* What is written to one of the two would be in the other, if one lay inside the other. */
+static bool are_apart(const struct copying *copying, struct trouble *trouble) {
+    if (long_same_folder(copying->stick, copying->edition)) {
+        trouble_of_words(trouble, "it is the edition itself", "give the folder of the stick");
+    } else if (long_lies_in(copying->stick, copying->edition)) {
+        trouble_of_words(trouble, "it lies inside the edition", "give the folder of the stick");
+    } else if (long_lies_in(copying->edition, copying->stick)) {
+        trouble_of_words(trouble, "the edition lies inside it", "put the edition elsewhere");
+    } else {
+        return true;
+    }
+    return false;
+}
+
+/* The stick must be there, be a folder, and have nothing to do with the edition. */
 static bool fit_to_copy_to(const struct copying *copying, struct trouble *trouble) {
     struct stat edition, stick;
     if (long_stat(copying->stick, 0, &stick) != 0 ||
@@ -102,11 +131,7 @@ static bool fit_to_copy_to(const struct copying *copying, struct trouble *troubl
         trouble_of_words(trouble, "it is not a folder", "give the folder of the stick");
         return false;
     }
-    if (stick.st_dev == edition.st_dev && stick.st_ino == edition.st_ino) {
-        trouble_of_words(trouble, "it is the edition itself", "give the folder of the stick");
-        return false;
-    }
-    return true;
+    return are_apart(copying, trouble);
 }
 
 static bool copy_all(struct copying *copying, const struct manifest *manifest,

@@ -65,6 +65,9 @@ static bool is_last_space(const unsigned char *at) {
 
 void text_escaped(struct text *text, const char *name) {
     const unsigned char *at = (const unsigned char *)name;
+    if (*name == '\0') {
+        text_add(text, "''");
+    }
     while (*at != '\0') {
         size_t bytes = is_last_space(at) ? 0 : character_at(at);
         if (*at == '\\') {

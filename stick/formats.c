@@ -35,10 +35,15 @@ const struct format *format_of(const char *name) {
     return NULL;
 }
 
+static bool is_letter(char byte) {
+    return (byte >= 'a' && byte <= 'z') || (byte >= 'A' && byte <= 'Z');
+}
+
+/* With a letter behind it, the ending would be part of another word: notes.cobalt.txt. */
 static bool holds(const char *name, const char *ending) {
     size_t length = strlen(ending);
     for (; *name != '\0'; name++) {
-        if (strncasecmp(name, ending, length) == 0) {
+        if (strncasecmp(name, ending, length) == 0 && !is_letter(name[length])) {
             return true;
         }
     }

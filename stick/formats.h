@@ -14,7 +14,8 @@ struct format {
 /* The format of 3D Studio's figures: what is named as no figure is read as one if it must be. */
 const struct format *studio_format(void);
 
-/* The format that a name ends as, and the one whose ending stands elsewhere in it; NULL if none. */
+/* The format that a name ends as, and the one whose ending stands elsewhere in it as a word of its
+ * own; NULL if none. */
 const struct format *format_of(const char *name);
 const struct format *format_near(const char *name);
 

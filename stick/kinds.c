@@ -1,12 +1,13 @@
 /* What a name on a stick stands for: the one place that knows what other computers leave. */
 #include "kinds.h"
 
-#include <stdbool.h>
 #include <stddef.h>
 #include <string.h>
 #include <strings.h>
 
 #include "formats.h"
+#include "slip.h"
+#include "writing.h"
 
 /* Files and folders that other computers put on every stick they see. */
 static const char *const left_behind[] = {
@@ -57,6 +58,14 @@ static bool is_left_behind(const char *name) {
     return false;
 }
 
+bool is_half_slip(const char *path) {
+    static const char part[] = SLIP_NAME PART_ENDING;
+    const size_t length = sizeof part - 1;
+    const char *name = last_name(path);
+    return strncasecmp(name, part, length) == 0 &&
+           name[length + strspn(name + length, "0123456789")] == '\0';
+}
+
 enum kind kind_of(const char *path) {
     const char *name = last_name(path);
     const struct format *format = format_of(name);
@@ -66,5 +75,5 @@ enum kind kind_of(const char *path) {
     if (format != NULL) {
         return KIND_FIGURE;
     }
-    return format_near(name) != NULL ? KIND_NEAR_FIGURE : KIND_OTHER;
+    return format_near(name) != NULL || is_half_slip(path) ? KIND_NEAR_FIGURE : KIND_OTHER;
 }

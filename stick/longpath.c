@@ -9,6 +9,8 @@
 #include <string.h>
 #include <unistd.h>
 
+#include "text.h"
+
 enum { PIECE = 1000 }; /* every system takes this much; no single name in a path is so long */
 
 static void close_quietly(int folder) {
@@ -101,10 +103,29 @@ int long_stat(const char *path, int link, struct stat *status) {
                                  : -1;
 }
 
+static bool same(const struct stat *one, const struct stat *other) {
+    return one->st_dev == other->st_dev && one->st_ino == other->st_ino;
+}
+
 bool long_same_folder(const char *one, const char *other) {
     struct stat first, second;
     return long_stat(one, 0, &first) == 0 && long_stat(other, 0, &second) == 0 &&
-           S_ISDIR(first.st_mode) && first.st_dev == second.st_dev && first.st_ino == second.st_ino;
+           S_ISDIR(first.st_mode) && same(&first, &second);
+}
+
+bool long_lies_in(const char *inner, const char *outer) {
+    struct stat wanted, at = {0}, before = {0};
+    struct text path = {0};
+    bool found = false, top = long_stat(outer, 0, &wanted) != 0;
+    text_add(&path, inner);
+    while (!found && !top) { /* above the topmost folder is that folder again */
+        top = long_stat(path.bytes, 0, &at) != 0 || same(&at, &before);
+        found = !top && same(&at, &wanted);
+        before = at;
+        text_add(&path, "/..");
+    }
+    text_free(&path);
+    return found;
 }
 
 int long_mkdir(const char *path) {

@@ -17,6 +17,10 @@ int long_stat(const char *path, int link, struct stat *status);
 /* Whether two paths are of one folder, which is there. */
 bool long_same_folder(const char *one, const char *other);
 
+/* Whether a folder is another one, or lies in it at whatever depth; links on the way do not hide
+ * that. */
+bool long_lies_in(const char *inner, const char *outer);
+
 /* As mkdir(2), unlink(2) and rename(2), for paths of any length. */
 int long_mkdir(const char *path);
 int long_unlink(const char *path);

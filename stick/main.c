@@ -55,7 +55,8 @@ static int work_with_room(const struct options *options) {
 /* Ends a task that only prints something. */
 static int printed(void) {
     if (fflush(stdout) != 0 || ferror(stdout)) {
-        fprintf(stderr, "stick: cannot write: %s\n", strerror(errno));
+        fprintf(stderr, "stick: cannot write: see that there is room where these lines go (%s)\n",
+                strerror(errno));
         return 2;
     }
     return 0;
@@ -86,7 +87,9 @@ int main(int argc, char **argv) {
         stop_on_signals();
         return work_with_room(&options);
     case TASK_RESCUE: {
-        int status = rescue(options.rescue, options.arguments[0]);
+        int status;
+        stop_on_signals();
+        status = rescue(options.rescue, options.arguments[0]);
         return printed() == 0 ? status : 2;
     }
     case TASK_HELP:

@@ -75,7 +75,7 @@ static void mistake(struct options *options, const char *before, const char *wor
                     const char *behind) {
     struct text escaped = {0};
     text_escaped(&escaped, word);
-    fprintf(stderr, "stick: %s%s%s\n", before, escaped.length == 0 ? "''" : escaped.bytes, behind);
+    fprintf(stderr, "stick: %s%s%s\n", before, escaped.bytes, behind);
     text_free(&escaped);
     options->task = TASK_MISTAKE;
 }
@@ -112,7 +112,7 @@ static void take_folder(struct options *options, const char **folder, const char
     struct stat status;
     *folder = path;
     if (long_stat(path, 0, &status) != 0 || !S_ISDIR(status.st_mode)) {
-        mistake(options, "there is no folder ", path, "");
+        mistake(options, "there is no folder ", path, ": see that it is there, and the name right");
     }
 }
 
@@ -195,7 +195,7 @@ static void judge_rescue(struct options *options) {
     } else if (options->count > 1) {
         mistake(options, "one figure is mended, into one new file: leave ", options->arguments[1],
                 " away");
-    } else if (options->count == 0) {
+    } else if (options->count == 0 || *options->arguments[0] == '\0') {
         mistake(options, "which new file is what is left of ", options->rescue,
                 " to go to? For example: stick --rescue adze.3ds what-is-left.3ds");
     } else {

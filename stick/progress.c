@@ -39,7 +39,7 @@ static void add_name(struct text *line, const char *name) {
     struct text whole = {0};
     const char *from;
     text_escaped(&whole, name);
-    from = whole.length == 0 ? "" : whole.bytes;
+    from = whole.bytes;
     if (whole.length > MOST_OF_NAME) {
         from += whole.length - MOST_OF_NAME;
         while (((unsigned char)*from & 0xC0) == 0x80) {

@@ -8,6 +8,7 @@
 
 #include "escape.h"
 #include "json.h"
+#include "kinds.h"
 #include "tds_words.h"
 
 /* What each outcome is called in a line. */
@@ -137,6 +138,11 @@ void report_near(struct report *report, const char *path) {
                               .path = path,
                               .words = "it is almost named as a figure",
                               .remedy = NEAR_REMEDY};
+    if (is_half_slip(path)) {
+        report_found(report, FOUND_UNCHECKED, path,
+                     "it is half a slip, whose writing was broken off", "delete it");
+        return;
+    }
     names_add(&report->near, path, report->style->verbose);
     if (report->style->json) {
         say_as_json(report, &finding);

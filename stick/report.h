@@ -87,7 +87,8 @@ void report_found(struct report *report, enum outcome outcome, const char *path,
 void report_trouble(struct report *report, const char *path, const char *label,
                     const struct trouble *trouble);
 
-/* A file that is almost named as a figure, or of no known kind: named in the last lines. */
+/* A file that is almost named as a figure, or of no known kind: named in the last lines. Half a
+ * slip has a line of its own. */
 void report_near(struct report *report, const char *path);
 void report_unknown(struct report *report, const char *path);
 

@@ -10,6 +10,7 @@
 
 #include "escape.h"
 #include "reading.h"
+#include "stop.h"
 #include "tds_words.h"
 #include "writing.h"
 
@@ -60,7 +61,8 @@ static bool read_figure(struct patient *patient) {
 /* The name in a chunk, up to its zero; NULL where the chunk is no object, or has none. */
 static const char *name_in(const uint8_t *chunk, size_t length) {
     const uint8_t *name = chunk + HEADER_BYTES;
-    if (length <= HEADER_BYTES || tds_get2(chunk) != OBJECT || tds_get4(chunk + 2) != length) {
+    if (length <= HEADER_BYTES || tds_get2(chunk) != OBJECT || tds_get4(chunk + 2) != length ||
+        *name == '\0') {
         return NULL;
     }
     return memchr(name, '\0', length - HEADER_BYTES) == NULL ? NULL : (const char *)name;
@@ -118,10 +120,21 @@ static void say_beyond(const struct patient *patient, uint64_t answer) {
     struct text escaped = {0};
     int number = TDS_REFUSAL(answer);
     text_escaped(&escaped, patient->path);
-    printf("%s: nothing can be mended: %s (%d): %s, at byte %lu\n", escaped.bytes,
-           tds_refusal_name(number), number, tds_refusal_words(number),
-           (unsigned long)TDS_PLACE(answer));
+    printf(
+        "%s: nothing can be mended: %s (%d): %s, at byte %lu: take another copy of this figure\n",
+        escaped.bytes, tds_refusal_name(number), number, tds_refusal_words(number),
+        (unsigned long)TDS_PLACE(answer));
     text_free(&escaped);
+}
+
+/* Whether the work is to end, which is the trouble then. */
+static bool is_stopped(struct trouble *trouble) {
+    bool asked = stopped();
+    if (asked) {
+        trouble_of_words(trouble, "stopped by hand, and nothing was written",
+                         "give the command again");
+    }
+    return asked;
 }
 
 static bool write_mended(const struct patient *patient, const char *path) {
@@ -129,7 +142,8 @@ static bool write_mended(const struct patient *patient, const char *path) {
     struct trouble trouble;
     bool good = writing_open(&writing, path, &trouble);
     if (good) {
-        bool added = writing_add(&writing, patient->out, patient->size, &trouble);
+        bool added =
+            writing_add(&writing, patient->out, patient->size, &trouble) && !is_stopped(&trouble);
         struct trouble later;
         good = writing_close(&writing, added, added ? &trouble : &later);
     }

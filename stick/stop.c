@@ -47,10 +47,11 @@ void stop_on_signals(void) {
     listen_to(SIGINT);
     listen_to(SIGTERM);
     listen_to(SIGHUP);
-    /* A reader of our lines that goes away must not end a copy half way: the writing fails instead.
-     */
+    /* Neither a reader of our lines that goes away nor a limit on the length of files may end a
+     * copy half way: the writing fails instead. */
     sigemptyset(&ignored.sa_mask);
     sigaction(SIGPIPE, &ignored, NULL);
+    sigaction(SIGXFSZ, &ignored, NULL);
 }
 
 void stop_not_here(void) {

@@ -11,18 +11,51 @@
 
 #include "longpath.h"
 
-enum { MOST_PARTS = 100 }; /* parts of earlier tries that may be there; they are left alone */
+enum {
+    MOST_PARTS = 100, /* parts of earlier tries that may be there; they are left alone */
+    CUT = 8           /* characters: room for the ending, and a number behind it */
+};
+
+/* A name without its first characters, none of which is cut in two. */
+static const char *without_start(const char *name) {
+    int begun = 0;
+    for (; *name != '\0'; name++) {
+        begun += ((unsigned char)*name & 0xC0) != 0x80;
+        if (begun > CUT) {
+            break;
+        }
+    }
+    return name;
+}
+
+/* Sets the name of a part. Where a name is so long that it takes no ending, it loses its start: the
+ * end tells what it is. */
+static void set_part(struct writing *writing, bool cut, int number) {
+    const char *slash = strrchr(writing->path, '/');
+    const char *name = slash == NULL ? writing->path : slash + 1;
+    text_cut(&writing->part, 0);
+    text_add_bytes(&writing->part, writing->path, (size_t)(name - writing->path));
+    text_add(&writing->part, cut ? without_start(name) : name);
+    text_add(&writing->part, PART_ENDING);
+    if (number > 0) {
+        text_format(&writing->part, "%d", number);
+    }
+}
+
+/* Begins a part of the first name that is free; errno says why there is none. */
+static void begin(struct writing *writing, bool cut) {
+    errno = EEXIST;
+    for (int i = 0; i < MOST_PARTS && writing->file < 0 && errno == EEXIST; i++) {
+        set_part(writing, cut, i);
+        writing->file = long_create(writing->part.bytes);
+    }
+}
 
 bool writing_open(struct writing *writing, const char *path, struct trouble *trouble) {
     *writing = (struct writing){.file = -1, .path = path};
-    errno = EEXIST;
-    for (int i = 0; i < MOST_PARTS && writing->file < 0 && errno == EEXIST; i++) {
-        text_cut(&writing->part, 0);
-        text_format(&writing->part, "%s.part", path);
-        if (i > 0) {
-            text_format(&writing->part, "%d", i);
-        }
-        writing->file = long_create(writing->part.bytes);
+    begin(writing, false);
+    if (writing->file < 0 && errno == ENAMETOOLONG) {
+        begin(writing, true);
     }
     if (writing->file < 0) {
         trouble_of_system(trouble, errno);

@@ -9,6 +9,9 @@
 #include "text.h"
 #include "trouble.h"
 
+/* What a file's name ends with until it is whole; a number may stand behind it. */
+#define PART_ENDING ".part"
+
 struct writing {
     int file;
     const char *path;

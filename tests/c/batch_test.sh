@@ -103,9 +103,37 @@ status_is 0
 if grep -q 'PASS' "$T"/stick-batch-20??-??-??.log; then pass; else fail 'there is no such log'; fi
 
 try 'a log that cannot be written'
+no_log='cannot be written: see that its folder is there and has room, or give another with --log'
 stick --batch 1 --log "$T/nowhere/log" "$P"
 status_is 2
-has err "stick: the log $T/nowhere/log cannot be written"
+matches err "stick: the log $T/nowhere/log $no_log \(No such file or directory\)"
+lines err 1
+lines out 0
+try 'the name of a log is printed as all names are'
+stick --batch 1 --log "$(printf '%s/no/\033[31mred\nx' "$T")" "$P"
+status_is 2
+has err "stick: the log $T/no/\\x1B[31mred\\x0Ax $no_log"
+lines err 1
+stick --batch 1 --log '' "$P"
+status_is 2
+has err "stick: the log '' $no_log"
+
+try 'a log that is full is said once, and does not pass'
+if [ -w /dev/full ]; then
+    start --batch 2 --log /dev/full "$P"
+    await "$T/out" 'stick 1 of 2: take it out'
+    mv "$P" "$T/one" && mv "$T/four" "$P"
+    ended
+    status_is 2
+    matches err "stick: the log /dev/full $no_log \(No space left on device\)"
+    lines err 1
+    last 'DO NOT SEAL: 2 of 2 sticks passed; the log is not whole'
+    stick --json --batch 1 --log /dev/full "$P"
+    status_is 2
+    last '\{"verdict":"DO NOT SEAL","sticks":1,"passed":1,"log":"not whole","not_finished":0\}'
+else
+    skip 'there is no /dev/full'
+fi
 try 'wrong commands'
 for number in 0 -1 x ''; do
     stick --batch "$number" "$P"

@@ -102,11 +102,71 @@ status_is 2
 has err "$E: not copied: it is the edition itself"
 stick --copy "$T/nothing" "$T/two"
 status_is 2
-has err "stick: there is no folder $T/nothing"
+matches err "stick: there is no folder $T/nothing: see that it is there, and the name right"
 echo x >"$T/file"
 stick --copy "$E" "$T/file"
 status_is 2
 has err "$T/file: not copied: it is not a folder"
+
+# refused EDITION STICK WORDS: nothing is written, neither there nor in the edition, and one line says why.
+refused() {
+    find "$1/" "$2/" >"$T/before"
+    stick --copy "$1" "$2"
+    status_is 2
+    has err "stick: $2: not copied: $3"
+    lines err 1
+    last 'DO NOT SEAL: .*'
+    find "$1/" "$2/" >"$T/after"
+    same 'what is there' "$T/before" "$T/after"
+}
+try 'a stick inside the edition, by whatever name: each copy would be copied again'
+cp -R "$E" "$T/around"
+mkdir -p "$T/around/deep/stick"
+ln -s "$T/around/deep/stick" "$T/to-inside"
+ln -s "$T/around" "$T/to-around"
+inside='it lies inside the edition: give the folder of the stick'
+refused "$T/around" "$T/around/deep/stick" "$inside"
+refused "$T/around" "$T/around/deep/../deep/stick/" "$inside"
+refused "$T/around" "$T/to-inside" "$inside"
+refused "$T/to-around" "$T/around/deep" "$inside"
+cd "$T/around/deep/stick" || exit 2
+refused ../.. . "$inside"
+cd "$OLDPWD" || exit 2
+try 'an edition inside the stick: its files would be none of the stick'
+mkdir "$T/holder"
+cp -R "$E" "$T/holder/edition"
+refused "$T/holder/edition" "$T/holder" 'the edition lies inside it: put the edition elsewhere'
+try 'a stick beside the edition, whose name begins alike'
+mkdir "$T/around-too"
+stick --copy "$E" "$T/around-too"
+status_is 0
+
+try 'a link to a folder on the stick is not followed: nothing is written outside'
+mkdir -p "$T/outside" "$T/linked" "$T/deeper/texts"
+ln -s "$T/outside" "$T/linked/texts"
+ln -s "$T/outside" "$T/deeper/texts/more"
+for link in linked/texts deeper/texts/more; do
+    stick --copy "$E" "$T/${link%%/*}"
+    status_is 2
+    matches err "stick: $T/$link: not copied: it is a link, and links are not followed: take it off the stick, and copy again"
+    lines err 1
+    last 'DO NOT SEAL: not finished: .*'
+done
+if [ -z "$(ls -A "$T/outside")" ]; then pass; else fail "written: $(ls -A "$T/outside")"; fi
+try 'a stick that is itself reached by a link'
+mkdir "$T/real"
+ln -s "$T/real" "$T/to-real"
+stick --copy "$E" "$T/to-real"
+status_is 0
+as_edition "$T/real"
+try 'a file on the stick where the edition has a folder'
+mkdir "$T/filed"
+echo mine >"$T/filed/texts"
+stick --copy "$E" "$T/filed"
+status_is 2
+matches err "stick: $T/filed/texts: not copied: it is no folder, and the edition has one of this name: take it off the stick, and copy again"
+lines err 1
+if [ "$(cat "$T/filed/texts")" = mine ]; then pass; else fail 'it was changed'; fi
 
 # broken FAULT WORDS: a copy to a new stick that fails; nothing half is left, and it is one line.
 broken() {
@@ -176,6 +236,41 @@ if traced 'do' "kill -INT \$PROCESS" "$E/chisel.3ds" --copy "$E" "$T/stopped_ear
     last 'DO NOT SEAL: not finished: .*'
     if [ -z "$(ls -A "$T/stopped_early")" ]; then pass; else fail 'something was copied'; fi
 fi
+
+try 'a file that is longer than this shell allows: nothing half is left'
+mkdir "$T/limited"
+# shellcheck disable=SC2016
+run sh -c 'ulimit -f 2000 && exec "$0" "$@"' "$S" --copy "$E" "$T/limited"
+status_is 2
+has err "$T/limited/texts/more/film.bin: not copied: the file is too big for the stick"
+lines err 1
+if find "$T/limited" -name '*.part*' | grep -q .; then fail 'a part is left'; else pass; fi
+
+try 'names so long that nothing can be put behind them'
+folder long_names
+for name in "$(printf '%0251d' 0)" "$(printf '%0246d' 0)" "x$(printf '%0125d' 0 | sed 's/0/\xC3\xA9/g')"; do
+    triangle >"$F/$name.3ds"
+    mkdir "$T/long"
+    memory=$RUN
+    RUN= # what is killed frees nothing
+    faulty 'stop:9:long/' --copy "$F" "$T/long" # as if the computer had been switched off
+    RUN=$memory
+    stick "$T/long"
+    status_is 2
+    has out 'not checked: 1 file almost named as a figure: '
+    lacks out '\x' # no character is cut in two
+    stick --copy "$F" "$T/long"
+    status_is 1
+    has out ': not in the master: delete it'
+    same 'the copy' "$F/$name.3ds" "$T/long/$name.3ds"
+    rm -r "$T/long"
+    mkdir "$T/long"
+    faulty "write:$ENOSPC:long/" --copy "$F" "$T/long"
+    status_is 2
+    has err "$T/long/$name.3ds: not copied: the stick is full"
+    if [ -z "$(ls -A "$T/long")" ]; then pass; else fail "a part is left: $(ls -A "$T/long")"; fi
+    rm -r "$T/long" "$F/$name.3ds"
+done
 
 try 'a folder where the edition has a file'
 mkdir -p "$T/folders/adze.3ds"

@@ -6,12 +6,14 @@
  * CALL (read, write, fdatasync, fadvise) fails with the error of this number on every file whose
  * path holds PATH, after COUNT calls that go well. So a stick can be drawn out, or be full, at a
  * moment that no luck is needed for. For the CALL "come", and any number but 0, a file comes to
- * stand there just before another is given its name.
+ * stand there just before another is given its name. For the CALL "stop" the program gets the
+ * signal of this number just before it writes.
  */
 #include <dlfcn.h>
 #include <errno.h>
 #include <fcntl.h>
 #include <limits.h>
+#include <signal.h>
 #include <stdatomic.h>
 #include <stdio.h>
 #include <stdlib.h>
@@ -70,8 +72,11 @@ ssize_t read(int file, void *bytes, size_t size) {
 
 ssize_t write(int file, const void *bytes, size_t size) {
     typedef ssize_t (*function)(int, const void *, size_t);
-    int error = fault("write", file);
+    int error = fault("write", file), number = fault("stop", file);
     REAL("write", function)
+    if (number != 0) {
+        kill(getpid(), number);
+    }
     if (error != 0) {
         errno = error;
         return -1;

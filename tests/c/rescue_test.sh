@@ -75,7 +75,7 @@ try 'what nothing mends'
 for name in missing-editor-mark-bit-turned trailing-one-byte-added not-a-figure-empty-file father-own-number-bit-turned; do
     stick --rescue "$D/$name.3ds" "$L"
     status_is 1
-    matches out "$D/$name.3ds: nothing can be mended: .*"
+    matches out "$D/$name.3ds: nothing can be mended: .*, at byte [0-9]+: take another copy of this figure"
     lines out 1
     nothing
 done
@@ -105,10 +105,40 @@ stick --rescue "$D/name-zero-byte-lost.3ds" "$T/no/folder.3ds"
 status_is 2
 lines err 1
 
+try 'an empty name is seen'
+stick --rescue '' "$L"
+status_is 2
+matches err "stick: '': there is no such file or folder .*"
+lines err 1
+nothing
+try 'an object with an empty name has none'
+printf 'MM\030\0\0\0==\022\0\0\0\0@\014\0\0\0\0\0A\006\0\0' >"$T/nameless.3ds"
+stick --rescue "$T/nameless.3ds" "$L"
+status_is 1
+matches out "$T/nameless.3ds: cut: an object, at byte 12, 12 bytes: .*"
+rm "$L"
+
+try 'stopped by hand: nothing is left, and that is said'
+for number in 1 2 15; do
+    faulty "stop:$number:left.3ds" --rescue "$D/name-zero-byte-lost.3ds" "$L"
+    status_is 2
+    lines out 0
+    matches err "stick: $L: stopped by hand, and nothing was written: give the command again"
+    lines err 1
+    nothing
+done
+
 try 'mistakes in the command line'
 stick --rescue "$D/name-zero-byte-lost.3ds"
 status_is 2
 has err 'which new file'
+stick --rescue "$D/name-zero-byte-lost.3ds" ''
+status_is 2
+matches err "stick: which new file is what is left of $D/name-zero-byte-lost.3ds to go to\? For example: .*"
+lines err 1
+stick --rescue '' ''
+status_is 2
+has err "what is left of '' to go to?"
 stick --rescue "$D/name-zero-byte-lost.3ds" "$L" "$L.more"
 status_is 2
 has err "leave $L.more away"

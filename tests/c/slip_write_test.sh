@@ -48,6 +48,34 @@ for name in ._adze.3ds adze.3ds.part adze.cob; do
     status_is 2
     if [ -e "$T/unwell/stick.slip" ]; then fail "it was written beside $name"; else pass; fi
 done
+try 'half a slip, left by a writing that was broken off, is said in the check and is on no slip'
+for name in stick.slip.part stick.slip.part17 STICK.Slip.PART; do
+    rm -rf "$T/half"
+    mkdir "$T/half"
+    triangle >"$T/half/t.3ds"
+    echo half >"$T/half/$name"
+    half="stick: $T/half/$name: not checked: it is half a slip, whose writing was broken off: delete it"
+    stick "$T/half"
+    status_is 2
+    matches err "$half"
+    lines err 1
+    unsealed 1 0 1
+    stick --write-slip "$T/half"
+    status_is 2
+    matches err "$half"
+    if [ -e "$T/half/stick.slip" ]; then fail 'a slip was written'; else pass; fi
+    stick --json "$T/half"
+    status_is 2
+    has out "\"path\":\"$T/half/$name\",\"result\":\"not checked\""
+    has out '"not_checked":1,'
+    rm "$T/half/$name"
+done
+for name in stick.slip.party stick.slip.part2a; do echo 'no slip' >"$T/half/$name"; done
+stick --write-slip "$T/half"
+status_is 0
+has out 'a slip was written, with 3 files'
+
+try 'no slip is written where there is no figure'
 mkdir "$T/none"
 echo x >"$T/none/notes.txt"
 stick --write-slip "$T/none"

@@ -62,6 +62,18 @@ stick --quiet "$F"
 status_is 2
 lines out 1
 
+try 'an ending with a letter behind it is part of another word'
+folder words
+triangle >"$F/t.3ds"
+for name in notes.cobalt.txt .3dsmax a.c4dx; do echo 'no figure' >"$F/$name"; done
+stick "$F"
+status_is 0
+matches out "not looked at: 3 files of no known kind: $F/.3dsmax, $F/a.c4dx, $F/notes.cobalt.txt"
+for name in 'a.3ds (1)' b.cob2 c.C4D_old x.cobalt.cob.part; do echo 'a figure?' >"$F/$name"; done
+stick "$F"
+status_is 2
+unsealed 1 0 4
+
 try 'Caligari figures'
 folder caligari
 triangle >"$F/t.3ds"
@@ -412,6 +424,7 @@ if [ -w /dev/full ]; then
     $RUN "$S" --help >/dev/full 2>"$T/err"
     status=$?
     status_is 2
+    matches err 'stick: cannot write: see that there is room where these lines go \(No space left on device\)'
 else
     skip 'there is no /dev/full'
 fi

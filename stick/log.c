@@ -1,0 +1,84 @@
+/*
+ * The log of a batch: dated lines, added to a file. One that cannot be written is said once, and
+ * the batch goes on: the sticks can be checked all the same.
+ */
+#include "log.h"
+
+#include <errno.h>
+#include <string.h>
+#include <time.h>
+
+#include "escape.h"
+
+static void fails(struct log *log) {
+    int error = errno;
+    struct text name = {0};
+    if (!log->failed) {
+        text_escaped(&name, log->name.bytes);
+        fprintf(stderr,
+                "stick: the log %s cannot be written: see that its folder is there and has room, "
+                "or give another with --log (%s)\n",
+                name.bytes, strerror(error));
+        text_free(&name);
+    }
+    log->failed = true;
+}
+
+/* The date in the form that is given. */
+static void add_date(struct text *text, const char *form) {
+    char date[60];
+    time_t now = time(NULL);
+    struct tm local;
+    localtime_r(&now, &local);
+    strftime(date, sizeof date, form, &local);
+    text_add(text, date);
+}
+
+bool log_open(struct log *log, const char *path) {
+    *log = (struct log){0};
+    if (path != NULL) {
+        text_add(&log->name, path);
+    } else { /* in the folder from which the program was started */
+        add_date(&log->name, "stick-batch-%Y-%m-%d.log");
+    }
+    log->file = fopen(log->name.bytes, "a");
+    if (log->file == NULL) {
+        fails(log);
+        text_free(&log->name);
+    }
+    return log->file != NULL;
+}
+
+/* Colours are for terminals only. */
+static void add_plainly(struct text *text, const char *line, size_t length) {
+    for (size_t i = 0; i < length; i++) {
+        if (line[i] == '\033') {
+            i += strcspn(line + i, "m");
+        } else {
+            text_add_bytes(text, line + i, 1);
+        }
+    }
+}
+
+void log_add(struct log *log, unsigned long number, unsigned long of, const char *lines) {
+    struct text text = {0};
+    while (*lines != '\0') {
+        size_t length = strcspn(lines, "\n");
+        add_date(&text, "%Y-%m-%d %H:%M:%S");
+        text_format(&text, " stick %lu of %lu: ", number, of);
+        add_plainly(&text, lines, length);
+        text_add(&text, "\n");
+        lines += length + (lines[length] == '\n');
+    }
+    if (text.length > 0 && (fputs(text.bytes, log->file) == EOF || fflush(log->file) != 0)) {
+        fails(log);
+    }
+    text_free(&text);
+}
+
+void log_close(struct log *log) {
+    if (fclose(log->file) != 0) {
+        fails(log);
+    }
+    text_free(&log->name);
+}
