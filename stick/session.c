@@ -152,7 +152,7 @@ static void work_on(struct round *round, size_t job) {
     struct trouble trouble;
     bool good = !is_unfit(round, job, &trouble);
     if (!good) {
-        report_trouble(report, *folder == '\0' ? "''" : folder, NULL, &trouble);
+        report_trouble(report, folder, NULL, &trouble);
     }
     if (good && session->options->edition != NULL) {
         good = copy_edition(session->options->edition, &session->manifest, folder, report);
