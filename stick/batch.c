@@ -79,21 +79,29 @@ static void work_on_stick(struct batch *batch) {
     text_free(&lines);
 }
 
-/* The next stick comes in, is worked on, and goes out again. */
-static void next_stick(struct batch *batch) {
+static void wait_for_stick(struct batch *batch) {
     say(batch, "put it in");
     while (!stopped() && !stick_is_in(batch->folder, &batch->stick)) {
         wait_a_little();
     }
+}
+
+static void wait_until_out(struct batch *batch) {
+    say(batch, "take it out");
+    while (!stopped() && same_stick_is_in(batch)) {
+        wait_a_little();
+    }
+}
+
+/* The next stick comes in, is worked on, and goes out again; the last may stay. */
+static void next_stick(struct batch *batch) {
+    wait_for_stick(batch);
     if (stopped()) {
         return;
     }
     work_on_stick(batch);
     if (batch->number < batch->of) {
-        say(batch, "take it out");
-    }
-    while (!stopped() && batch->number < batch->of && same_stick_is_in(batch)) {
-        wait_a_little();
+        wait_until_out(batch);
     }
 }
 

@@ -203,13 +203,21 @@ static void judge_rescue(struct options *options) {
     }
 }
 
-/* A folder that was named before, by whatever name, or NULL. */
+/* Whether a folder was named before, by whatever name. */
+static bool is_again(const struct options *options, size_t folder) {
+    for (size_t i = 0; i < folder; i++) {
+        if (long_same_folder(options->arguments[i], options->arguments[folder])) {
+            return true;
+        }
+    }
+    return false;
+}
+
+/* The first such folder, or NULL. */
 static const char *named_again(const struct options *options) {
     for (size_t i = 1; i < options->count; i++) {
-        for (size_t earlier = 0; earlier < i; earlier++) {
-            if (long_same_folder(options->arguments[earlier], options->arguments[i])) {
-                return options->arguments[i];
-            }
+        if (is_again(options, i)) {
+            return options->arguments[i];
         }
     }
     return NULL;

@@ -182,14 +182,20 @@ static void *reader(void *shared) {
     }
 }
 
-/* This thread is a reader too, so that one folder needs no other. */
-static void read_all(struct round *round) {
-    pthread_t threads[MOST_READERS];
+/* Starts one reader less than there are folders, or as many as the system lets. */
+static size_t start_readers(struct round *round, pthread_t threads[MOST_READERS]) {
     size_t started = 0;
     while (started + 1 < round->count && started + 1 < MOST_READERS &&
            roomy_start(&threads[started], reader, round)) {
         started++;
     }
+    return started;
+}
+
+/* This thread is a reader too, so that one folder needs no other. */
+static void read_all(struct round *round) {
+    pthread_t threads[MOST_READERS];
+    size_t started = start_readers(round, threads);
     reader(round);
     for (size_t i = 0; i < started; i++) {
         pthread_join(threads[i], NULL);
