@@ -14,7 +14,6 @@ use shared_words::Refusal;
 use studio_mesh_rows::fill_float_bytes;
 ghost use mathlib.Core.Path.{_≡_};
 ghost use mathlib.Core.Bool.{true, cond};
-ghost use mathlib.Core.List.{[]};
 ghost use Prim.Native.Nat.{_+_, _*_, _<_, _≤_};
 ghost use lib.ListN.{length, drop};
 ghost use Rattle.shared_words.specs.Bytes.{packed};

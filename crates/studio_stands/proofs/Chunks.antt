@@ -1,8 +1,8 @@
 -- The first chunk of a run that stands in a file: its header, its own data, its children and what follows it. That the run
 -- parses says that each identifier fits its two bytes.
 use mathlib.Core.Path.{_≡_, sym, ap, _∙_}
-use mathlib.Core.Bool.{true, false, not, true≢false}
-use mathlib.Core.List.{List, []}
+use mathlib.Core.Bool.{true, not, true≢false}
+use mathlib.Core.List.{List}
 use Prim.Native.Nat.{ℕ, _+_, _<_, _^_}
 use native.Mathlib.Omega.{arith}
 use lib.Dec.{ltb}
