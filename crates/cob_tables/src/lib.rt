@@ -94,10 +94,10 @@ fn ask(file: &[u8], mesh: u32) -> Asked
 // ---- the faces with three corners and no holes
 
 // A face: whether it is one of them, where its corners stand, and where the next face stands.
-pub struct Triangle {
-    pub yes: bool,
-    pub at: usize,
-    pub next: usize,
+struct Triangle {
+    yes: bool,
+    at: usize,
+    next: usize,
 }
 
 // The first of so many faces.
