@@ -3,13 +3,14 @@ use mathlib.Core.Path.{_≡_, refl, ap, _∙_}
 use Prim.Native.Nat.{ℕ, suc, _+_, _<_, _≤_}
 use native.Mathlib.Omega.{arith}
 use mathlib.Core.Bool.{Bool, true, false, cond}
-use mathlib.Core.List.{List, []}
+use mathlib.Core.List.{List}
 use mathlib.Core.Option.{some}
 use lib.Dec.{eqb}
 use lib.ListN.{length}
 use lib.Seq.{slice}
 use Rattle.shared_words.specs.declared.Refusal.the-variants.{Overrun, Order}
 use Rattle.shared_words.specs.Conditions.{broken, Answer, refused, accepted}
+use Rattle.shared_words.proofs.Bools.{bit-small}
 use Rattle.c4d_rules.specs.Blocks.{Block, materialHeader}
 use Rattle.c4d_rules.specs.Kinds.{matEnd, matNext}
 use Rattle.c4d_rules.specs.Rules.{materialId, nexts}
@@ -27,10 +28,6 @@ counted-more n b (accepted bs) = ap Nexts.Count (go (eqb (materialId b) matNext)
     go : (q : Bool) → n + cond q (suc (nexts bs)) (nexts bs) ≡ n + cond q 1 0 + nexts bs
     go true = omega arith
     go false = omega arith
-
-pub one-small : (q : Bool) → cond q 1 0 ≤ 1
-one-small true = omega arith
-one-small false = omega arith
 
 -- what is counted of the MAT4 at `chunk`
 abbrev pub whole : List ℕ → ℕ → ℕ → Nexts
@@ -64,7 +61,7 @@ module _ (s : List ℕ) (chunk to at : ℕ) (m : to ≤ length s) where
         goes = i .goes ∙ ap (countedFrom n) (goes-on (materialGrammar chunk) (omega arith) s false at to l m id len t b refl) ∙
             counted-more n b (walk (materialGrammar chunk) (eqb (materialId b) matEnd) (at + (4 + len)) (slice (at + (4 + len)) to s)) ∙ rw (t .id-is);
         within = omega arith;
-        few = omega (arith, one-small (eqb id matNext));
+        few = omega (arith, bit-small (eqb id matNext));
       }
 
   pub on-open : (n : ℕ) → On s chunk to at false n → to ≤ at → whole s chunk to ≡ Nexts.Refused (Order chunk)

@@ -8,12 +8,9 @@ use mathlib.Core.List.{List, [], _∷_, _++_}
 use lib.Dec.{eqb}
 use borrow.Author.Tests.{eqb-true, eq-eqb, ne-eqb}
 use Rattle.shared_words.specs.Lists.{among}
+use Rattle.shared_words.proofs.Bools.{bit-small}
 use Rattle.c4d_rules.specs.Combinations.{isIn}
 use Rattle.c4d_parts.specs.Bits.{bitsFrom, bits}
-
-pub bit-small : (b : Bool) → cond b 1 0 ≤ 1
-bit-small true = omega arith
-bit-small false = omega arith
 
 is-one : (b : Bool) → eqb (cond b 1 0) 1 ≡ b
 is-one true = refl

@@ -9,10 +9,9 @@ use lib.Dec.{eqb}
 use lib.ListN.{length}
 use borrow.Author.Tests.{eqb-true}
 use Rattle.shared_words.specs.Lists.{every}
-use Rattle.shared_words.proofs.Bools.{and-parts}
+use Rattle.shared_words.proofs.Bools.{and-parts, bit-small}
 use Rattle.c4d_rules.specs.Kinds.{exclusive}
 use Rattle.c4d_rules.specs.Combinations.{isIn, holds, combination}
-use Rattle.c4d_parts.proofs.Bits.{bit-small}
 use Rattle.c4d_parts.specs.Bits.{bitsFrom, bits, exclusiveIn, Row, among, table, lookedUp}
 
 -- ---- a test of all rows of n answers

@@ -1,26 +1,15 @@
 -- At most one combination holds: of any two, one requires what has no place in the other. That is one computed test of the nine.
-use mathlib.Core.Path.{_≡_, refl, ap, sym, _∙_}
+use mathlib.Core.Path.{_≡_, refl, sym, _∙_}
 use Prim.Native.Nat.{ℕ, _+_, _≤_}
 use native.Mathlib.Omega.{arith}
 use mathlib.Core.Bool.{Bool, true, false, not, _&&_, _||_, cond, false≢true}
 use mathlib.Core.List.{List, [], _∷_}
-use lib.Dec.{eqb}
-use borrow.Author.Tests.{eqb-true}
 use Rattle.shared_words.specs.Lists.{every, among}
 use Rattle.shared_words.proofs.Bools.{and-parts}
+use Rattle.shared_words.proofs.Lists.{among-every}
 use Rattle.c4d_rules.specs.Kinds.{exclusive}
 use Rattle.c4d_rules.specs.Combinations.{required, optional, requiredWith, Combination, combinations, members, partThere, partsThere, holds, howMany}
 use Rattle.c4d_rules.specs.Theorems.{AtMostOne}
-
--- what holds of each holds of one of them
-of-one : (p : ℕ → Bool) (x : ℕ) (xs : List ℕ) → every p xs ≡ true → among x xs ≡ true → p x ≡ true
-unfolding every
-of-one p x [] h a = absurd (false≢true a)
-of-one p x (y ∷ ys) h a = go (eqb x y) refl (of-one p x ys (and-parts (p y) (every p ys) h .1))
-  where
-    go : (q : Bool) → eqb x y ≡ q → (among x ys ≡ true → p x ≡ true) → p x ≡ true
-    go true e r = ap p (eqb-true x y e) ∙ and-parts (p y) (every p ys) h .0
-    go false e r = r (rw e at a)
 
 -- what is there has its place
 placed : (a b : Bool) → (not a || b) ≡ true → a ≡ true → b ≡ true
@@ -48,7 +37,7 @@ module _ (there : ℕ → Bool) (d : Combination) (h : every (λ id. not (there 
       go true e true e′ r = r (rw (e, e′) at l)
       go true e false e′ r =
           let u = and-parts (there id) (partsThere there ps) t in
-          false≢true (sym e′ ∙ placed (there id) (among id (members d)) (of-one (λ id. not (there id) || among id (members d)) id exclusive h e) (u .0))
+          false≢true (sym e′ ∙ placed (there id) (among id (members d)) (among-every (λ id. not (there id) || among id (members d)) id exclusive h e) (u .0))
       go false e b e′ r = r (rw e at l)
   lacks-law (optional id ∷ ps) l t = lacks-law ps l t
   lacks-law (requiredWith id others ∷ ps) l t =

@@ -1,6 +1,6 @@
 -- The places of a slip are small, in the reader as in the writer: at most 1,000 entries of at most 262 bytes stand behind its
 -- first 7.
-use mathlib.Core.Path.{_≡_, refl, ap}
+use mathlib.Core.Path.{_≡_}
 use Prim.Native.Nat.{ℕ, zero, suc, _+_, _*_, _≤_}
 use native.Mathlib.Omega.{arith}
 use mathlib.Core.Bool.{true, not}
@@ -20,6 +20,7 @@ use Rattle.slip_rules.specs.Rules.{isNamed, remember, limit}
 use Rattle.slip_rules.specs.Conditions.{labelConditions}
 use Rattle.slip_rules.specs.Walk.{headConditions, Entries, withEntry, entryAt, walkConditions, behind, goOn, walk, labelled, verdict}
 use Rattle.slip_rules.specs.Calls.{entryFrom, entriesFrom, Given, rowConditions, oneOn, writeConditions}
+use Rattle.slip_rules.proofs.Given.{length-entries}
 use Rattle.claim_numbers.proofs.Conditions.{Ends, Asked, asked, AnswerTo, unless-to, unless-met}
 
 -- ---- entries
@@ -102,10 +103,6 @@ module _ (names : List ℕ) (P : Type 0) (later : List Condition) where
       let more = rows-asked k (remember seen e) (suc i) ns (omega arith) in
       (λ _. omega arith, λ _. (λ _. omega arith, λ _. (λ _. omega arith, λ t. (λ _. omega arith, λ _. (λ _. omega arith, λ _. more (λ f. h (one-more k e (entriesFrom names ns) (named-short e t) f)))))))
 
-as-many : (names : List ℕ) (ns : List Numbers) → length (entriesFrom names ns) ≡ length ns
-as-many names [] = refl
-as-many names (n ∷ ns) = ap suc (as-many names ns)
-
 pub written-to : (names : List ℕ) (g : Given) (room : ℕ) → Ends most (length (bytes (entriesFrom names (g .rows))) ≤ most) (broken (writeConditions names g room))
 written-to names g room = asked Fits most (writeConditions names g room) (rows-asked names Fits last limit [] 0 (g .rows) (omega arith) after-rows)
   where
@@ -125,4 +122,4 @@ written-to names g room = asked Fits most (writeConditions names g room) (rows-a
     after-rows f =
         let n = f .count in
         let b = bytes-few es f in
-        (λ _. omega (arith, as-many names (g .rows)), λ _. labels-asked oneOn (λ i e k. omega arith) most Fits room-last 0 es (f .short) (omega arith) (λ _. b, λ _. b))
+        (λ _. omega (arith, length-entries names (g .rows)), λ _. labels-asked oneOn (λ i e k. omega arith) most Fits room-last 0 es (f .short) (omega arith) (λ _. b, λ _. b))

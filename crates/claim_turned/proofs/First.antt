@@ -2,24 +2,22 @@
 use mathlib.Core.Path.{_≡_, refl, sym, ap, _∙_}
 use Prim.Native.Nat.{ℕ, _+_, _^_, _<_}
 use native.Mathlib.Omega.{arith}
-use mathlib.Core.Bool.{true, false, not, true≢false}
+use mathlib.Core.Bool.{true}
 use mathlib.Core.List.{List, _++_}
-use lib.Dec.{ltb}
 use lib.ListN.{length, take, drop, length-append}
 use lib.Seq.{take-at, drop-at}
-use borrow.Author.Tests.{ltb-true, eqb-true, not-true}
+use borrow.Author.Tests.{eqb-true}
 use Rattle.shared_words.specs.Bytes.{value}
-use Rattle.studio_rules.specs.Table.{listed, under, shape}
+use Rattle.studio_rules.specs.Table.{under, shape}
 use Rattle.studio_rules.specs.OwnData.{ownSize}
 use Rattle.studio_rules.specs.Layout.{Run, end, skip, known, header, size, bytes}
 use Rattle.studio_rules.specs.Rules.{unlisted}
 use Rattle.studio_rules.specs.Walk.{lengthField}
 use Rattle.studio_rules.specs.Parses.{Place, within, Fits, Parses}
-use Rattle.shared_words.proofs.Bools.{and-parts}
 use Rattle.shared_words.proofs.Bytes.{value-le}
 use Rattle.studio_rules.proofs.Sound.{length-bytes}
 use Rattle.studio_rules.proofs.OwnSize.{own-size-more}
-use Rattle.studio_rules.proofs.Rows.{under-listed, listed-small}
+use Rattle.studio_rules.proofs.Parses.{fits-listed, fits-small, unlisted-small, not-both}
 
 -- equal lists, parted at equal lengths
 pub append-same : (a b x y : List ℕ) → a ++ x ≡ b ++ y → length a ≡ length b → (a ≡ b) × (x ≡ y)
@@ -42,20 +40,6 @@ own-same p id own own′ kids kids′ x y a a′ e =
     let s′ = own-size-more (shape id) (p .own) own′ y (eqb-true _ _ (a′ .own-data-exact)) in
     append-same own own′ x y e (sym s ∙ ap (ownSize (shape id) (p .own)) e ∙ s′)
 
--- ---- the identifiers of known and of skipped chunks
-
-known-listed : (p : Place) (id : ℕ) (own : List ℕ) (kids : Run) → Fits p id own kids → listed id ≡ true
-known-listed p id own kids a = under-listed (p .id) id (a .in-place)
-
-known-small : (p : Place) (id : ℕ) (own : List ℕ) (kids : Run) → Fits p id own kids → id < 0x1_0000
-known-small p id own kids a = ltb-true _ _ (listed-small id (known-listed p id own kids a))
-
-skip-small : (id : ℕ) → unlisted id ≡ true → id < 0x1_0000
-skip-small id u = ltb-true _ _ (and-parts (ltb id 0x1_0000) (not (listed id)) u .0)
-
-not-both : (id : ℕ) → unlisted id ≡ true → listed id ≡ true → ⊥
-not-both id u h = true≢false (sym h ∙ not-true (listed id) (and-parts (ltb id 0x1_0000) (not (listed id)) u .1))
-
 -- ---- the first chunk
 
 -- A run of p whose bytes are a header of id and n, and then x, begins with a chunk of that identifier and length.
@@ -67,10 +51,10 @@ pub data First (p : Place) (id n : ℕ) (x : List ℕ) : Run → Type 0 where
 pub first : (p : Place) (id n : ℕ) (x : List ℕ) (u : Run) → id < 0x1_0000 → n < 2 ^ 32 → size u < 2 ^ 32 → Parses p u → bytes u ≡ header id n ++ x → First p id n x u
 first p id n x end i l m h e = absurd (omega (arith, ap length e))
 first p id n x (skip id′ body rest) i l m h e =
-    let q = header-same id′ id (6 + length body) n (body ++ bytes rest) x (skip-small id′ (h .0)) i (omega arith) l e in
+    let q = header-same id′ id (6 + length body) n (body ++ bytes rest) x (unlisted-small id′ (h .0)) i (omega arith) l e in
     rw (q .0) (skips (rw (q .0) at (h .0)) (h .1) (sym (q .1)) (q .2))
 first p id n x (known id′ own kids rest) i l m h e =
-    let q = header-same id′ id (6 + length own + size kids) n (own ++ (bytes kids ++ bytes rest)) x (known-small p id′ own kids (h .0)) i (omega arith) l e in
+    let q = header-same id′ id (6 + length own + size kids) n (own ++ (bytes kids ++ bytes rest)) x (fits-small p id′ own kids (h .0)) i (omega arith) l e in
     rw (q .0) (enters (rw (q .0) at (h .0)) (rw (q .0) at (h .1)) (h .2) (sym (q .1)) (q .2))
 
 -- it is skipped where the identifier is unlisted
@@ -82,10 +66,10 @@ pub record Skips (p : Place) (id : ℕ) (body x : List ℕ) (u : Run) : Type 0 w
 
 pub first-skip : (p : Place) (id : ℕ) (body x : List ℕ) (u : Run) → unlisted id ≡ true → size u < 2 ^ 32 → Parses p u → bytes u ≡ header id (6 + length body) ++ (body ++ x) → 6 + length body < 2 ^ 32 →
     Skips p id body x u
-first-skip p id body x u f m h e l = go u (first p id (6 + length body) (body ++ x) u (skip-small id f) l m h e)
+first-skip p id body x u f m h e l = go u (first p id (6 + length body) (body ++ x) u (unlisted-small id f) l m h e)
   where
     go : (u : Run) → First p id (6 + length body) (body ++ x) u → Skips p id body x u
-    go _ (enters a k o n y) = absurd (not-both id f (known-listed _ _ _ _ a))
+    go _ (enters a k o n y) = absurd (not-both id f (fits-listed _ _ _ _ a))
     go _ (skips {body = body′} {rest = rest} a o n y) =
         let q = append-same body′ body (bytes rest) x y (omega arith) in
         record { rest = rest; is = rw (q .0); bytes-are = q .1; parses = o }
@@ -102,10 +86,10 @@ pub record Enters (p : Place) (id n : ℕ) (own x : List ℕ) (u : Run) : Type 0
   pub parses-rest : Parses p rest
 
 pub first-known : (p : Place) (id n : ℕ) (own x : List ℕ) (k u : Run) → Fits p id own k → n < 2 ^ 32 → size u < 2 ^ 32 → Parses p u → bytes u ≡ header id n ++ (own ++ x) → Enters p id n own x u
-first-known p id n own x k u f l m h e = go u (first p id n (own ++ x) u (known-small p id own k f) l m h e)
+first-known p id n own x k u f l m h e = go u (first p id n (own ++ x) u (fits-small p id own k f) l m h e)
   where
     go : (u : Run) → First p id n (own ++ x) u → Enters p id n own x u
-    go _ (skips a o n y) = absurd (not-both id a (known-listed p id own k f))
+    go _ (skips a o n y) = absurd (not-both id a (fits-listed p id own k f))
     go _ (enters {own = own′} {kids = kids} {rest = rest} a c o n y) =
         let q = own-same p id own′ own kids k (bytes kids ++ bytes rest) x a f y in
         record { kids = kids; rest = rest; is = rw (q .0); len = rw (← (q .0)) n; bytes-are = q .1; fits = rw (q .0) at a; parses-kids = rw (q .0) at c; parses-rest = o }
@@ -132,8 +116,8 @@ parted p id own k y t u f m h e =
 
 -- a listed identifier at the start of a run of p may stand under p
 pub first-under : (p q : Place) (id n : ℕ) (own x : List ℕ) (k u : Run) → Fits q id own k → n < 2 ^ 32 → size u < 2 ^ 32 → Parses p u → bytes u ≡ header id n ++ x → under (p .id) id ≡ true
-first-under p q id n own x k u f l m h e = go u (first p id n x u (known-small q id own k f) l m h e)
+first-under p q id n own x k u f l m h e = go u (first p id n x u (fits-small q id own k f) l m h e)
   where
     go : (u : Run) → First p id n x u → under (p .id) id ≡ true
-    go _ (skips a o n y) = absurd (not-both id a (known-listed q id own k f))
+    go _ (skips a o n y) = absurd (not-both id a (fits-listed q id own k f))
     go _ (enters a c o n y) = a .in-place

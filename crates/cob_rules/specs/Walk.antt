@@ -32,11 +32,11 @@ chunkConditions seen o n c =
     must (holesInFaces c) (Index o) ∷
     must (indicesBelow c) (Index o) ∷ []
 
--- "after END 3": END ends at o, where `left` follows it
 abbrev pub isEmpty : List ℕ → Bool
 isEmpty [] = true
 isEmpty (b ∷ bs) = false
 
+-- "after END 3": END ends at o, where `left` follows it
 abbrev pub endConditions : ℕ → List ℕ → List Condition
 endConditions o left = must (isEmpty left) (Trailing o) ∷ []
 

@@ -1,6 +1,6 @@
 -- One identifier more, by whether its parent is there.
 use mathlib.Core.Path.{_≡_}
-use mathlib.Core.Bool.{Bool, true, false, false≢true}
+use mathlib.Core.Bool.{Bool, false, false≢true}
 use mathlib.Core.List.{List}
 use Prim.Native.Nat.{ℕ}
 use Rattle.cob_seen.specs.declared.Place.the-variants.{At, Nowhere}

@@ -6,9 +6,9 @@ ghost use Rattle.shared_tree.specs.Tree.{Ended};
 ghost use Rattle.cob_seen.specs.Tree.{bits, treeIn, Represents, Ready, Grown, Admitted, numberIn};
 
 // Where a search ended: at a node, with the bits that are left.
-pub struct Spot {
-    pub at: usize,
-    pub rest: u32,
+struct Spot {
+    at: usize,
+    rest: u32,
 }
 
 // The number of an identifier, or that it is not there.

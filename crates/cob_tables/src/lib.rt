@@ -14,7 +14,6 @@ use shared_words::Refusal;
 use studio_mesh_rows::fill_float_bytes;
 ghost use mathlib.Core.Path.{_≡_};
 ghost use mathlib.Core.Bool.{true, cond};
-ghost use mathlib.Core.List.{[]};
 ghost use Prim.Native.Nat.{_+_, _*_, _<_, _≤_};
 ghost use lib.ListN.{length, drop};
 ghost use Rattle.shared_words.specs.Bytes.{packed};
@@ -95,10 +94,10 @@ fn ask(file: &[u8], mesh: u32) -> Asked
 // ---- the faces with three corners and no holes
 
 // A face: whether it is one of them, where its corners stand, and where the next face stands.
-pub struct Triangle {
-    pub yes: bool,
-    pub at: usize,
-    pub next: usize,
+struct Triangle {
+    yes: bool,
+    at: usize,
+    next: usize,
 }
 
 // The first of so many faces.

@@ -9,13 +9,13 @@ ghost use Rattle.shared_words.specs.Lists.{same};
 ghost use Rattle.shared_name_tree.specs.Names.{nameOf, held, mixed, nextOf, Holds, Ready, Landed, Grown};
 
 // How far a search has come: the bits that are left, with a 1 above them, and how many bytes were taken.
-pub struct Turn {
-    pub rest: usize,
-    pub taken: usize,
+struct Turn {
+    rest: usize,
+    taken: usize,
 }
 
 // Where a search ended: at its name, or at a link that is free.
-pub enum Spot {
+enum Spot {
     Found,
     Free(usize),
 }

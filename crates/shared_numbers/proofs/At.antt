@@ -1,12 +1,15 @@
--- The bytes of a number at a position.
-use mathlib.Core.Path.{_≡_}
+-- The bytes at a position: the first of those that follow it, and those of a number.
+use mathlib.Core.Path.{_≡_, ap, _∙_}
 use mathlib.Core.List.{List}
 use Prim.Native.Nat.{ℕ, suc, _+_, _*_, _≤_}
 use native.Mathlib.Numerals.{add-one, add-two, add-three}
 use native.Mathlib.Omega.{arith}
-use lib.ListN.{length, getD}
-use lib.Seq.{drop-cons}
+use lib.ListN.{length, drop, getD}
+use lib.Seq.{drop-cons, getD-drop}
 use Rattle.shared_numbers.specs.Numbers.{wordAt, longAt}
+
+pub head-is : (s : List ℕ) (at : ℕ) → getD (drop at s) 0 0 ≡ getD s at 0
+head-is s at = getD-drop at s 0 0 ∙ ap (λ (k : ℕ). getD s k 0) (omega arith)
 
 pub word-bytes : (s : List ℕ) (at : ℕ) → at + 2 ≤ length s → wordAt s at ≡ getD s at 0 + 256 * getD s (at + 1) 0
 unfolding wordAt

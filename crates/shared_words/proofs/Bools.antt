@@ -1,5 +1,7 @@
 -- Laws of tests: both of two, one of two, each of a list.
 use mathlib.Core.Path.{_≡_, refl}
+use Prim.Native.Nat.{_≤_}
+use native.Mathlib.Omega.{arith}
 use mathlib.Core.Bool.{Bool, true, false, _&&_, _||_, true≢false, false≢true, cond}
 use mathlib.Core.List.{List, [], _∷_}
 use Rattle.shared_words.specs.Lists.{every}
@@ -25,6 +27,11 @@ or-second false b h k = h
 pub by-test : {A : Type 0} (P : A → Type 0) (b : Bool) {x y : A} → P x → P y → P (cond b x y)
 by-test P true p q = p
 by-test P false p q = q
+
+-- a test as a number
+pub bit-small : (b : Bool) → cond b 1 0 ≤ 1
+bit-small true = omega arith
+bit-small false = omega arith
 
 -- where each passes one test, each passes a weaker one
 pub every-weaker : {A : Type 0} (p q : A → Bool) (xs : List A) → ((x : A) → p x ≡ true → q x ≡ true) → every p xs ≡ true → every q xs ≡ true

@@ -8,10 +8,11 @@ use lib.Dec.{leb}
 use lib.ListN.{length, drop, getD, length-drop}
 use lib.Seq.{getD-drop}
 use borrow.Author.Tests.{le-leb, lt-leb}
+use Rattle.shared_numbers.proofs.At.{head-is}
 use Rattle.slip_rules.specs.Rules.{isNamed, sumsProper, namedBefore}
 use Rattle.slip_rules.specs.Walk.{entryAt}
 use Rattle.slip_check.specs.Entries.{entryIn, nextAt, after, Whole, Reached, goodAt}
-use Rattle.slip_check.proofs.Names.{head-is, name-length}
+use Rattle.slip_check.proofs.Names.{name-length}
 
 after-within : (n : ℕ) (s : List ℕ) (o : ℕ) → Whole n s o → after n s o ≤ length s
 after-within zero s o w = w

@@ -4,14 +4,12 @@ use Prim.Native.Nat.{ℕ, zero, suc, _+_, _-_, _<_, _≤_}
 use native.Mathlib.Omega.{arith}
 use mathlib.Core.List.{List}
 use lib.ListN.{length, take, drop, getD, length-drop}
-use lib.Seq.{drop-drop, getD-drop, length-take-le}
+use lib.Seq.{drop-drop, length-take-le}
+use Rattle.shared_numbers.proofs.At.{head-is}
 use Rattle.slip_rules.specs.Walk.{entryAt}
 use Rattle.slip_check.specs.Entries.{entryIn, nextAt, Whole}
 
 -- ---- the name of the entry at an offset
-
-pub head-is : (s : List ℕ) (o : ℕ) → getD (drop o s) 0 0 ≡ getD s o 0
-head-is s o = getD-drop o s 0 0 ∙ ap (λ (k : ℕ). getD s k 0) (omega arith)
 
 pub name-is : (s : List ℕ) (o : ℕ) → entryIn s o .name ≡ take (getD s o 0) (drop (o + 1) s)
 unfolding entryAt

@@ -9,6 +9,7 @@ use borrow.Author.Tests.{le-leb, lt-leb}
 use Rattle.shared_words.specs.declared.Refusal.{Refusal}
 use Rattle.shared_words.specs.declared.Refusal.the-variants.{NoRoom}
 use Rattle.shared_numbers.specs.Put.{Put}
+use Rattle.shared_numbers.proofs.At.{head-is}
 use Rattle.shared_numbers.proofs.Put.{put-then, put-sets, sets-append}
 use Rattle.slip_rules.specs.declared.Numbers.{Numbers}
 use Rattle.slip_rules.specs.declared.Found.{Found}
@@ -20,7 +21,7 @@ use Rattle.slip_rules.specs.Rules.{limit}
 use Rattle.slip_rules.specs.Walk.{entryAt, behind, verdict}
 use Rattle.slip_rules.specs.Calls.{numbersOf, allNumbers, flat, byteRow, slipReadCall}
 use Rattle.slip_check.specs.Entries.{entryIn, nextAt, entriesIn, Whole}
-use Rattle.slip_check.proofs.Names.{head-is, name-length, whole-first, whole-on}
+use Rattle.slip_check.proofs.Names.{name-length, whole-first, whole-on}
 use Rattle.slip_check.proofs.Good.{first-is, second-is}
 
 -- ---- one entry

@@ -1,6 +1,6 @@
 -- What the writer is given: the bytes that the reader fills in are its numbers again, as each fits four bytes; and of any
 -- bytes each number does.
-use mathlib.Core.Path.{_≡_, refl}
+use mathlib.Core.Path.{_≡_, refl, ap}
 use Prim.Native.Nat.{ℕ, zero, suc, _+_, _*_, _/_, _%_, _^_, _<_, _≤_}
 use native.Mathlib.Omega.{arith}
 use mathlib.Core.List.{List, [], _∷_}
@@ -15,10 +15,15 @@ use Rattle.slip_rules.specs.declared.Numbers.{Numbers}
 use Rattle.slip_rules.specs.Slip.{Entry}
 use Rattle.slip_rules.specs.Rules.{remember, AllLawful}
 use Rattle.slip_rules.specs.Walk.{behind}
-use Rattle.slip_rules.specs.Calls.{allNumbers, flat, whole, rowsIn, givenBytes}
+use Rattle.slip_rules.specs.Calls.{entriesFrom, allNumbers, flat, whole, rowsIn, givenBytes}
 
 abbrev pub Small : ℕ → Type 0
 Small n = n < 256 ^ 4
+
+-- as many entries as rows
+pub length-entries : (names : List ℕ) (ns : List Numbers) → length (entriesFrom names ns) ≡ length ns
+length-entries names [] = refl
+length-entries names (n ∷ ns) = ap suc (length-entries names ns)
 
 -- ---- numbers, as bytes and back
 

@@ -21,10 +21,11 @@ use Rattle.shared_words.specs.declared.Written.{Written}
 use Rattle.slip_rules.specs.Slip.{behindName, entryBytes, allBytes, rest, bytes}
 use Rattle.slip_rules.specs.Rules.{remember, limit}
 use Rattle.slip_rules.specs.Calls.{entryFrom, entriesFrom, givenBytes, rowConditions, oneOn, writeConditions, slipWriteCall}
+use Rattle.slip_rules.proofs.Given.{length-entries}
 use Rattle.slip_rules.proofs.Labels.{labels-met}
 use Rattle.slip_write_judge.specs.Judged.{sizeUnless, judged}
 use Rattle.slip_write_judge.proofs.Rows.{name-long}
-use Rattle.slip_write_judge.proofs.Answers.{length-rows, length-entries}
+use Rattle.slip_write_judge.proofs.Answers.{length-rows}
 use Rattle.slip_write.specs.Ready.{Fitting, Ready}
 
 -- ---- what the conditions tell of the rows

@@ -12,11 +12,11 @@ use Rattle.shared_words.specs.Lists.{firstFault}
 use Rattle.shared_words.specs.Conditions.{Condition, must, broken}
 use Rattle.shared_words.proofs.Conditions.{broken-here, broken-later, unbroken}
 use Rattle.shared_words.specs.declared.Written.{Written}
-use Rattle.slip_rules.specs.declared.Numbers.{Numbers}
 use Rattle.slip_rules.specs.Slip.{Entry, bytes}
 use Rattle.slip_rules.specs.Rules.{isLabelled}
 use Rattle.slip_rules.specs.Conditions.{labelConditions}
 use Rattle.slip_rules.specs.Calls.{entriesFrom, rowsIn, givenBytes, oneOn}
+use Rattle.slip_rules.proofs.Given.{length-entries}
 use Rattle.slip_write_judge.specs.declared.Judged.{Judged}
 use Rattle.slip_write_judge.specs.Rows.{rowsFrom}
 use Rattle.slip_write_judge.specs.Judged.{sizeUnless, judged, AllGood, JudgesRows}
@@ -26,10 +26,6 @@ use Rattle.slip_write_judge.proofs.Labels.{labels-unfit, labels-fit}
 pub length-rows : (k : ℕ) (s : List ℕ) → length (rowsIn k s) ≡ k
 length-rows zero s = refl
 length-rows (suc k) s = ap suc (length-rows k (drop 16 s))
-
-pub length-entries : (names : List ℕ) (ns : List Numbers) → length (entriesFrom names ns) ≡ length ns
-length-entries names [] = refl
-length-entries names (n ∷ ns) = ap suc (length-entries names ns)
 
 module _ (names s : List ℕ) (room : ℕ) where
   pub judged-bad : (i : ℕ) → JudgesRows names s (Judged.Bad i) → judged names (givenBytes s) room ≡ Written.Refused (Slip i)

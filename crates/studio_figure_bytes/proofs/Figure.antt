@@ -38,8 +38,8 @@ use Rattle.studio_figure_rows.proofs.Same.{by-position}
 use Rattle.studio_figure_rows.proofs.Runs.{sum-inside, sum-up}
 use Rattle.studio_figure_objects.specs.Sizes.{objectBytes}
 use Rattle.studio_figure_judge.specs.Judged.{sizeIs}
-use Rattle.studio_figure_judge.proofs.Things.{over-same, part-length, every-part}
-use Rattle.studio_figure_judge.proofs.Same.{size-same, size-all}
+use Rattle.studio_figure_judge.proofs.Things.{over-same, every-part}
+use Rattle.studio_figure_judge.proofs.Same.{group-faces, object-vertices, object-corners, groups-inside, size-same, size-all}
 use Rattle.studio_figure_chunks.specs.Chunks.{materialBytes, groupBytes, materialIn, groupIn}
 use Rattle.studio_write_bytes.proofs.Bare.{last-chunk-bytes}
 use Rattle.studio_figure_bytes.specs.Objects.{Writable, pieces}
@@ -84,27 +84,19 @@ module _ (r : Flat) (f : Fits r) (b : Floats32 (r .vertices)) where
     row-in : sumTo 5 1 (r .objects) i + entry 5 1 (r .objects) i ≤ length (r .vertices)
     row-in = omega (arith, f .vertices, sum-inside 5 1 (r .objects) i (objectCount r) h)
 
-    row-long : length (objectAt r i .vertices) ≡ entry 5 1 (r .objects) i
-    row-long = length-map row (toBits binary32) ∙ part-length (sumTo 5 1 (r .objects) i) (entry 5 1 (r .objects) i) (r .vertices) row-in
-
     corners-in : sumTo 5 2 (r .objects) i + entry 5 2 (r .objects) i ≤ length (r .corners)
     corners-in = omega (arith, f .corners, sum-inside 5 2 (r .objects) i (objectCount r) h)
-
-    groups-in : sumTo 5 4 (r .objects) i + entry 5 4 (r .objects) i ≤ groupCount r
-    groups-in = omega (arith, f .groups, sum-inside 5 4 (r .objects) i (objectCount r) h)
 
     few-faces : (j : ℕ) → j < entry 5 4 (r .objects) i → entry 2 1 (r .groups) (sumTo 5 4 (r .objects) i + j) ≤ 65_535
     few-faces j l =
         let g = all-run (GroupReady (triples (objectAt r i .corners))) (groupAt r) (sumTo 5 4 (r .objects) i) (entry 5 4 (r .objects) i) j (o .groups-ready) l in
-        let s = sum-inside 2 1 (r .groups) (sumTo 5 4 (r .objects) i + j) (groupCount r) (omega (arith, groups-in)) in
-        let e = part-length (sumTo 2 1 (r .groups) (sumTo 5 4 (r .objects) i + j)) (entry 2 1 (r .groups) (sumTo 5 4 (r .objects) i + j)) (r .faces) (omega (arith, f .faces)) in
-        omega (arith, e, g .few)
+        omega (arith, group-faces r f (sumTo 5 4 (r .objects) i + j) (omega (arith, groups-inside r f i h)), g .few)
 
     pub can-put : sizeIs (r .objects) (r .groups) (r .materials) ≤ 1048576 → Writable (r .names) (r .objects) (r .vertices) (r .corners) (r .smoothing) (r .groups) (r .faces) from i
     can-put small =
-        let up₀ = sum-up 2 0 (r .groups) (sumTo 5 4 (r .objects) i + entry 5 4 (r .objects) i) (groupCount r) groups-in in
-        let up₁ = sum-up 2 1 (r .groups) (sumTo 5 4 (r .objects) i + entry 5 4 (r .objects) i) (groupCount r) groups-in in
-        let l₂ = part-length (sumTo 5 2 (r .objects) i) (entry 5 2 (r .objects) i) (r .corners) corners-in in
+        let inside = groups-inside r f i h in
+        let up₀ = sum-up 2 0 (r .groups) (sumTo 5 4 (r .objects) i + entry 5 4 (r .objects) i) (groupCount r) inside in
+        let up₁ = sum-up 2 1 (r .groups) (sumTo 5 4 (r .objects) i + entry 5 4 (r .objects) i) (groupCount r) inside in
         let c = every-part (fits binary32) (sumTo 5 1 (r .objects) i) (entry 5 1 (r .objects) i) (r .vertices) b in
         record {
           there = omega arith;
@@ -112,12 +104,12 @@ module _ (r : Flat) (f : Fits r) (b : Floats32 (r .vertices)) where
           vertices-in = row-in;
           corners-in = corners-in;
           words-in = omega (arith, f .smoothing, sum-inside 5 3 (r .objects) i (objectCount r) h);
-          groups-in = omega (arith, f .groups, groups-in);
+          groups-in = omega (arith, f .groups, inside);
           labels-in = omega (arith, f .names, up₀);
           faces-in = omega (arith, f .faces, up₁);
-          whole = rw row-long at (o .whole-vertices);
-          few-vertices = rw row-long at (o .few-vertices);
-          few-corners = rw l₂ at (o .few-corners);
+          whole = rw (object-vertices r f i h) at (o .whole-vertices);
+          few-vertices = rw (object-vertices r f i h) at (o .few-vertices);
+          few-corners = rw (object-corners r f i h) at (o .few-corners);
           finite = sym (all-finite row c) ∙ o .finite-bits;
           few = few-faces;
           size = omega (arith, total-inside (objectBytes (r .objects) (r .groups)) i (objectCount r) h);

@@ -37,7 +37,7 @@ in-order a b c d e g h i j k l = simp (append-assoc, append-nil)
 module _ (r : Flat) (f : Fits r) where
   -- ---- where the rows of a group, of an object and of a material end
 
-  group-faces : (g : ℕ) → g < groupCount r → length (groupAt r g .faces) ≡ entry 2 1 (r .groups) g
+  pub group-faces : (g : ℕ) → g < groupCount r → length (groupAt r g .faces) ≡ entry 2 1 (r .groups) g
   group-faces g h = part-length (sumTo 2 1 (r .groups) g) (entry 2 1 (r .groups) g) (r .faces) (omega (arith, f .faces, sum-inside 2 1 (r .groups) g (groupCount r) h))
 
   group-name : (g : ℕ) → g < groupCount r → length (groupAt r g .name) ≡ entry 2 0 (r .groups) g
@@ -54,12 +54,12 @@ module _ (r : Flat) (f : Fits r) where
     object-name =
         part-length (0 + sumTo 5 0 (r .objects) i) (entry 5 0 (r .objects) i) (r .names) (omega (arith, f .names, sum-inside 5 0 (r .objects) i (objectCount r) h))
 
-    object-vertices : length (objectAt r i .vertices) ≡ entry 5 1 (r .objects) i
+    pub object-vertices : length (objectAt r i .vertices) ≡ entry 5 1 (r .objects) i
     object-vertices =
         length-map (part (sumTo 5 1 (r .objects) i) (entry 5 1 (r .objects) i) (r .vertices)) (toBits binary32) ∙
         part-length (sumTo 5 1 (r .objects) i) (entry 5 1 (r .objects) i) (r .vertices) (omega (arith, f .vertices, sum-inside 5 1 (r .objects) i (objectCount r) h))
 
-    object-corners : length (objectAt r i .corners) ≡ entry 5 2 (r .objects) i
+    pub object-corners : length (objectAt r i .corners) ≡ entry 5 2 (r .objects) i
     object-corners =
         part-length (sumTo 5 2 (r .objects) i) (entry 5 2 (r .objects) i) (r .corners) (omega (arith, f .corners, sum-inside 5 2 (r .objects) i (objectCount r) h))
 
@@ -67,7 +67,7 @@ module _ (r : Flat) (f : Fits r) where
     object-words =
         part-length (sumTo 5 3 (r .objects) i) (entry 5 3 (r .objects) i) (r .smoothing) (omega (arith, f .smoothing, sum-inside 5 3 (r .objects) i (objectCount r) h))
 
-    groups-inside : sumTo 5 4 (r .objects) i + entry 5 4 (r .objects) i ≤ groupCount r
+    pub groups-inside : sumTo 5 4 (r .objects) i + entry 5 4 (r .objects) i ≤ groupCount r
     groups-inside = omega (arith, f .groups, sum-inside 5 4 (r .objects) i (objectCount r) h)
 
     abbrev first : ℕ

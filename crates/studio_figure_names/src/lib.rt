@@ -197,9 +197,9 @@ fn first_absent(
 
 // What is asked of `count` names, and of n groups against them: the first name that is among those before it, and the first group
 // whose name is none of them; or how many there are.
-pub struct Told {
-    pub repeated: usize,
-    pub unnamed: usize,
+struct Told {
+    repeated: usize,
+    unnamed: usize,
 }
 
 // That, with a row for a tree of the names.

@@ -1,41 +1,33 @@
 -- A bare figure is written as before: what is added to the bare writer's conditions holds of it.
-use mathlib.Core.Path.{_≡_, refl, sym, ap, _∙_, subst}
+use mathlib.Core.Path.{_≡_, refl, sym, ap, _∙_}
 use Prim.Native.Nat.{ℕ}
 use native.Mathlib.Omega.{arith}
 use mathlib.Core.Bool.{Bool, true, false}
 use mathlib.Core.List.{List, [], _∷_, map}
 use mathlib.Core.Option.{Option}
 use lib.Dec.{T}
-use lib.Ieee.{Float, binary32, fits, toBits}
+use lib.Ieee.{Float, binary32, fits}
 use lib.ListN.{length, length-map}
 use Rattle.shared_words.specs.declared.Refusal.{Refusal}
 use Rattle.shared_words.specs.Lists.{every, firstFault}
 use Rattle.shared_words.specs.Floats.{finite}
 use Rattle.studio_rules.specs.Layout.{Run, figure, bytes}
 use Rattle.shared_words.specs.Conditions.{Condition, must, broken}
-use Rattle.shared_words.proofs.Bools.{and-parts}
 use Rattle.shared_words.proofs.Conditions.{broken-later}
 use Rattle.studio_write_judge.specs.Judged.{finiteFloat, figureSize, writeConditions, answerOf, judged}
 use Rattle.studio_write_bytes.specs.Bare.{bare}
 use Rattle.studio_write.specs.Write.{writing, writeCall}
 use Rattle.studio_write.specs.ReadsBack.{Floats32}
-use Rattle.studio_write.proofs.Floats.{finite-float, float-bits}
+use Rattle.studio_write.proofs.Floats.{bits, finite-float, float-bits, parts}
 use Rattle.studio_figure_rules.specs.Built.{layout}
 use Rattle.studio_figure_rules.specs.Judged.{sizeOf, conditions, judgedFigure}
 use Rattle.studio_figure_rules.specs.Write.{writeFigure}
 use Rattle.studio_figure_rules.specs.AsBefore.{bareFigure, BareAsBefore}
 
-abbrev bits : Float → ℕ
-bits x = toBits binary32 x
-
 -- ---- floats: finite as such and as bits
 
 finite-bits : (x : Float) → T (fits binary32 x) → finite (bits x) ≡ finiteFloat x
 finite-bits x f = sym (finite-float (bits x)) ∙ ap finiteFloat (float-bits x f)
-
-parts : (x : Float) (xs : List Float) → Floats32 (x ∷ xs) → T (fits binary32 x) × Floats32 xs
-unfolding every
-parts x xs f = let p = and-parts (fits binary32 x) (every (fits binary32) xs) f in (subst T (sym (p .0)) tt, p .1)
 
 pub all-finite : (xs : List Float) → Floats32 xs → every finite (map bits xs) ≡ every finiteFloat xs
 unfolding every

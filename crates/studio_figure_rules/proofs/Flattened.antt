@@ -131,7 +131,7 @@ objects-alike : {cs cs′ : List ObjectCounts} {ds ds′ : List GroupCounts} {l 
     objectsOf cs names v corners smoothing (groupsOf ds l faces) ≡ objectsOf cs′ names v′ corners smoothing (groupsOf ds′ l′ faces)
 objects-alike names corners smoothing faces a b c d = cc
 
-figures-alike : {f g : Figure} → f .objects ≡ g .objects → f .materials ≡ g .materials → f ≡ g
+pub figures-alike : {f g : Figure} → f .objects ≡ g .objects → f .materials ≡ g .materials → f ≡ g
 figures-alike {f} {g} a b = made a b
   where
     made : {os ps : List Object} {ms ns : List Material} → os ≡ ps → ms ≡ ns → _≡_ {A = Figure} (record { objects = os; materials = ms }) (record { objects = ps; materials = ns })

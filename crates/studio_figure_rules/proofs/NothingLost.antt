@@ -19,13 +19,14 @@ use Rattle.studio_rules.proofs.Verdict.{one-layout}
 use Rattle.studio_write_judge.specs.Judged.{triples}
 use Rattle.studio_write_bytes.specs.Bare.{nameData}
 use Rattle.studio_write.proofs.Unpacked.{numbers-packed}
-use Rattle.studio_figure_rules.specs.Given.{Group, Object, Colour, Material, Figure, rgb}
+use Rattle.studio_figure_rules.specs.Given.{Group, Object, Colour, Material, rgb}
 use Rattle.studio_figure_rules.specs.Built.{groupData, each, groupChunk, smoothingChunk, objectChunk, materialChunk, layout}
 use Rattle.studio_figure_rules.specs.Judged.{sizeOf, conditions, judgedFigure}
 use Rattle.studio_figure_rules.specs.NothingLost.{NothingLost}
 use Rattle.studio_figure_rules.proofs.Ready.{GroupReady, ObjectReady, ready}
 use Rattle.studio_figure_rules.proofs.OwnData.{vertex-numbers, face-corners, group-name, group-faces}
 use Rattle.studio_figure_rules.proofs.ReadsBack.{reads-back, answer-size}
+use Rattle.studio_figure_rules.proofs.Flattened.{figures-alike}
 
 -- ---- a chunk and its parts
 
@@ -172,7 +173,4 @@ nothing-lost f g room size bf wf bg wg jf jg e =
     let one = one-layout (bytes (figure (layout f))) (layout f) (layout g) (reads-back f room rf .meets-rules) meets-too in
     let parts = same-scene (f .materials) (g .materials) (f .objects) (g .objects) (rf .objects-ready) (rg .objects-ready)
     (words-all (f .objects) wf) (words-all (g .objects) wg) (same-kids one) in
-    joined (parts .1) (parts .0)
-  where
-    joined : {os ps : List Object} {ms ns : List Material} → os ≡ ps → ms ≡ ns → _≡_ {A = Figure} (record { objects = os; materials = ms }) (record { objects = ps; materials = ns })
-    joined p q = cc
+    figures-alike (parts .1) (parts .0)

@@ -36,41 +36,41 @@ use Rattle.studio_rules.proofs.Steps.{step-stops}
 -- ---- the header
 
 module _ (s : List ℕ) (at end : ℕ) (h : at < end) (l : end ≤ length s) where
-  part : List ℕ
+  abbrev part : List ℕ
   part = slice at end s
 
-  part-length : length (slice at end s) ≡ end - at
+  part-length : length part ≡ end - at
   part-length = length-slice at end s l
 
-  field-is : 6 ≤ end - at → lengthField (slice at end s) ≡ longAt s (at + 2)
+  field-is : 6 ≤ end - at → lengthField part ≡ longAt s (at + 2)
   field-is m = ap (λ (x : List ℕ). value (take 4 x)) (drop-slice 2 at end s) ∙ long-slice (at + 2) end s (omega arith)
 
-  header-is : (x : Option Refusal) (r : Header) → broken (headerConditions at (slice at end s) (lengthField (slice at end s))) ≡ x → HeaderIs s at x r →
-      HeaderIs s at (broken (headerConditions at (slice at end s) (lengthField (slice at end s)))) r
+  header-is : (x : Option Refusal) (r : Header) → broken (headerConditions at part (lengthField part)) ≡ x → HeaderIs s at x r →
+      HeaderIs s at (broken (headerConditions at part (lengthField part))) r
   header-is x r e i = subst (λ (y : Option Refusal). HeaderIs s at y r) (sym e) i
 
-  pub header-stray : end - at < 6 → HeaderIs s at (broken (headerConditions at (slice at end s) (lengthField (slice at end s)))) (Header.Fault (Stray at))
-  header-stray m = header-is (some (Stray at)) _ (broken-here _ _ _ (lt-leb 6 (length (slice at end s)) (omega (arith, part-length)))) refl
+  pub header-stray : end - at < 6 → HeaderIs s at (broken (headerConditions at part (lengthField part))) (Header.Fault (Stray at))
+  header-stray m = header-is (some (Stray at)) _ (broken-here _ _ _ (lt-leb 6 (length part) (omega (arith, part-length)))) refl
 
   module _ (m : 6 ≤ end - at) (n : ℕ) (e : n ≡ longAt s (at + 2)) where
-    six : leb 6 (length (slice at end s)) ≡ true
-    six = le-leb 6 (length (slice at end s)) (omega (arith, part-length))
+    six : leb 6 (length part) ≡ true
+    six = le-leb 6 (length part) (omega (arith, part-length))
 
-    field : lengthField (slice at end s) ≡ n
+    field : lengthField part ≡ n
     field = field-is m ∙ sym e
 
-    pub header-short : n < 6 → HeaderIs s at (broken (headerConditions at (slice at end s) (lengthField (slice at end s)))) (Header.Fault (Short at))
+    pub header-short : n < 6 → HeaderIs s at (broken (headerConditions at part (lengthField part))) (Header.Fault (Short at))
     header-short k = header-is (some (Short at)) _ (broken-later _ _ _ six ∙ broken-here _ _ _ (rw field (lt-leb 6 n k))) refl
 
-    pub header-overrun : 6 ≤ n → end - at < n → HeaderIs s at (broken (headerConditions at (slice at end s) (lengthField (slice at end s)))) (Header.Fault (Overrun at))
+    pub header-overrun : 6 ≤ n → end - at < n → HeaderIs s at (broken (headerConditions at part (lengthField part))) (Header.Fault (Overrun at))
     header-overrun k o =
         header-is (some (Overrun at)) _
-        (broken-later _ _ _ six ∙ broken-later _ _ _ (rw field (le-leb 6 n k)) ∙ broken-here _ _ _ (rw field (lt-leb n (length (slice at end s)) (omega (arith, part-length))))) refl
+        (broken-later _ _ _ six ∙ broken-later _ _ _ (rw field (le-leb 6 n k)) ∙ broken-here _ _ _ (rw field (lt-leb n (length part) (omega (arith, part-length))))) refl
 
-    pub header-fine : 6 ≤ n → n ≤ end - at → (id : ℕ) → id ≡ wordAt s at → HeaderIs s at (broken (headerConditions at (slice at end s) (lengthField (slice at end s)))) (Header.Is id (at + n))
+    pub header-fine : 6 ≤ n → n ≤ end - at → (id : ℕ) → id ≡ wordAt s at → HeaderIs s at (broken (headerConditions at part (lengthField part))) (Header.Is id (at + n))
     header-fine k o id i =
         header-is none _
-        (unbroken _ (six, (rw field (le-leb 6 n k), (rw field (le-leb n (length (slice at end s)) (omega (arith, part-length))), tt))))
+        (unbroken _ (six, (rw field (le-leb 6 n k), (rw field (le-leb n (length part) (omega (arith, part-length))), tt))))
         (rw (i, e))
 
   -- ---- read back

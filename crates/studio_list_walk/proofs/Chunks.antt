@@ -18,7 +18,8 @@ use Rattle.studio_rules.specs.Gives.{recordCount, recordsOf}
 use Rattle.shared_words.proofs.Bools.{and-parts, or-second}
 use Rattle.shared_numbers.specs.Numbers.{wordAt}
 use Rattle.shared_numbers.proofs.Slices.{drop-slice}
-use Rattle.studio_stands.proofs.Chunks.{fits-listed, skip-header, known-header, kids-here}
+use Rattle.studio_rules.proofs.Parses.{fits-listed}
+use Rattle.studio_stands.proofs.Chunks.{skip-header, known-header, kids-here}
 use Rattle.studio_row.specs.Packed.{rowOf}
 use Rattle.studio_row.proofs.Facts.{row-of-listed, row-of-unlisted, plus-is, shape-is}
 use Rattle.studio_list_rows.specs.Lent.{Lent, written}

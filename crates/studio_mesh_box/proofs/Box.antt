@@ -36,15 +36,15 @@ module _ (s : List ℕ) (at n : ℕ) where
   abbrev vertices : List ℕ
   vertices = numbers 4 (3 * n) (drop at s)
 
-  coordinate-at : (a k j : ℕ) → 3 * k + a < 3 * n → j ≡ at + 4 * (3 * k + a) → coordinate (numbers 4 (3 * n) (drop at s)) a k ≡ float (longAt s j)
+  coordinate-at : (a k j : ℕ) → 3 * k + a < 3 * n → j ≡ at + 4 * (3 * k + a) → coordinate vertices a k ≡ float (longAt s j)
   unfolding coordinate
   coordinate-at a k j l e = ap float (long-number s at (3 * n) (3 * k + a) l) ∙ rw e
 
-  pub box-one : 0 < n → record { low = vertexAt s at; high = vertexAt s at } ≡ boxOf 1 (numbers 4 (3 * n) (drop at s))
+  pub box-one : 0 < n → record { low = vertexAt s at; high = vertexAt s at } ≡ boxOf 1 vertices
   unfolding vertexAt lowest highest
   box-one h = rw (coordinate-at 0 0 at (omega arith) (omega arith), coordinate-at 1 0 (at + 4) (omega arith) (omega arith), coordinate-at 2 0 (at + 8) (omega arith) (omega arith))
 
-  pub box-more : (i : ℕ) → 0 < i → i < n → widened (boxOf i (numbers 4 (3 * n) (drop at s))) (vertexAt s (at + 12 * i)) ≡ boxOf (i + 1) (numbers 4 (3 * n) (drop at s))
+  pub box-more : (i : ℕ) → 0 < i → i < n → widened (boxOf i vertices) (vertexAt s (at + 12 * i)) ≡ boxOf (i + 1) vertices
   unfolding vertexAt widened lowest highest
   box-more zero h l = absurd (omega arith)
   box-more (suc k) h l =
@@ -59,7 +59,7 @@ module _ (s : List ℕ) (at n : ℕ) where
       )
 
   -- the floats of vertex i, which stands at j
-  pub vertex-finite : every finite (numbers 4 (3 * n) (drop at s)) ≡ true → (i j : ℕ) → i < n → j ≡ at + 12 * i →
+  pub vertex-finite : every finite vertices ≡ true → (i j : ℕ) → i < n → j ≡ at + 12 * i →
       (finite (longAt s j) ≡ true) × (finite (longAt s (j + 4)) ≡ true) × (finite (longAt s (j + 8)) ≡ true)
   vertex-finite h i j l e =
       let e0 : at + 4 * (3 * i) ≡ j = omega arith in

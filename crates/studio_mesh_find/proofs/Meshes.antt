@@ -10,7 +10,7 @@ use Rattle.studio_rules.specs.Layout.{Run, end, known, size, identifiers, offse
 use Rattle.studio_rules.specs.Rules.{Parent, inside, version, Meets}
 use Rattle.studio_rules.specs.Parses.{within}
 use Rattle.studio_rules.specs.Walk.{top}
-use Rattle.studio_rules.proofs.Once.{at-most-one}
+use Rattle.studio_rules.proofs.Once.{at-most-one, one-scene}
 use Rattle.studio_rules.proofs.Parses.{parses}
 use Rattle.studio_meshes_rules.specs.Standing.{Standing, meshIn, standingOf, standing}
 use Rattle.studio_child.specs.Runs.{Spans, onward}
@@ -19,7 +19,7 @@ use Rattle.studio_child.proofs.Runs.{around, span-size, header-here, kids-here,
 use Rattle.studio_child.proofs.Figure.{figure-kids}
 use Rattle.studio_mesh_find.specs.Runs.{ObjectsAt}
 use Rattle.studio_mesh_find.proofs.Parts.{objects-own}
-use Rattle.studio_mesh_find.proofs.Ways.{no-meshes, meshes-onward, no-more-meshes, to-objects, to-object, to-mesh, one-3D3D, one-4100, some-3D3D}
+use Rattle.studio_mesh_find.proofs.Ways.{no-meshes, meshes-onward, no-more-meshes, to-objects, to-object, to-mesh, one-4100, some-3D3D}
 
 -- ---- an object: the mesh in it, or none
 
@@ -162,7 +162,7 @@ module _ (s : List ℕ) (kids : Run) (m : Meets s kids) where
         let at : ℕ = offsetOf 0x3D3D 6 kids in
         let f = objects in
         let z : at + (6 + length (f .own)) ≡ o + 6 = omega (arith, e, none-own) in
-        let one = one-3D3D (identifiers kids) (at-most-one (top (version kids)) kids (m .chunks .2)) in
+        let one = one-scene (identifiers kids) (at-most-one (top (version kids)) kids (m .chunks .2)) in
         let behind = parses (top (version kids)) (f .spans .seen) (known 0x3D3D (f .own) (f .kids) (f .rest)) (f .spans .obeys) .2 in
         append-nil (standingOf 6 6 0 kids) ∙ meshes-onward 0x3D3D (around (top (version kids))) to-objects kids 6 6 0 (parses (top (version kids)) [] kids (m .chunks .2)) ∙ ap (standingOf at 6 0) (f .is) ∙
         rw (

@@ -14,7 +14,7 @@ use Rattle.shared_words.specs.Lists.{every, among}
 use Rattle.studio_rules.specs.Table.{Shape, fixed, name, counted, rows, listed, shape}
 use Rattle.shared_words.specs.Floats.{finite}
 use Rattle.studio_rules.specs.OwnData.{nameSize, count, ownSize, corners, vertexNumbers, mappingNumbers, faceCorners}
-use Rattle.studio_rules.specs.Layout.{Run, end, skip, known, size, identifiers, child, offsetOf}
+use Rattle.studio_rules.specs.Layout.{Run, end, skip, known, identifiers, child, offsetOf}
 use Rattle.studio_rules.specs.Rules.{Parent, only, Own, Obeys}
 use Rattle.studio_rules.specs.Gives.{meshOf}
 use Rattle.studio_meshes_rules.specs.Standing.{elementsAt}

@@ -16,7 +16,8 @@ use Rattle.studio_rules.specs.Rules.{tally, few}
 use Rattle.studio_rules.specs.Parses.{Place, within, Parses}
 use Rattle.studio_meshes_rules.specs.Standing.{standingOf}
 use Rattle.shared_words.proofs.Bools.{and-parts, or-second}
-use Rattle.studio_rules.proofs.Rows.{everyId, among-every, listed-every, under-listed}
+use Rattle.shared_words.proofs.Lists.{among-every}
+use Rattle.studio_rules.proofs.Rows.{everyId, listed-every, under-listed}
 use Rattle.studio_child.specs.Runs.{onward}
 use Rattle.studio_child.proofs.Runs.{tally-onward}
 
@@ -129,12 +130,6 @@ tally-of-group x g a (y ∷ ids) = go (eqb y x) refl (among y g) refl (tally-of-
         go′ : (d : Bool) → tally (x ∷ []) ids ≤ tally g ids → 0 + tally (x ∷ []) ids ≤ cond d 1 0 + tally g ids
         go′ true ih = omega (arith, ih)
         go′ false ih = omega (arith, ih)
-
-pub one-3D3D : (ids : List ℕ) → few 0x4D4D ids ≡ true → tally (0x3D3D ∷ []) ids ≤ 1
-unfolding limits atMostOne every
-one-3D3D ids h =
-    let b = leb (tally (0x3D3D ∷ []) ids) 1 in
-    leb-true _ _ (and-parts b _ (and-parts (leb (tally (0x0002 ∷ []) ids) 1) _ h .1) .0)
 
 pub one-4100 : (ids : List ℕ) → few 0x4000 ids ≡ true → tally (0x4100 ∷ []) ids ≤ 1
 unfolding limits atMostOne every

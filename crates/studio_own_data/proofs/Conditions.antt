@@ -32,11 +32,11 @@ some-around n h = record { is = sym (value-le 2 n h); small = h }
 -- ---- what the conditions come to
 
 module _ (p : Parent) (o id : ℕ) (body : List ℕ) where
-  size : ℕ
+  abbrev size : ℕ
   size = ownSize (shape id) (p .own) body
 
-  judges : (x : Option Refusal) (r : Judged) → broken (ownConditions p o id body (ownSize (shape id) (p .own) body)) ≡ x → JudgedIs (ownSize (shape id) (p .own) body) x r → Judges p o id body r
-  judges x r e h = subst (λ (y : Option Refusal). JudgedIs (ownSize (shape id) (p .own) body) y r) (sym e) h
+  judges : (x : Option Refusal) (r : Judged) → broken (ownConditions p o id body size) ≡ x → JudgedIs size x r → Judges p o id body r
+  judges x r e h = subst (λ (y : Option Refusal). JudgedIs size y r) (sym e) h
 
   pub judge-no-name : hasName (shape id) body ≡ false → Judges p o id body (Judged.Fault (Name o))
   judge-no-name h = judges (some (Name o)) _ (broken-here _ _ _ h) refl
@@ -46,17 +46,17 @@ module _ (p : Parent) (o id : ℕ) (body : List ℕ) where
 
   pub judge-too-long : nameFits (shape id) body ≡ true → Exceeds (shape id) (p .own) body → Judges p o id body (Judged.Fault (Length o))
   judge-too-long f h =
-      judges (some (Length o)) _ (broken-later _ _ _ (h .named) ∙ broken-later _ _ _ f ∙ broken-here _ _ _ (lt-leb (ownSize (shape id) (p .own) body) (length body) (h .beyond))) refl
+      judges (some (Length o)) _ (broken-later _ _ _ (h .named) ∙ broken-later _ _ _ f ∙ broken-here _ _ _ (lt-leb size (length body) (h .beyond))) refl
 
   module _ (k : ℕ) (label : nameFits (shape id) body ≡ true) (fits : Fits (shape id) (p .own) body k) where
-    within : leb (ownSize (shape id) (p .own) body) (length body) ≡ true
+    within : leb size (length body) ≡ true
     within = rw (← (fits .is)) (le-leb k (length body) (fits .within))
 
     pub judge-left-over : (plus id || leb (length body) k) ≡ false → Judges p o id body (Judged.Fault (Length o))
     judge-left-over h = judges (some (Length o)) _ (broken-later _ _ _ (fits .named) ∙ broken-later _ _ _ label ∙ broken-later _ _ _ within ∙ broken-here _ _ _ (rw (← (fits .is)) h)) refl
 
     module _ (all : (plus id || leb (length body) k) ≡ true) where
-      past : broken (ownConditions p o id body (ownSize (shape id) (p .own) body)) ≡ broken (drop 4 (ownConditions p o id body (ownSize (shape id) (p .own) body)))
+      past : broken (ownConditions p o id body size) ≡ broken (drop 4 (ownConditions p o id body size))
       past = broken-later _ _ _ (fits .named) ∙ broken-later _ _ _ label ∙ broken-later _ _ _ within ∙ broken-later _ _ _ (rw (← (fits .is)) all)
 
       pub judge-number : numbersFinite p id (take k body) ≡ false → Judges p o id body (Judged.Fault (Number o))
@@ -66,7 +66,7 @@ module _ (p : Parent) (o id : ℕ) (body : List ℕ) where
       judge-index f h = judges (some (Index o)) _ (past ∙ broken-later _ _ _ (rw (← (fits .is)) f) ∙ broken-here _ _ _ (rw (← (fits .is)) h)) refl
 
       module _ (f : numbersFinite p id (take k body) ≡ true) (h : faceNumbersBelow p id (take k body) ≡ true) where
-        past-index : broken (ownConditions p o id body (ownSize (shape id) (p .own) body)) ≡ broken (drop 6 (ownConditions p o id body (ownSize (shape id) (p .own) body)))
+        past-index : broken (ownConditions p o id body size) ≡ broken (drop 6 (ownConditions p o id body size))
         past-index = past ∙ broken-later _ _ _ (rw (← (fits .is)) f) ∙ broken-later _ _ _ (rw (← (fits .is)) h)
 
         pub judge-father : fatherEarlier p id (take k body) ≡ false → Judges p o id body (Judged.Fault (Father o))

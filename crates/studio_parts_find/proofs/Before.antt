@@ -68,11 +68,11 @@ module _ (p : Parent) (t : Run) (s : List ℕ) (stop : ℕ) where
 
     -- one part on
     module _ (h : Here) (next : ℕ) (e : next ≡ offsetOf 0xB002 (at + (6 + length (h .own) + size (h .kids))) (h .rest)) where
-      past : ℕ
+      abbrev past : ℕ
       past = at + (6 + length (h .own) + size (h .kids))
 
       pub goes-on : at + 6 ≤ next
-      goes-on = omega (arith, e, offset-after 0xB002 (at + (6 + length (h .own) + size (h .kids))) (h .rest))
+      goes-on = omega (arith, e, offset-after 0xB002 past (h .rest))
 
       pub one-before : PartsBefore p t s stop (done ++ (father (child 0xB010 (h .kids)) ∷ [])) next
       one-before =
@@ -80,7 +80,7 @@ module _ (p : Parent) (t : Run) (s : List ℕ) (stop : ℕ) where
           let on = after-known p s at stop 0xB002 (h .own) (h .kids) (h .rest) (h .spans) in
           record {
             tail = h .rest;
-            spans = rw e (onward-spans 0xB002 p (h .rest) s (at + (6 + length (h .own) + size (h .kids))) stop on);
+            spans = rw e (onward-spans 0xB002 p (h .rest) s past stop on);
             split = h .split ∙ sym (append-assoc done (f ∷ []) (fathersIn (h .rest))) ∙ ap (λ (l : List ℕ). (done ++ (f ∷ [])) ++ l) (fathers-onward (h .rest));
             few = omega (arith, length-append done (f ∷ []), w .few, goes-on);
           }

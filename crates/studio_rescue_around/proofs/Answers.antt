@@ -120,7 +120,7 @@ module _ (v : ℕ) (s : List ℕ) (at : ℕ) (six : 6 ≤ length s) (at-is : at 
   abbrev answer : Outside
   answer = outsideOf s (ended (top v) 0 (mend v [] 6 (drop 6 s)))
 
-  pub before-refused : (y : Refusal) → before ≡ refused y → Outside.Beyond y ≡ outsideOf s (ended (top v) 0 (mend v [] 6 (drop 6 s)))
+  pub before-refused : (y : Refusal) → before ≡ refused y → Outside.Beyond y ≡ answer
   before-refused y e = rw (split, e)
 
   -- what stands before 3D3D is accepted
@@ -138,7 +138,7 @@ module _ (v : ℕ) (s : List ℕ) (at : ℕ) (six : 6 ≤ length s) (at-is : at 
         let z : tally (0x3D3D ∷ []) (identifiers (t then end)) ≡ 0 = ap (tally (0x3D3D ∷ [])) (identifiers-then t end ∙ append-nil (identifiers t)) ∙ none-in in
         rw z
 
-    pub no-scene : at ≡ length s → Outside.Beyond (Missing 0) ≡ outsideOf s (ended (top v) 0 (mend v [] 6 (drop 6 s)))
+    pub no-scene : at ≡ length s → Outside.Beyond (Missing 0) ≡ answer
     no-scene l =
         let d : drop at s ≡ [] = drop-of-length-le s {i = at} (omega arith) in
         let q : mend v [] 6 (drop 6 s) ≡ accepted (t then end) = goes-on ∙ rw (d, mend-nil v (passed [] t) at) in
@@ -171,10 +171,10 @@ module _ (v : ℕ) (s : List ℕ) (at : ℕ) (six : 6 ≤ length s) (at-is : at 
             mends-scene v (passed [] t) at (drop at s) fine named f ∙ rw (rest-is, stop-is) in
             goes-on ∙ ap (prefixed t) q
 
-        pub behind-refused : (y : Refusal) → behind ≡ refused y → Outside.Beyond y ≡ outsideOf s (ended (top v) 0 (mend v [] 6 (drop 6 s)))
+        pub behind-refused : (y : Refusal) → behind ≡ refused y → Outside.Beyond y ≡ answer
         behind-refused y k = rw (whole, k)
 
-        pub scene-found : (u : Run) → behind ≡ accepted u → 6 + size t ≡ at → Outside.Scene at stop ≡ outsideOf s (ended (top v) 0 (mend v [] 6 (drop 6 s)))
+        pub scene-found : (u : Run) → behind ≡ accepted u → 6 + size t ≡ at → Outside.Scene at stop ≡ answer
         scene-found u k z =
             let q : mend v [] 6 (drop 6 s) ≡ accepted (t then known 0x3D3D [] held u) = rw (whole, k) in
             let i : offsetOf 0x3D3D 6 (t then known 0x3D3D [] held u) ≡ at = offset-there 6 t u held none-in ∙ z in

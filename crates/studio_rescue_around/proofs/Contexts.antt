@@ -10,10 +10,11 @@ use lib.Seq.{slice, length-slice}
 use Rattle.shared_words.specs.declared.Refusal.{Refusal}
 use Rattle.shared_words.specs.Bytes.{Bytes}
 use Rattle.shared_words.specs.Conditions.{Answer, refused, accepted}
-use Rattle.studio_rules.specs.Table.{rows, listed, under}
+use Rattle.studio_rules.specs.Table.{rows, under}
 use Rattle.studio_rules.specs.Layout.{Run, end, skip, known, size}
 use Rattle.studio_rules.specs.Rules.{Parent, few, Obeys}
 use Rattle.studio_rules.specs.Walk.{walk, top}
+use Rattle.studio_rules.proofs.Rows.{scene-listed}
 use Rattle.studio_rules.proofs.Sound.{length-bytes, Tells, walk-tells}
 use Rattle.studio_row.specs.Packed.{rowOf, slotIn, slotOf}
 use Rattle.studio_marks.specs.Marks.{free, noted, noMarks, marksAfter, RuleIs}
@@ -65,10 +66,6 @@ context-after p seen row word ms c six o l (known id own kids rest) h =
     (o + (6 + length own + size kids)) (omega arith) rest (h .3)
 
 -- ---- 3D3D is noted
-
-scene-listed : listed 0x3D3D ≡ true
-unfolding listed rows
-scene-listed = refl
 
 scene-placed : under 0x4D4D 0x3D3D ≡ true
 unfolding under rows

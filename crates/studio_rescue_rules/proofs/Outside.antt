@@ -1,20 +1,18 @@
 -- No mesh stands outside 3D3D: 4100 stands only in a 4000, that in 3D3D, and that in 4D4D, once.
-use mathlib.Core.Path.{_≡_, refl, sym}
-use Prim.Native.Nat.{ℕ, zero, suc, _+_, _-_, _≤_}
+use mathlib.Core.Path.{_≡_, refl}
+use Prim.Native.Nat.{ℕ, _+_, _-_}
 use native.Mathlib.Omega.{arith}
-use mathlib.Core.Bool.{Bool, true, false, false≢true}
+use mathlib.Core.Bool.{true, false, false≢true}
 use mathlib.Core.List.{List, [], _∷_}
-use mathlib.Core.Option.{some, Option·some-ne-none}
-use lib.Dec.{eqb, leb}
-use lib.ListN.{length, getElem?}
-use borrow.Author.Tests.{eqb-true, ne-eqb, leb-true}
-use Rattle.shared_words.specs.Lists.{every}
-use Rattle.studio_rules.specs.Table.{theFile, rows, under, limits, atMostOne}
+use lib.Dec.{eqb}
+use lib.ListN.{length}
+use borrow.Author.Tests.{eqb-true, ne-eqb}
+use Rattle.studio_rules.specs.Table.{theFile, rows, under}
 use Rattle.studio_rules.specs.Layout.{Run, end, skip, known, size, identifiers}
-use Rattle.studio_rules.specs.Rules.{Parent, inside, tally, few, Own, Obeys}
+use Rattle.studio_rules.specs.Rules.{Parent, inside, tally, Own, Obeys}
 use Rattle.studio_rules.specs.Walk.{top}
 use Rattle.studio_rules.specs.Gives.{meshesOf}
-use Rattle.shared_words.proofs.Bools.{and-parts}
+use Rattle.studio_rules.proofs.Once.{one-scene}
 use Rattle.studio_scene.proofs.Children.{one-of-one}
 
 -- ---- the table
@@ -99,21 +97,7 @@ none-beside v seen (known id own kids rest) o at l k n =
       none-beside v (id ∷ seen) rest (o + (6 + length own + size kids)) at l (k .3) (omega arith),
     )
 
--- ---- 4D4D has one 3D3D
+-- ---- 4D4D has one 3D3D, so its order is 0
 
-every-at : {A : Type 0} (p : A → Bool) (xs : List A) (i : ℕ) (x : A) → every p xs ≡ true → getElem? xs i ≡ some x → p x ≡ true
-unfolding every
-every-at p [] i x h e = absurd (Option·some-ne-none x (sym e))
-every-at p (y ∷ xs) zero x h e = let z : y ≡ x = cc in rw z at (and-parts (p y) (every p xs) h .0)
-every-at p (y ∷ xs) (suc i) x h e = every-at p xs i x (and-parts (p y) (every p xs) h .1) e
-
-its-group : getElem? (limits 0x4D4D) 1 ≡ some (0x3D3D ∷ [])
-unfolding limits atMostOne
-its-group = refl
-
-pub one-scene : (ids : List ℕ) → few 0x4D4D ids ≡ true → tally (0x3D3D ∷ []) ids ≤ 1
-one-scene ids h = leb-true _ 1 (every-at (λ g. leb (tally g ids) 1) (limits 0x4D4D) 1 (0x3D3D ∷ []) h its-group)
-
--- so its order is 0
 pub first-scene : (v : ℕ) (seen own : List ℕ) → Own (top v) seen 0x3D3D own → tally (0x3D3D ∷ []) seen ≡ 0
 first-scene v seen own h = let l = one-scene (0x3D3D ∷ seen) (h .not-twice) in omega arith

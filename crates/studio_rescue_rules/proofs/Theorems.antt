@@ -11,7 +11,7 @@ use Rattle.studio_rules.specs.Rules.{tally, Obeys, version}
 use Rattle.shared_words.specs.Conditions.{Answer, refused, accepted}
 use Rattle.studio_rules.specs.Walk.{top, verdict}
 use Rattle.studio_rules.specs.Gives.{meshes}
-use Rattle.studio_rules.proofs.Once.{tally-append, at-most-one}
+use Rattle.studio_rules.proofs.Once.{tally-append, at-most-one, one-scene}
 use Rattle.studio_rules.proofs.Verdict.{accepted-exactly, verdict-good, version-agrees}
 use Rattle.studio_scene.specs.Contents.{unplaced, contents}
 use Rattle.studio_scene.specs.Passed.{passed}
@@ -24,7 +24,7 @@ use Rattle.studio_rescue_rules.proofs.Sift.{sift-says}
 use Rattle.studio_rescue_rules.proofs.File.{MendedFile, file-mended}
 use Rattle.studio_rescue_rules.proofs.Back.{sifted-is, restored, all-failed}
 use Rattle.studio_rescue_rules.proofs.First.{first-fault}
-use Rattle.studio_rescue_rules.proofs.Outside.{none-beside, one-scene}
+use Rattle.studio_rescue_rules.proofs.Outside.{none-beside}
 
 -- ---- a rescue is that of a mended layout
 

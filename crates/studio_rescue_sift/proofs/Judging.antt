@@ -2,7 +2,6 @@
 use mathlib.Core.Path.{_≡_, refl, subst}
 use Prim.Native.Nat.{ℕ, _+_, _-_, _≤_}
 use native.Mathlib.Omega.{arith}
-use mathlib.Core.Bool.{true}
 use mathlib.Core.List.{List, []}
 use lib.Dec.{leb}
 use lib.ListN.{length}
@@ -11,10 +10,10 @@ use Rattle.shared_words.specs.declared.Refusal.{Refusal}
 use Rattle.shared_words.specs.Refusals.{numberOf}
 use Rattle.shared_words.specs.Bytes.{Bytes}
 use Rattle.shared_words.specs.Conditions.{Answer, refused, accepted}
-use Rattle.studio_rules.specs.Table.{listed, rows}
 use Rattle.studio_rules.specs.Layout.{Run}
 use Rattle.studio_rules.specs.Rules.{Parent}
 use Rattle.studio_rules.specs.Walk.{walk, top}
+use Rattle.studio_rules.proofs.Rows.{scene-listed}
 use Rattle.studio_row.specs.Packed.{rowOf}
 use Rattle.studio_marks.specs.Marks.{noMarks, RuleIs}
 use Rattle.studio_head.specs.Contexts.{Context}
@@ -28,10 +27,6 @@ use Rattle.studio_walk.proofs.Passing.{passed-over}
 use Rattle.studio_rescue_rules.specs.Rescue.{scene}
 use Rattle.studio_rescue_sift.specs.declared.Child.{Child}
 use Rattle.studio_rescue_sift.specs.Children.{childOf}
-
-scene-listed : listed 0x3D3D ≡ true
-unfolding listed rows
-scene-listed = refl
 
 pub scene-context : (v row : ℕ) → row ≡ rowOf 0x3D3D → Context (scene v) [] row 0 noMarks
 scene-context v row e = context-inside (top v) [] 0x3D3D [] row 0 scene-listed e record { is = refl; small = omega arith }

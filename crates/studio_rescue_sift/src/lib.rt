@@ -35,7 +35,7 @@ fn end_of(file: &[u8], at: usize, end: usize) -> usize
 }
 
 // A child judged: it is cut, with the number of its refusal, or kept.
-pub enum Child {
+enum Child {
     Cut(u32),
     Kept,
 }

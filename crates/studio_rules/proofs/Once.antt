@@ -8,11 +8,11 @@ use mathlib.Core.List.{List, [], _∷_, _++_, append-nil}
 use lib.Dec.{leb}
 use borrow.Author.Tests.{leb-true, le-leb}
 use Rattle.shared_words.specs.Lists.{every}
-use Rattle.studio_rules.specs.Table.{limits}
+use Rattle.studio_rules.specs.Table.{atMostOne, limits}
 use Rattle.studio_rules.specs.Layout.{Run, end, skip, known, identifiers}
 use Rattle.studio_rules.specs.Rules.{Parent, tally, few, Obeys}
 use Rattle.studio_rules.specs.Theorems.{AtMostOne}
-use Rattle.shared_words.proofs.Bools.{every-weaker}
+use Rattle.shared_words.proofs.Bools.{and-parts, every-weaker}
 
 pub tally-append : (g xs ys : List ℕ) → tally g (xs ++ ys) ≡ tally g xs + tally g ys
 tally-append g [] ys = omega arith
@@ -45,3 +45,8 @@ obeys-few p seen (known id own kids rest) h f = few-seen (p .id) id seen (identi
 
 pub at-most-one : AtMostOne
 at-most-one q kids h = obeys-few q [] kids h (few-nil (q .id))
+
+-- 4D4D has one 3D3D
+pub one-scene : (ids : List ℕ) → few 0x4D4D ids ≡ true → tally (0x3D3D ∷ []) ids ≤ 1
+unfolding limits atMostOne every
+one-scene ids h = leb-true _ _ (and-parts (leb (tally (0x3D3D ∷ []) ids) 1) _ (and-parts (leb (tally (0x0002 ∷ []) ids) 1) _ h .1) .0)

@@ -1,27 +1,18 @@
 -- Rules of the whole table, each by one test that is computed over its rows; and what follows of one identifier.
-use mathlib.Core.Path.{_≡_, refl, sym, subst}
+use mathlib.Core.Path.{_≡_, refl}
 use Prim.Native.Nat.{ℕ}
-use mathlib.Core.Bool.{Bool, true, false, _||_, cond, false≢true}
+use mathlib.Core.Bool.{Bool, true, false, cond, false≢true}
 use mathlib.Core.List.{List, [], _∷_}
-use lib.Dec.{eqb, ltb}
-use borrow.Author.Tests.{eqb-true}
+use lib.Dec.{ltb}
 use Rattle.shared_words.specs.Lists.{every}
 use Rattle.shared_words.specs.Lists.{among}
 use Rattle.studio_rules.specs.Table.{Row, rows, rowOf, listed, under, shape, counted}
 use Rattle.shared_words.proofs.Bools.{and-parts}
+use Rattle.shared_words.proofs.Lists.{among-every}
 
 -- a test passes at each identifier of some rows
 abbrev pub everyId : (ℕ → Bool) → List Row → Bool
 everyId test = every (λ (r : Row). every test (r .ids))
-
-pub among-every : (test : ℕ → Bool) (x : ℕ) (ys : List ℕ) → every test ys ≡ true → among x ys ≡ true → test x ≡ true
-unfolding every
-among-every test x [] h a = absurd (false≢true a)
-among-every test x (y ∷ ys) h a = go (eqb x y) refl (among-every test x ys (and-parts (test y) (every test ys) h .1)) a
-  where
-    go : (e : Bool) → eqb x y ≡ e → (among x ys ≡ true → test x ≡ true) → (e || among x ys) ≡ true → test x ≡ true
-    go true e ih a = subst (λ (z : ℕ). test z ≡ true) (sym (eqb-true x y e)) (and-parts (test y) (every test ys) h .0)
-    go false e ih a = ih a
 
 row-every : (test : ℕ → Bool) (x : ℕ) (rs : List Row) → everyId test rs ≡ true → among x (rowOf x rs .ids) ≡ true → test x ≡ true
 unfolding every
@@ -68,3 +59,7 @@ faces-counted = refl
 pub pairs-counted : shape 0x4140 ≡ counted 8
 unfolding shape rows
 pairs-counted = refl
+
+pub scene-listed : listed 0x3D3D ≡ true
+unfolding listed rows
+scene-listed = refl

@@ -1,38 +1,26 @@
 -- The first chunk of a run that stands in a file: its header, its own data, its children and what follows it. That the run
 -- parses says that each identifier fits its two bytes.
 use mathlib.Core.Path.{_≡_, sym, ap, _∙_}
-use mathlib.Core.Bool.{true, false, not, true≢false}
-use mathlib.Core.List.{List, []}
+use mathlib.Core.Bool.{true}
+use mathlib.Core.List.{List}
 use Prim.Native.Nat.{ℕ, _+_, _<_, _^_}
 use native.Mathlib.Omega.{arith}
-use lib.Dec.{ltb}
 use lib.ListN.{length}
 use lib.Seq.{slice, length-slice}
-use borrow.Author.Tests.{ltb-true, not-true}
-use Rattle.shared_words.proofs.Bools.{and-parts}
 use Rattle.studio_rules.specs.Table.{listed}
 use Rattle.studio_rules.specs.Layout.{Run, skip, known, size}
 use Rattle.studio_rules.specs.Rules.{unlisted}
-use Rattle.studio_rules.specs.Parses.{Place, Parses, Fits}
-use Rattle.studio_rules.proofs.Rows.{under-listed, listed-small}
+use Rattle.studio_rules.specs.Parses.{Place, Parses}
+use Rattle.studio_rules.proofs.Parses.{fits-small, unlisted-small, not-both}
 use Rattle.studio_rules.proofs.Sound.{length-bytes}
 use Rattle.studio_stands.specs.Stands.{Stands, Headed}
 use Rattle.studio_stands.proofs.Layouts.{skip-headed, skip-rest, known-headed, known-own, known-kids, known-rest}
 
 -- ---- identifiers
 
-pub unlisted-small : (id : ℕ) → unlisted id ≡ true → id < 2 ^ 16
-unlisted-small id u = ltb-true id 0x1_0000 (and-parts _ _ u .0)
-
 -- an unlisted chunk is none that is looked for
 pub unlisted-other : (id x : ℕ) → unlisted id ≡ true → listed x ≡ true → id ≡ x → ⊥
-unlisted-other id x u l e = true≢false (sym l ∙ ap listed (sym e) ∙ not-true (listed id) (and-parts (ltb id 0x1_0000) (not (listed id)) u .1))
-
-pub fits-listed : (p : Place) (id : ℕ) (own : List ℕ) (kids : Run) → Fits p id own kids → listed id ≡ true
-fits-listed p id own kids l = under-listed (p .id) id (l .in-place)
-
-pub fits-small : (p : Place) (id : ℕ) (own : List ℕ) (kids : Run) → Fits p id own kids → id < 2 ^ 16
-fits-small p id own kids l = ltb-true id 0x1_0000 (listed-small id (fits-listed p id own kids l))
+unlisted-other id x u l e = not-both id u (ap listed e ∙ l)
 
 -- ---- a run
 

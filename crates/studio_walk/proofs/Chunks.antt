@@ -122,7 +122,7 @@ entering p seen at (enter id′ own kids rest) id row word from past h = go (plu
         record { own = own; kids = kids; rest = rest; is = rw i; row-is = cc; word-is = cc; from-is = cc; past-is = cc }
 
 module _ (p : Parent) (seen s : List ℕ) (at id from past : ℕ) (own : List ℕ) (b : Bytes s) (order : from ≤ past) (stays : past ≤ length s) (small : length s < 2 ^ 32) (starts : 1 ≤ from) where
-  answer : Answer Run
+  abbrev answer : Answer Run
   answer = walk (inside p seen id own) [] from (slice from past s)
 
   -- the children were refused
@@ -138,9 +138,9 @@ module _ (p : Parent) (seen s : List ℕ) (at id from past : ℕ) (own : List �
     pub skipped-are : k ≡ skipped t
     pub kept : Kept (inside p seen id own) t s from past ms
 
-  pub run-accepted : (next n k : ℕ) (ms : List ℕ) → RunIs past 0 0 from noMarks (walk (inside p seen id own) [] from (slice from past s)) (Ran.Done next n k) ms →
-      Ran-well (walk (inside p seen id own) [] from (slice from past s)) n k ms
-  run-accepted next n k ms h = go (walk (inside p seen id own) [] from (slice from past s)) h (walk-tells (inside p seen id own) [] from (slice from past s) (bytes-slice s from past b))
+  pub run-accepted : (next n k : ℕ) (ms : List ℕ) → RunIs past 0 0 from noMarks answer (Ran.Done next n k) ms →
+      Ran-well answer n k ms
+  run-accepted next n k ms h = go answer h (walk-tells (inside p seen id own) [] from (slice from past s) (bytes-slice s from past b))
     where
       go : (a : Answer Run) → RunIs past 0 0 from noMarks a (Ran.Done next n k) ms → Tells (inside p seen id own) [] (slice from past s) a → Ran-well a n k ms
       go (refused x) h t = absurd (clash (cc))

@@ -19,7 +19,7 @@ use Rattle.studio_write_bytes.proofs.Floats.{not-nan}
 use Rattle.studio_write.specs.ReadsBack.{Floats32}
 use Rattle.studio_write.specs.Finite.{SameTest}
 
-abbrev bits : Float → ℕ
+abbrev pub bits : Float → ℕ
 bits x = toBits binary32 x
 
 -- ---- the exponent's field, as the logic takes it from the bits
@@ -75,7 +75,7 @@ bits-float b l h = toBits-ofBits binary32 b l (not-nan (float b) (finite-float b
 
 -- ---- rows
 
-parts : (x : Float) (xs : List Float) → Floats32 (x ∷ xs) → T (fits binary32 x) × Floats32 xs
+pub parts : (x : Float) (xs : List Float) → Floats32 (x ∷ xs) → T (fits binary32 x) × Floats32 xs
 unfolding every
 parts x xs f = let p = and-parts (fits binary32 x) (every (fits binary32) xs) f in (subst T (sym (p .0)) tt, p .1)
 

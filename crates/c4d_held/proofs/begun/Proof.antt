@@ -2,7 +2,6 @@
 use mathlib.Core.Path.{refl}
 use Rattle.c4d_rules.specs.Combinations.{onceEach}
 use Rattle.c4d_parts.specs.Bits.{bits}
-use borrow.Author.Needs.{needs}
 use Rattle.c4d_held.proofs.begun.Statement.{statement}
 use Rattle.c4d_held.proofs.begun.Tie as tie
 

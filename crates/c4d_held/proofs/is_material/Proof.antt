@@ -2,7 +2,6 @@
 use mathlib.Core.Path.{sym}
 use native.Mathlib.Omega.{arith}
 use Rattle.c4d_held.proofs.Conditions.{material-below, material-above}
-use borrow.Author.Needs.{needs}
 use Rattle.c4d_held.proofs.is_material.Statement.{statement}
 use Rattle.c4d_held.proofs.is_material.Tie as tie
 

@@ -11,7 +11,6 @@ use Rattle.c4d_rules.specs.Kinds.{tEnd, tObject, tTexture, listed}
 use Rattle.c4d_rules.specs.Rules.{objectId}
 use Rattle.c4d_held.specs.Held.{fault}
 use Rattle.c4d_held.proofs.Conditions.{end-outside, texture-long, texture-outside, part-outside, unknown-outside, not-this, listed-part, not-listed}
-use borrow.Author.Needs.{needs}
 use Rattle.c4d_held.proofs.judge_outside.Statement.{statement}
 use Rattle.c4d_held.proofs.judge_outside.Tie as tie
 

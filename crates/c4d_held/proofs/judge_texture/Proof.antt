@@ -1,6 +1,5 @@
 -- A texture: its size, then its material.
 use mathlib.Core.Path.{refl, sym, ap, _∙_}
-use native.Mathlib.Omega.{arith}
 use mathlib.Core.Option.{some}
 use borrow.Author.Tests.{not-true, not-false, ne-eqb, eq-eqb}
 use Rattle.c4d_held.specs.Held.{lastOf, isMaterial}

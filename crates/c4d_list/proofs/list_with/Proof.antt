@@ -2,7 +2,6 @@
 use mathlib.Core.Path.{sym, ap, subst}
 use mathlib.Core.List.{List}
 use Prim.Native.Nat.{ℕ}
-use native.Mathlib.Omega.{arith}
 use Rattle.shared_words.specs.Effects.{Effect}
 use Rattle.c4d_rules.specs.declared.Found.{Found}
 use Rattle.c4d_rules.specs.Calls.{Rows}

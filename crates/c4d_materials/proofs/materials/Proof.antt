@@ -8,9 +8,10 @@ use lib.ListN.{length}
 use Prim.Native.Nat.{ℕ, _-_, _≤_}
 use native.Mathlib.Omega.{arith}
 use borrow.Author.Tests.{not-true, not-false}
+use Rattle.shared_words.proofs.Bools.{bit-small}
 use Rattle.c4d_rules.specs.Blocks.{materialHeader}
 use Rattle.c4d_blocks.specs.Headers.{Tells, Sees}
-use Rattle.c4d_materials.proofs.Loop.{On, one-small, on-start, on-cut, on-after, on-more, on-open, on-end}
+use Rattle.c4d_materials.proofs.Loop.{On, on-start, on-cut, on-after, on-more, on-open, on-end}
 use borrow.Author.Needs.{needs}
 use Rattle.c4d_materials.proofs.materials.Statement.{statement}
 use Rattle.c4d_materials.proofs.materials.Tie as tie
@@ -94,7 +95,7 @@ add-nexts c =
     let l = c .before .before .before .before .before .before .loop in
     let id = c .before .before .id .given .0 .0 in
     let e = bit-is (eqb id 65) in
-    omega (arith, one-small (eqb id 65), l .inv .few, l .inv .within)
+    omega (arith, bit-small (eqb id 65), l .inv .few, l .inv .within)
 
 add-at-2 : tie.Need-add-at-2 Inv-loop μ-loop
 add-at-2 c =

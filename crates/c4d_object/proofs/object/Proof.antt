@@ -1,6 +1,6 @@
 -- The loop's invariant: the sub-chunks so far, and what is left of the OBJ5.
 use mathlib.Core.Path.{_≡_, _∙_, subst}
-use mathlib.Core.List.{List, []}
+use mathlib.Core.List.{List}
 use mathlib.Core.Option.{Option, some}
 use Prim.Native.Nat.{ℕ, _+_, _-_, _*_, _<_, _≤_}
 use native.Mathlib.Omega.{arith}

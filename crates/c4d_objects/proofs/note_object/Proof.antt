@@ -1,6 +1,5 @@
 -- One number, or two.
 use mathlib.Core.Path.{_≡_, ap}
-use mathlib.Core.List.{[]}
 use Prim.Native.Nat.{_+_}
 use native.Mathlib.Omega.{arith}
 use lib.ListN.{length}

@@ -1,9 +1,8 @@
+-- In each branch the number given is that of the refusal that was matched.
 use borrow.Author.Needs.{needs}
 use Rattle.shared_words.proofs.Refusals.{numbered-at}
 use Rattle.shared_refusals.proofs.number.Statement.{statement}
 use Rattle.shared_refusals.proofs.number.Tie as tie
-use Rattle.shared_refusals.proofs.number.Reads as reads
-use Rattle.shared_refusals.proofs.number.Lts as lts
 
 -- src/lib.rt:11:29
 enum-told : tie.Need-enum-told

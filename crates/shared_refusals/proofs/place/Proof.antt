@@ -1,9 +1,8 @@
+-- In each branch the place given is that of the refusal that was matched: the one that it carries, or 0.
 use borrow.Author.Needs.{needs}
 use Rattle.shared_words.proofs.Refusals.{place-at}
 use Rattle.shared_refusals.proofs.place.Statement.{statement}
 use Rattle.shared_refusals.proofs.place.Tie as tie
-use Rattle.shared_refusals.proofs.place.Reads as reads
-use Rattle.shared_refusals.proofs.place.Lts as lts
 
 -- src/lib.rt:49:27
 enum-known-r : tie.Need-enum-known-r

@@ -1,6 +1,5 @@
 -- `studio_figure::write_figure` meets its contract: the judgement, and the figure where it gives a size.
 use mathlib.Core.Path.{sym, ap, _∙_}
-use native.Mathlib.Omega.{arith}
 use mathlib.Core.List.{List}
 use Prim.Native.Nat.{ℕ}
 use Rattle.shared_words.specs.Effects.{Effect}

@@ -1,9 +1,8 @@
 -- `studio_figure_chunks::put_three` meets its contract.
-use mathlib.Core.Path.{_≡_, ap, _∙_}
-use Prim.Native.Nat.{ℕ}
 use native.Mathlib.Omega.{arith}
-use lib.ListN.{drop, getD, length-set}
+use lib.ListN.{length-set}
 use lib.Seq.{getD-drop}
+use Rattle.shared_numbers.proofs.At.{head-is}
 use Rattle.studio_figure_chunks.proofs.Chunks.{three-put}
 use borrow.Author.Needs.{needs}
 use Rattle.studio_figure_chunks.proofs.put_three.Statement.{statement}
@@ -49,8 +48,7 @@ returns : tie.Need-returns
 returns c =
     let a = c .before .before .before .args in
     let s = a .row .now in
-    let e : getD (drop (a .first) s) 0 0 ≡ getD s (a .first) 0 = getD-drop (a .first) s 0 0 ∙ ap (λ (k : ℕ). getD s k 0) (omega arith) in
-    rw (e, getD-drop (a .first) s 1 0, getD-drop (a .first) s 2 0) (three-put (a .out .now) (a .at) _ _ _ (omega arith))
+    rw (head-is s (a .first), getD-drop (a .first) s 1 0, getD-drop (a .first) s 2 0) (three-put (a .out .now) (a .at) _ _ _ (omega arith))
 
 pub put-three-spec : {M : Type 1} → statement M
 put-three-spec =

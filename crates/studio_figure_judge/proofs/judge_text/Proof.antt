@@ -2,7 +2,6 @@
 use mathlib.Core.Path.{_≡_, sym, ap, _∙_}
 use Prim.Native.Nat.{ℕ}
 use native.Mathlib.Omega.{arith}
-use mathlib.Core.List.{[]}
 use lib.ListN.{length}
 use Rattle.studio_figure_rules.specs.Given.{over}
 use Rattle.studio_figure_rows.proofs.Runs.{capped-under}

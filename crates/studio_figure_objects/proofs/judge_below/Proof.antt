@@ -1,6 +1,5 @@
 -- `studio_figure_objects::judge_below` meets its contract.
 use mathlib.Core.Path.{sym, _∙_}
-use native.Mathlib.Omega.{arith}
 use mathlib.Core.List.{[]}
 use lib.Dec.{ltb}
 use Rattle.shared_words.specs.declared.Refusal.the-variants.{Index}

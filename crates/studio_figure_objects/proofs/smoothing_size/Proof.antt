@@ -1,5 +1,4 @@
 -- `studio_figure_objects::smoothing_size` meets its contract.
-use native.Mathlib.Omega.{arith}
 use Rattle.studio_figure_objects.proofs.Sizes.{words-size}
 use borrow.Author.Needs.{needs}
 use Rattle.studio_figure_objects.proofs.smoothing_size.Statement.{statement}

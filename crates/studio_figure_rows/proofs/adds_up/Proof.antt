@@ -1,7 +1,6 @@
 -- `studio_figure_rows::adds_up` meets its contract.
 use native.Mathlib.Omega.{arith}
 use Rattle.studio_figure_rows.proofs.Runs.{capped-is}
-use borrow.Author.Needs.{needs}
 use Rattle.studio_figure_rows.proofs.adds_up.Statement.{statement}
 use Rattle.studio_figure_rows.proofs.adds_up.Tie as tie
 

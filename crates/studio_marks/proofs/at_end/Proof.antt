@@ -1,6 +1,5 @@
 -- What is missing, then a mesh.
 use mathlib.Core.Path.{sym, _∙_}
-use borrow.Author.Needs.{needs}
 use Prim.Native.Nat.{_+_}
 use lib.ListN.{length}
 use borrow.Author.Tests.{not-true, not-false}

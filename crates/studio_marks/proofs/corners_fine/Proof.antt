@@ -1,6 +1,5 @@
 -- No chunk, or the corners behind its count word.
 use native.Mathlib.Omega.{arith}
-use borrow.Author.Needs.{needs}
 use borrow.Author.Tests.{eq-eqb, ne-eqb}
 use Rattle.studio_marks.specs.Marks.{cornersAt}
 use Rattle.studio_marks.proofs.Places.{faces-there}

@@ -1,7 +1,6 @@
 -- The chunk comes to what is found at its end.
 use mathlib.Core.Path.{refl, subst}
 use borrow.Author.Needs.{needs}
-use native.Mathlib.Omega.{arith}
 use Rattle.shared_words.specs.Conditions.{broken}
 use Rattle.studio_rules.specs.Walk.{endConditions}
 use Rattle.studio_marks.specs.Marks.{ShutIs}
