@@ -307,6 +307,7 @@ void check_stick(const char *root, const struct against *against, struct manifes
         check.in_folder = check.in_folder || entry.kind == ENTRY_FOLDER;
         look_at(&check, &entry);
     }
+    report->single = !check.in_folder;
     at_end(&check);
     walk_free(&check.walk);
     checker_free(&check.checker);

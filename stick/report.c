@@ -168,6 +168,7 @@ void report_join(struct report *sum, const struct report *report) {
     sum->folders += report->folders;
     sum->unwell += report_status(report) != 0;
     sum->bare += report->bare;
+    sum->single = report->single;
     sum->uncompared += report->uncompared;
     sum->slips += report->slips;
     sum->slip_files += report->slip_files;

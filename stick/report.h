@@ -65,6 +65,7 @@ struct report {
     unsigned long folders;    /* 1; the sum of several reports has more */
     unsigned long unwell;     /* of a sum: those in which not all is well */
     unsigned long bare;       /* folders with nothing to compare with: structure only */
+    bool single;              /* a file was named, not a folder */
     unsigned long uncompared; /* folders not compared with the master, which could not be read */
     unsigned long slips;      /* that were written */
     unsigned long slip_files; /* on them */

@@ -61,12 +61,19 @@ static void add_counts(struct text *line, const struct report *report) {
     }
 }
 
+/* Why there was nothing to compare with. */
+static const char *bare_words(const struct report *report) {
+    if (report->folders > 1) {
+        return "no slip on these sticks";
+    }
+    return report->single ? "one file alone is not compared with a slip" : "no slip on this stick";
+}
+
 /* What a PASS does not speak of. */
 static void add_uncovered(struct text *line, const struct report *report) {
     bool all = report->bare == report->folders;
     if (report->bare > 0 && report->figures > 0 && all) {
-        text_format(line, "; structure only: no slip on %s",
-                    report->folders == 1 ? "this stick" : "these sticks");
+        text_format(line, "; structure only: %s", bare_words(report));
     } else if (report->bare > 0 && report->figures > 0) {
         text_format(line, "; structure only on %lu of %lu: no slip there", report->bare,
                     report->folders);

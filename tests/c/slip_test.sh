@@ -195,6 +195,10 @@ same 'the slip' "$E/stick.slip" "$T/copied/stick.slip"
 stick "$T/copied"
 status_is 0
 lacks out 'structure only'
+try 'one file of a stick is not compared with its slip, and that is said'
+stick "$T/copied/adze.3ds"
+status_is 0
+last "PASS: 1 figure checked, 0 refused, $seconds; structure only: one file alone is not compared with a slip"
 try 'against a master, the slip of the stick is compared too'
 stick --against "$E" "$T/copied"
 status_is 0
