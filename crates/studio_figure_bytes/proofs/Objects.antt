@@ -9,7 +9,7 @@ use lib.ListN.{length, length-append}
 use Rattle.shared_words.specs.Lists.{every}
 use Rattle.studio_write_judge.specs.Judged.{triples, finiteFloat}
 use Rattle.studio_figure_rows.specs.Rows.{entry, sumTo, run, part, nameAt, Capped}
-use Rattle.studio_figure_rows.proofs.Runs.{sum-up, capped-under}
+use Rattle.studio_figure_rows.proofs.Runs.{sum-up, capped-under, part-length}
 use Rattle.studio_figure_objects.specs.Sizes as sizes
 use Rattle.studio_figure_objects.specs.Sizes.{wordsSize, objectBytes}
 use Rattle.studio_figure_chunks.specs.Chunks.{groupBytes, groupIn, listsBytes}
@@ -19,7 +19,6 @@ use Rattle.studio_write_bytes.specs.Bare.{nameData, vertexData, faceData}
 use Rattle.studio_write_bytes.proofs.Bare.{length-leaf, length-vertex-data, length-face-data}
 use Rattle.studio_figure_rules.specs.Given.{over}
 use Rattle.studio_figure_rules.specs.Built.{smoothingChunk}
-use Rattle.studio_figure_judge.proofs.Things.{part-length}
 use Rattle.studio_figure_bytes.specs.declared.Place.{Place}
 use Rattle.studio_figure_bytes.specs.Objects.{At, Behind, Writable, pieces}
 

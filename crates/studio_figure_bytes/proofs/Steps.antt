@@ -12,11 +12,10 @@ use Rattle.studio_figure_rules.specs.Given.{over}
 use Rattle.shared_words.specs.Lists.{total}
 use Rattle.studio_figure_rules.specs.Built.{smoothingChunk}
 use Rattle.studio_figure_rows.specs.Rows.{entry, sumTo, run, part, nameAt}
-use Rattle.studio_figure_rows.proofs.Runs.{sum-next, sum-up}
+use Rattle.studio_figure_rows.proofs.Runs.{sum-next, sum-up, part-length}
 use Rattle.studio_figure_objects.specs.Sizes.{wordsSize, objectBytes}
 use Rattle.studio_figure_chunks.specs.Chunks.{materialBytes, groupBytes, materialIn, groupIn, listsBytes}
 use Rattle.studio_figure_chunks.proofs.Chunks.{material-length}
-use Rattle.studio_figure_judge.proofs.Things.{part-length}
 use Rattle.studio_figure_bytes.specs.declared.Place.{Place}
 use Rattle.studio_figure_bytes.specs.Objects.{At, Behind, Writable, pieces}
 use Rattle.studio_figure_bytes.proofs.Objects.{lists-length, groups-length}

@@ -18,12 +18,12 @@ use Rattle.studio_figure_rules.proofs.AsBefore.{all-finite, first-finite}
 use Rattle.studio_figure_rows.specs.Rows as rows
 use Rattle.studio_figure_rows.specs.Rows.{entry, sumTo, run, part, nameAt, objectCount, groupCount, groupAt, objectAt, materialAt, figureOf}
 use Rattle.studio_figure_rows.specs.Same.{Fits}
-use Rattle.studio_figure_rows.proofs.Runs.{run-map, sum-inside, sum-up}
+use Rattle.studio_figure_rows.proofs.Runs.{run-map, sum-inside, sum-up, part-length}
 use Rattle.studio_figure_objects.specs.Asked as asked
 use Rattle.studio_figure_objects.specs.Asked.{groupCounts, counts, floats, groupIndices, indices}
 use Rattle.studio_figure_objects.specs.Sizes.{wordsSize, objectBytes}
 use Rattle.studio_figure_judge.specs.Judged.{objectNames, materialNames, groupNames, materialAsked, namesAsked, numbers, objectsAsked, sizeIs, sizeAsked}
-use Rattle.studio_figure_judge.proofs.Things.{over-append, over-shift, over-same, total-same, runs-joined, part-length, every-part}
+use Rattle.studio_figure_judge.proofs.Things.{over-append, over-shift, over-same, total-same, runs-joined, every-part}
 
 smoothing-words : (words : List ℕ) → smoothingSize words ≡ wordsSize (length words)
 smoothing-words [] = refl

@@ -4,8 +4,7 @@ use Prim.Native.Nat.{ℕ, zero, suc, _+_, _-_, _<_, _≤_}
 use native.Mathlib.Omega.{arith}
 use mathlib.Core.Bool.{Bool, true}
 use mathlib.Core.List.{List, [], _∷_, _++_, append-assoc}
-use lib.ListN.{length, take, drop, length-drop}
-use lib.Seq.{length-take-le}
+use lib.ListN.{take, drop}
 use Rattle.shared_words.specs.Lists.{every, total}
 use Rattle.shared_words.proofs.Bools.{and-parts, both}
 use Rattle.studio_figure_rules.specs.Given.{over}
@@ -50,9 +49,6 @@ runs-joined give thing one k j s e i (suc n) =
     let m : sumTo k j s (i + suc n) - sumTo k j s i ≡ entry k j s i + (sumTo k j s (i + suc n) - sumTo k j s (suc i)) = omega arith in
     rw (e i, runs-joined give thing one k j s e (suc i) n, a, m)
     (sym (run-joined one (sumTo k j s i) (entry k j s i) (sumTo k j s (i + suc n) - sumTo k j s (suc i))))
-
-pub part-length : {A : Type 0} (at n : ℕ) (row : List A) → at + n ≤ length row → length (part at n row) ≡ n
-part-length at n row h = length-take-le n (drop at row) (omega (arith, length-drop at row))
 
 -- a test that each element passes, of a part
 every-drop : {A : Type 0} (p : A → Bool) (n : ℕ) (xs : List A) → every p xs ≡ true → every p (drop n xs) ≡ true

@@ -6,7 +6,8 @@ use native.Mathlib.Omega.{arith}
 use mathlib.Core.Bool.{Bool, true, false}
 use mathlib.Core.List.{List, [], _∷_, _++_, map}
 use lib.Dec.{eqb, leb}
-use lib.ListN.{length, take, drop, getD}
+use lib.ListN.{length, take, drop, getD, length-drop}
+use lib.Seq.{length-take-le}
 use borrow.Author.Tests.{eqb-true, eqb-false, eq-eqb, ne-eqb, leb-true, leb-false}
 use Rattle.studio_figure_rows.specs.Rows.{entry, sumTo, run, part, Capped}
 
@@ -106,6 +107,9 @@ shift-eqb a b c d f g = go (eqb a b) refl
     go false h = sym (ne-eqb c d (λ (p : c ≡ d). eqb-false a b h (g p)))
 
 -- a part from `at` to `at + n`, where both are known by equations
+pub part-length : {A : Type 0} (at n : ℕ) (row : List A) → at + n ≤ length row → length (part at n row) ≡ n
+part-length at n row h = length-take-le n (drop at row) (omega (arith, length-drop at row))
+
 pub part-is : {A : Type 0} (row : List A) (at n from to : ℕ) → at ≡ from → n ≡ to → part at (at + n - at) row ≡ part from to row
 part-is row at n from to e f = let g : at + n - at ≡ to = omega arith in rw (g, e)
 

@@ -8,8 +8,7 @@ use Rattle.shared_numbers.specs.Put.{Put}
 use Rattle.shared_numbers.proofs.Put.{put-none, put-then}
 use Rattle.studio_figure_rules.specs.Given.{over}
 use Rattle.studio_figure_rows.specs.Rows.{entry, sumTo, run}
-use Rattle.studio_figure_rows.proofs.Runs.{sum-next, sum-inside, part-is}
-use Rattle.studio_figure_judge.proofs.Things.{part-length}
+use Rattle.studio_figure_rows.proofs.Runs.{sum-next, sum-inside, part-is, part-length}
 use Rattle.studio_figure_chunks.specs.Chunks.{materialBytes, materialWith, materialIn}
 use Rattle.studio_figure_chunks.proofs.Chunks.{over-last, material-length}
 use Rattle.studio_figure_chunks.proofs.put_materials.Statement.{statement}
