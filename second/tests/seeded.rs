@@ -50,7 +50,7 @@ fn readers_that_agree_agree() {
 
 #[test]
 fn every_seeded_error_is_seen() {
-    let unseen = unseen(ERRORS, |pair| grown(plan(10_000), pair).is_ok());
+    let unseen = unseen(ERRORS, |pair| grown(plan(4_000), pair).is_ok());
     assert!(unseen.is_empty(), "not seen: {unseen:?}");
 }
 
