@@ -11,16 +11,16 @@ use Rattle.studio_rules.specs.Table.{rows, limits, atMostOne, listed}
 use Rattle.studio_rules.proofs.Rows.{everyId, listed-every}
 use Rattle.studio_row.specs.Packed.{places, rowOf}
 use Rattle.studio_row.proofs.Facts.{row-of-unlisted}
-use Rattle.studio_lookup.specs.Slots.{slots, place, slotOf, free, idIn, rowIn, found}
+use Rattle.studio_lookup.specs.Slots.{slots, place, slotAt, free, idIn, rowIn, found}
 use Rattle.studio_lookup.proofs.Entries.{at}
 
 -- each identifier of the table is found in its place
-rows-test : everyId (λ x. eqb (found (slotOf x) x) (rowOf x)) rows ≡ true
+rows-test : everyId (λ x. eqb (found (slotAt x) x) (rowOf x)) rows ≡ true
 unfolding rows every places limits atMostOne rowOf slots
 rows-test = refl
 
 -- and stands there
-ids-test : everyId (λ x. idIn (slotOf x) x) rows ≡ true
+ids-test : everyId (λ x. idIn (slotAt x) x) rows ≡ true
 unfolding rows every places limits atMostOne rowOf slots
 ids-test = refl
 
@@ -41,34 +41,34 @@ unfolding slots
 slots-length = refl
 
 -- a slot with an identifier that is not listed is free
-free-slot : (x : ℕ) → listed x ≡ false → idIn (slotOf x) x ≡ true → slotOf x ≡ free
+free-slot : (x : ℕ) → listed x ≡ false → idIn (slotAt x) x ≡ true → slotAt x ≡ free
 free-slot x l e =
-    let own : T (owned (place x) (slotOf x)) = owned-at (place x) (rw slots-length (omega arith)) in
-    eqb-true (slotOf x) free (T-true _ (rw (eqb-true (slotOf x % 2 ^ 20) x e, l) at own))
+    let own : T (owned (place x) (slotAt x)) = owned-at (place x) (rw slots-length (omega arith)) in
+    eqb-true (slotAt x) free (T-true _ (rw (eqb-true (slotAt x % 2 ^ 20) x e, l) at own))
 
-pub slot-law : (x : ℕ) → found (slotOf x) x ≡ rowOf x
+pub slot-law : (x : ℕ) → found (slotAt x) x ≡ rowOf x
 slot-law x = go (listed x) refl
   where
-    none : listed x ≡ false → (b : Bool) → idIn (slotOf x) x ≡ b → cond b (rowIn (slotOf x)) 0 ≡ 0
+    none : listed x ≡ false → (b : Bool) → idIn (slotAt x) x ≡ b → cond b (rowIn (slotAt x)) 0 ≡ 0
     none l false e = refl
     none l true e = rw (free-slot x l e)
 
-    go : (b : Bool) → listed x ≡ b → found (slotOf x) x ≡ rowOf x
-    go true l = eqb-true (found (slotOf x) x) (rowOf x) (listed-every (λ x. eqb (found (slotOf x) x) (rowOf x)) rows-test x l)
-    go false l = none l (idIn (slotOf x) x) refl ∙ sym (row-of-unlisted x l)
+    go : (b : Bool) → listed x ≡ b → found (slotAt x) x ≡ rowOf x
+    go true l = eqb-true (found (slotAt x) x) (rowOf x) (listed-every (λ x. eqb (found (slotAt x) x) (rowOf x)) rows-test x l)
+    go false l = none l (idIn (slotAt x) x) refl ∙ sym (row-of-unlisted x l)
 
-pub slot-lists : (x : ℕ) → x < 2 ^ 16 → idIn (slotOf x) x ≡ listed x
+pub slot-lists : (x : ℕ) → x < 2 ^ 16 → idIn (slotAt x) x ≡ listed x
 slot-lists x h = go (listed x) refl
   where
-    none : listed x ≡ false → (b : Bool) → idIn (slotOf x) x ≡ b → b ≡ false
+    none : listed x ≡ false → (b : Bool) → idIn (slotAt x) x ≡ b → b ≡ false
     none l false e = refl
     none l true e =
-        let k : slotOf x % 2 ^ 20 ≡ x = eqb-true (slotOf x % 2 ^ 20) x e in
+        let k : slotAt x % 2 ^ 20 ≡ x = eqb-true (slotAt x % 2 ^ 20) x e in
         absurd (omega (arith, free-slot x l e))
 
-    go : (b : Bool) → listed x ≡ b → idIn (slotOf x) x ≡ b
-    go true l = listed-every (λ x. idIn (slotOf x) x) ids-test x l
-    go false l = none l (idIn (slotOf x) x) refl
+    go : (b : Bool) → listed x ≡ b → idIn (slotAt x) x ≡ b
+    go true l = listed-every (λ x. idIn (slotAt x) x) ids-test x l
+    go false l = none l (idIn (slotAt x) x) refl
 
 -- ---- what a slot has for an identifier
 

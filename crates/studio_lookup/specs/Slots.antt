@@ -37,8 +37,8 @@ unfoldable pub slots : List ℕ
 slots = slotsFrom 0 128
 
 -- the slot in which an identifier stands if it is listed
-abbrev pub slotOf : ℕ → ℕ
-slotOf x = getD slots (place x) 0
+abbrev pub slotAt : ℕ → ℕ
+slotAt x = getD slots (place x) 0
 
 -- ---- what a slot tells
 

@@ -4,7 +4,7 @@ ghost use mathlib.Core.Path.{_≡_};
 ghost use Prim.Native.Nat.{_<_};
 ghost use Rattle.studio_rules.specs.Table.{listed};
 ghost use Rattle.studio_row.specs.Packed.{rowOf};
-ghost use Rattle.studio_lookup.specs.Slots.{slots, slotOf, idIn, rowIn};
+ghost use Rattle.studio_lookup.specs.Slots.{slots, slotAt, idIn, rowIn};
 
 // The row of 4D4D, with which every walk begins.
 pub const FIGURE: u64 = 0x00_1_0_5_0004_1;
@@ -148,7 +148,7 @@ pub fn slots() -> [u64; 128]
 // The slot in which an identifier stands if it is listed.
 fn slot(table: &[u64; 128], id: usize) -> u64
     requires { ⌜ now table ≡ slots ⌝ }
-    ensures { λ r. ⌜ r ≡ slotOf id ⌝ }
+    ensures { λ r. ⌜ r ≡ slotAt id ⌝ }
 {
     table[id % 65536 * 4701 / 256 % 128]
 }
