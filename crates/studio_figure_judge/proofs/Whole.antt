@@ -18,27 +18,19 @@ use Rattle.shared_words.proofs.Conditions.{broken-here, broken-later}
 use Rattle.studio_rules.specs.Rules.{limit}
 use Rattle.studio_write_judge.specs.Judged.{answerOf}
 use Rattle.studio_write.specs.ReadsBack.{Floats32}
-use Rattle.studio_figure_rules.specs.Given.{Figure, over}
-use Rattle.studio_figure_rules.specs.Judged.{differ, sizeOf, conditions}
+use Rattle.studio_figure_rules.specs.Given.{Figure}
+use Rattle.studio_figure_rules.specs.Judged.{sizeOf, conditions}
 use Rattle.studio_figure_rules.specs.Described.{Flat, fitConditions, described, judgedFlat}
 use Rattle.studio_figure_rules.proofs.Described.{broken-first, broken-rest}
+use Rattle.studio_figure_rows.specs.declared.Judged.{Judged}
+use Rattle.studio_figure_rows.specs.declared.Judged.the-variants.{Good}
+use Rattle.studio_figure_rows.specs.Answered.{answered}
 use Rattle.studio_figure_rows.specs.Rows.{Capped, figureOf}
-use Rattle.studio_figure_rows.specs.Same.{Fits, fitAnswer}
+use Rattle.studio_figure_rows.specs.Same.{Fits}
+use Rattle.studio_figure_rows.proofs.Answers.{refused-told, good-told}
 use Rattle.studio_figure_rows.proofs.Same.{by-position}
-use Rattle.studio_figure_names.specs.Names.{nameAsked, namesAnswer, differAnswer}
-use Rattle.studio_figure_names.proofs.Judging.{refused-told, size-told}
-use Rattle.studio_figure_objects.specs.Asked.{answered}
 use Rattle.studio_figure_judge.specs.Judged.{namesAsked, objectsAsked, sizeIs, sizeAsked, sizeAnswer}
 use Rattle.studio_figure_judge.proofs.Same.{size-all, asked-same}
-
--- the answers of names are answers of conditions
-pub text-answer : (text : Bool) (names : List (List ℕ)) → namesAnswer text names ≡ answered (over (nameAsked text) names)
-unfolding namesAnswer answered
-text-answer text names = refl
-
-pub same-answer : (names : List (List ℕ)) → differAnswer names ≡ answered (differ [] names)
-unfolding differAnswer answered
-same-answer names = refl
 
 -- each float of a lent row has 32 bits
 is-true : (b : Bool) → T b → b ≡ true
@@ -93,14 +85,13 @@ module _ (all size room : ℕ) (c : Capped 0 all 1048576 size) where
 
 -- ---- the whole
 
-pub fits-told : (r : Flat) (m : ℕ) → Size m ≡ fitAnswer r → Fits r
-unfolding fitAnswer
-fits-told r m e = by-position r .fits (size-told 0 m (broken (fitConditions r)) e)
+pub fits-told : (r : Flat) → Good ≡ answered (fitConditions r) → Fits r
+fits-told r e = by-position r .fits (good-told (fitConditions r) e)
 
 module _ (r : Flat) (room : ℕ) where
-  pub misfits : (x : Refusal) → Refused x ≡ fitAnswer r → Refused x ≡ judgedFlat r room
-  unfolding fitAnswer judgedFlat
-  misfits x e = sym (ap (answerOf (sizeOf (described r))) (broken-first (fitConditions r) (conditions (described r) room) x (refused-told 0 (broken (fitConditions r)) x e)))
+  pub misfits : (x : Refusal) → Judged.Refused x ≡ answered (fitConditions r) → Refused x ≡ judgedFlat r room
+  unfolding judgedFlat
+  misfits x e = sym (ap (answerOf (sizeOf (described r))) (broken-first (fitConditions r) (conditions (described r) room) x (refused-told (fitConditions r) x e)))
 
   abbrev names : List Condition
   names = namesAsked (r .names) (r .objects) (r .materials) (r .groups)
@@ -111,28 +102,25 @@ module _ (r : Flat) (room : ℕ) where
   abbrev size : ℕ
   size = sizeIs (r .objects) (r .groups) (r .materials)
 
-  module _ (b : Floats32 (r .vertices)) (m : ℕ) (e : Size m ≡ fitAnswer r) where
+  module _ (b : Floats32 (r .vertices)) (e : Good ≡ answered (fitConditions r)) where
     joined : judgedFlat r room ≡ answerOf size (broken (names ++ (objects ++ sizeAsked size room)))
-    unfolding fitAnswer judgedFlat
+    unfolding judgedFlat
     joined =
-        let f = fits-told r m e in
-        ap (answerOf (sizeOf (described r))) (broken-rest (fitConditions r) (conditions (described r) room) (size-told 0 m (broken (fitConditions r)) e)) ∙
+        let f = fits-told r e in
+        ap (answerOf (sizeOf (described r))) (broken-rest (fitConditions r) (conditions (described r) room) (good-told (fitConditions r) e)) ∙
         ap (λ (g : Figure). answerOf (sizeOf g) (broken (conditions g room))) (by-position r .same f) ∙
         ap (λ (n : ℕ). answerOf n (broken (conditions (figureOf r) room))) (size-all r f) ∙ ap (λ (cs : List Condition). answerOf size (broken cs)) (asked-same r f b room)
 
-    pub names-refused : (x : Refusal) → Refused x ≡ answered names → Refused x ≡ judgedFlat r room
-    unfolding answered
-    names-refused x h = sym (joined ∙ ap (answerOf size) (broken-first names (objects ++ sizeAsked size room) x (refused-told 0 (broken names) x h)))
+    pub names-refused : (x : Refusal) → Judged.Refused x ≡ answered names → Refused x ≡ judgedFlat r room
+    names-refused x h = sym (joined ∙ ap (answerOf size) (broken-first names (objects ++ sizeAsked size room) x (refused-told names x h)))
 
-    module _ (k : ℕ) (h : Size k ≡ answered names) where
+    module _ (h : Good ≡ answered names) where
       named : judgedFlat r room ≡ answerOf size (broken (objects ++ sizeAsked size room))
-      unfolding answered
-      named = joined ∙ ap (answerOf size) (broken-rest names (objects ++ sizeAsked size room) (size-told 0 k (broken names) h))
+      named = joined ∙ ap (answerOf size) (broken-rest names (objects ++ sizeAsked size room) (good-told names h))
 
-      pub objects-refused : (x : Refusal) → Refused x ≡ answered objects → Refused x ≡ judgedFlat r room
-      unfolding answered
-      objects-refused x o = sym (named ∙ ap (answerOf size) (broken-first objects (sizeAsked size room) x (refused-told 0 (broken objects) x o)))
+      pub objects-refused : (x : Refusal) → Judged.Refused x ≡ answered objects → Refused x ≡ judgedFlat r room
+      objects-refused x o = sym (named ∙ ap (answerOf size) (broken-first objects (sizeAsked size room) x (refused-told objects x o)))
 
-      pub sized : (l : ℕ) → Size l ≡ answered objects → sizeAnswer size room ≡ judgedFlat r room
-      unfolding answered sizeAnswer
-      sized l o = sym (named ∙ ap (answerOf size) (broken-rest objects (sizeAsked size room) (size-told 0 l (broken objects) o)))
+      pub sized : Good ≡ answered objects → sizeAnswer size room ≡ judgedFlat r room
+      unfolding sizeAnswer
+      sized o = sym (named ∙ ap (answerOf size) (broken-rest objects (sizeAsked size room) (good-told objects o)))

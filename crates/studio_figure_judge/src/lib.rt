@@ -9,14 +9,15 @@ use studio_figure_objects::judge_floats;
 use studio_figure_objects::judge_indices;
 use studio_figure_objects::materials_size;
 use studio_figure_objects::objects_size;
+use studio_figure_rows::Judged;
 use studio_figure_rows::fits;
 use studio_figure_rows::sum;
 ghost use mathlib.Core.Path.{_≡_};
 ghost use Prim.Native.Nat.{_+_, _*_, _/_, _<_, _≤_};
 ghost use lib.ListN.{length};
 ghost use Rattle.studio_figure_rules.specs.Described.{judgedFlat};
+ghost use Rattle.studio_figure_rows.specs.Answered.{answered};
 ghost use Rattle.studio_figure_rows.specs.Rows.{flat, sumTo};
-ghost use Rattle.studio_figure_objects.specs.Asked.{answered};
 ghost use Rattle.studio_figure_judge.specs.Judged.{groupsAt, textAsked, sameAsked, materialAsked, namesAsked, objectsAsked, sizeIs, sizeAnswer};
 
 // The longest file, and more than any sum of lengths of rows.
@@ -25,14 +26,14 @@ const LIMIT: usize = 1048576;
 const ANY: usize = 0x7FFF_FFFF_FFFF_FFFF;
 
 // 9, or 24: the names of the objects, then those of the materials.
-fn judge_text(names: &[u8], objects: &[u32], materials: &[u32], text: bool) -> Written
+fn judge_text(names: &[u8], objects: &[u32], materials: &[u32], text: bool) -> Judged
     requires { ⌜ groupsAt (now objects) (now materials) ≤ length (now names) ⌝ }
     ensures { λ r. ⌜ r ≡ answered (textAsked text (now (names .entry)) (now (objects .entry)) (now (materials .entry))) ⌝ }
 {
     let n = objects.len() / 5;
     match judge_names(names, 0, objects, 5, n, text) {
-        Written::Refused(r) => Written::Refused(r),
-        Written::Size(_) => {
+        Judged::Refused(r) => Judged::Refused(r),
+        Judged::Good => {
             let first = sum(objects, 5, 0, 0, n, ANY);
             judge_names(names, first, materials, 1, materials.len(), text)
         }
@@ -40,14 +41,14 @@ fn judge_text(names: &[u8], objects: &[u32], materials: &[u32], text: bool) -> W
 }
 
 // 29: likewise.
-fn judge_same(names: &[u8], objects: &[u32], materials: &[u32]) -> Written
+fn judge_same(names: &[u8], objects: &[u32], materials: &[u32]) -> Judged
     requires { ⌜ groupsAt (now objects) (now materials) ≤ length (now names) ⌝ }
     ensures { λ r. ⌜ r ≡ answered (sameAsked (now (names .entry)) (now (objects .entry)) (now (materials .entry))) ⌝ }
 {
     let n = objects.len() / 5;
     match judge_differ(names, 0, objects, 5, n) {
-        Written::Refused(r) => Written::Refused(r),
-        Written::Size(_) => {
+        Judged::Refused(r) => Judged::Refused(r),
+        Judged::Good => {
             let first = sum(objects, 5, 0, 0, n, ANY);
             judge_differ(names, first, materials, 1, materials.len())
         }
@@ -55,7 +56,7 @@ fn judge_same(names: &[u8], objects: &[u32], materials: &[u32]) -> Written
 }
 
 // 30.
-fn judge_materials(names: &[u8], objects: &[u32], materials: &[u32], groups: &[u32]) -> Written
+fn judge_materials(names: &[u8], objects: &[u32], materials: &[u32], groups: &[u32]) -> Judged
     requires { ⌜ groupsAt (now objects) (now materials) + sumTo 2 0 (now groups) (length (now groups) / 2) ≤ length (now names) ⌝ }
     ensures { λ r. ⌜ r ≡ answered (materialAsked (now (names .entry)) (now (objects .entry)) (now (materials .entry)) (now (groups .entry))) ⌝ }
 {
@@ -64,23 +65,23 @@ fn judge_materials(names: &[u8], objects: &[u32], materials: &[u32], groups: &[u
     let n = groups.len() / 2;
     let group = first_unnamed(names, first, materials, from, groups, n);
     if group < n {
-        return Written::Refused(Refusal::NoMaterial(group));
+        return Judged::Refused(Refusal::NoMaterial(group));
     }
-    Written::Size(0)
+    Judged::Good
 }
 
 // All that is asked of names.
-fn judge_all_names(names: &[u8], objects: &[u32], materials: &[u32], groups: &[u32]) -> Written
+fn judge_all_names(names: &[u8], objects: &[u32], materials: &[u32], groups: &[u32]) -> Judged
     requires { ⌜ groupsAt (now objects) (now materials) + sumTo 2 0 (now groups) (length (now groups) / 2) ≤ length (now names) ⌝ }
     ensures { λ r. ⌜ r ≡ answered (namesAsked (now (names .entry)) (now (objects .entry)) (now (materials .entry)) (now (groups .entry))) ⌝ }
 {
     match judge_text(names, objects, materials, false) {
-        Written::Refused(r) => Written::Refused(r),
-        Written::Size(_) => match judge_text(names, objects, materials, true) {
-            Written::Refused(r) => Written::Refused(r),
-            Written::Size(_) => match judge_same(names, objects, materials) {
-                Written::Refused(r) => Written::Refused(r),
-                Written::Size(_) => judge_materials(names, objects, materials, groups),
+        Judged::Refused(r) => Judged::Refused(r),
+        Judged::Good => match judge_text(names, objects, materials, true) {
+            Judged::Refused(r) => Judged::Refused(r),
+            Judged::Good => match judge_same(names, objects, materials) {
+                Judged::Refused(r) => Judged::Refused(r),
+                Judged::Good => judge_materials(names, objects, materials, groups),
             },
         },
     }
@@ -93,7 +94,7 @@ fn judge_all_objects(
     corners: &[u16],
     groups: &[u32],
     faces: &[u16],
-) -> Written
+) -> Judged
     requires { ⌜ (sumTo 5 1 (now objects) (length (now objects) / 5) ≤ length (now vertices)) ×
         (sumTo 5 2 (now objects) (length (now objects) / 5) ≤ length (now corners)) ⌝ }
     requires { ⌜ (2 * sumTo 5 4 (now objects) (length (now objects) / 5) ≤ length (now groups)) ×
@@ -103,10 +104,10 @@ fn judge_all_objects(
 {
     let n = objects.len() / 5;
     match judge_counts(objects, groups, n) {
-        Written::Refused(r) => Written::Refused(r),
-        Written::Size(_) => match judge_floats(objects, vertices, n) {
-            Written::Refused(r) => Written::Refused(r),
-            Written::Size(_) => judge_indices(objects, corners, groups, faces, n),
+        Judged::Refused(r) => Judged::Refused(r),
+        Judged::Good => match judge_floats(objects, vertices, n) {
+            Judged::Refused(r) => Judged::Refused(r),
+            Judged::Good => judge_indices(objects, corners, groups, faces, n),
         },
     }
 }
@@ -158,12 +159,12 @@ pub fn judge_figure(
         materials,
         colours,
     ) {
-        Written::Refused(r) => Written::Refused(r),
-        Written::Size(_) => match judge_all_names(names, objects, materials, groups) {
-            Written::Refused(r) => Written::Refused(r),
-            Written::Size(_) => match judge_all_objects(objects, vertices, corners, groups, faces) {
-                Written::Refused(r) => Written::Refused(r),
-                Written::Size(_) => judge_size(objects, groups, materials, room),
+        Judged::Refused(r) => Written::Refused(r),
+        Judged::Good => match judge_all_names(names, objects, materials, groups) {
+            Judged::Refused(r) => Written::Refused(r),
+            Judged::Good => match judge_all_objects(objects, vertices, corners, groups, faces) {
+                Judged::Refused(r) => Written::Refused(r),
+                Judged::Good => judge_size(objects, groups, materials, room),
             },
         },
     }

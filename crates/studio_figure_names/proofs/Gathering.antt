@@ -12,7 +12,7 @@ use Rattle.shared_name_tree.proofs.Row.{holds-none}
 use Rattle.studio_figure_rules.specs.Judged.{oneOf}
 use Rattle.studio_figure_rows.specs.Rows.{run}
 use Rattle.studio_figure_names.specs.Names.{Blank, Gathered}
-use Rattle.studio_figure_names.proofs.Judging.{one-of-next, Differing, differing-none, differing-on, repeated-here, repeated-none}
+use Rattle.studio_figure_names.proofs.Differing.{one-of-next, Differing, differing-none, differing-on, repeated-here, repeated-none}
 
 module _ (names : List ℕ) (name : ℕ → List ℕ) (n : ℕ) where
   -- the first i differ, and the tree holds them

@@ -1,4 +1,4 @@
 pub mod Asked
-pub mod Judging
+pub mod Differing
 pub mod Gathering
 pub mod Groups

@@ -5,15 +5,14 @@ use mathlib.Core.Bool.{Bool, true, false, cond}
 use mathlib.Core.List.{List, []}
 use lib.Dec.{ltb}
 use lib.ListN.{length}
-use Rattle.shared_words.specs.declared.Written.{Written}
-use Rattle.shared_words.specs.declared.Written.the-variants.{Refused, Size}
 use Rattle.shared_words.specs.declared.Refusal.the-variants.{SameName}
 use Rattle.shared_words.specs.Lists.{firstFault}
-use Rattle.shared_words.specs.Conditions.{Condition, broken}
-use Rattle.studio_write_judge.specs.Judged.{answerOf}
-use Rattle.studio_figure_rules.specs.Given.{over}
+use Rattle.shared_words.specs.Conditions.{Condition}
 use Rattle.shared_name_tree.specs.Names.{nameOf, held, Holds}
 use Rattle.studio_figure_rules.specs.Judged.{noZero, isLabel, oneOf, differ}
+use Rattle.studio_figure_rows.specs.declared.Judged.{Judged}
+use Rattle.studio_figure_rows.specs.declared.Judged.the-variants.{Good, Refused}
+use Rattle.studio_figure_rows.specs.Answered.{answered}
 use Rattle.studio_figure_rows.specs.Rows.{run, nameAt}
 use Rattle.studio_figure_names.specs.declared.Told.{Told}
 
@@ -26,25 +25,14 @@ abbrev pub nameAsked : Bool → List ℕ → List Condition
 nameAsked false name = noZero name
 nameAsked true name = isLabel name
 
--- the first name at fault, or 0
-unfoldable pub nameAnswer : Bool → List ℕ → Written
-nameAnswer text name = answerOf 0 (broken (nameAsked text name))
-
-unfoldable pub namesAnswer : Bool → List (List ℕ) → Written
-namesAnswer text names = answerOf 0 (broken (over (nameAsked text) names))
-
--- 29, or 0
-unfoldable pub differAnswer : List (List ℕ) → Written
-differAnswer names = answerOf 0 (broken (differ [] names))
-
 -- ---- what is asked of names, and of groups against them
 
 -- the answer by the first of n names that is among those before it; where none is, that is no less than n
-abbrev pub repeatedAnswer : ℕ → ℕ → Written
-repeatedAnswer r n = cond (ltb r n) (Refused (SameName r)) (Size 0)
+abbrev pub repeatedAnswer : ℕ → ℕ → Judged
+repeatedAnswer r n = cond (ltb r n) (Refused (SameName r)) Good
 
 abbrev pub Repeated : (ℕ → List ℕ) → ℕ → ℕ → Type 0
-Repeated name n r = repeatedAnswer r n ≡ differAnswer (run name 0 n)
+Repeated name n r = repeatedAnswer r n ≡ answered (differ [] (run name 0 n))
 
 pub record ToldOf (name : ℕ → List ℕ) (n : ℕ) (groups : List (List ℕ)) (told : Told) : Type 0 where
   pub differ : Repeated name n (told .repeated)

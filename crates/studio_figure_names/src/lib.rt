@@ -5,38 +5,41 @@ use shared_name_tree::add;
 use shared_name_tree::find;
 use shared_names::same_name;
 use shared_words::Refusal;
-use shared_words::Written;
+use studio_figure_rows::Judged;
 use studio_figure_rows::number;
 use studio_write_judge::first_zero;
 ghost use mathlib.Core.Path.{_≡_};
 ghost use mathlib.Core.Bool.{true};
 ghost use Prim.Native.Nat.{_+_, _*_, _<_, _≤_};
+ghost use mathlib.Core.List.{[]};
 ghost use lib.ListN.{length};
 ghost use Rattle.shared_words.specs.Lists.{firstFault};
 ghost use Rattle.shared_name_tree.specs.Names.{nameOf, held, Holds};
-ghost use Rattle.studio_figure_rules.specs.Judged.{oneOf};
+ghost use Rattle.studio_figure_rules.specs.Given.{over};
+ghost use Rattle.studio_figure_rules.specs.Judged.{oneOf, differ};
+ghost use Rattle.studio_figure_rows.specs.Answered.{answered};
 ghost use Rattle.studio_figure_rows.specs.Rows.{sumTo, part, nameAt};
-ghost use Rattle.studio_figure_names.specs.Names.{namesIn, nameAnswer, namesAnswer, differAnswer, repeatedAnswer, Repeated, Blank, Gathered, ToldOf};
+ghost use Rattle.studio_figure_names.specs.Names.{namesIn, nameAsked, repeatedAnswer, Repeated, Blank, Gathered, ToldOf};
 
 // So many names are quicker compared with each other than put into a tree.
 const FEW: usize = 32;
 
 // Whether a name has a zero, or with `text` does not fit the label.
-fn judge_name(name: &[u8], text: bool) -> Written
-    ensures { λ r. ⌜ r ≡ nameAnswer text (now (name .entry)) ⌝ }
+fn judge_name(name: &[u8], text: bool) -> Judged
+    ensures { λ r. ⌜ r ≡ answered (nameAsked text (now (name .entry))) ⌝ }
 {
     if text {
         let taken = label_size(name, 0, name.len());
         if taken < name.len() {
-            return Written::Refused(Refusal::Text(taken));
+            return Judged::Refused(Refusal::Text(taken));
         }
-        return Written::Size(0);
+        return Judged::Good;
     }
     let zero = first_zero(name);
     if zero < name.len() {
-        return Written::Refused(Refusal::Name(zero));
+        return Judged::Refused(Refusal::Name(zero));
     }
-    Written::Size(0)
+    Judged::Good
 }
 
 // That of the first n names of a row of things of `width` numbers, where the first name begins at `from`.
@@ -47,25 +50,25 @@ pub fn judge_names(
     width: usize,
     n: usize,
     text: bool,
-) -> Written
+) -> Judged
     requires { ⌜ (0 < width) × (width * n ≤ length (now row)) × (from + sumTo width 0 (now row) n ≤ length (now names)) ⌝ }
-    ensures { λ r. ⌜ r ≡ namesAnswer text (namesIn width (now (row .entry)) (now (names .entry)) from n) ⌝ }
+    ensures { λ r. ⌜ r ≡ answered (over (nameAsked text) (namesIn width (now (row .entry)) (now (names .entry)) from n)) ⌝ }
 {
     let mut at = from;
     let mut i = 0usize;
     while i < n {
         let end = at + number(row, width, 0, i);
         match judge_name(&names[at..end], text) {
-            Written::Refused(r) => {
-                return Written::Refused(r);
+            Judged::Refused(r) => {
+                return Judged::Refused(r);
             }
-            Written::Size(_) => {
+            Judged::Good => {
                 at = end;
                 i += 1;
             }
         }
     }
-    Written::Size(0)
+    Judged::Good
 }
 
 // Whether a name, of `len` bytes at a position, is one of the first n of a row.
@@ -270,19 +273,19 @@ fn tell(
 }
 
 // The answer by the first name that is among those before it.
-fn answer(repeated: usize, n: usize) -> Written
+fn answer(repeated: usize, n: usize) -> Judged
     ensures { λ r. ⌜ r ≡ repeatedAnswer repeated n ⌝ }
 {
     if repeated < n {
-        return Written::Refused(Refusal::SameName(repeated));
+        return Judged::Refused(Refusal::SameName(repeated));
     }
-    Written::Size(0)
+    Judged::Good
 }
 
 // The first of the n names that an earlier one has too. A few are compared with each other.
-pub fn judge_differ(names: &[u8], from: usize, row: &[u32], width: usize, n: usize) -> Written
+pub fn judge_differ(names: &[u8], from: usize, row: &[u32], width: usize, n: usize) -> Judged
     requires { ⌜ (0 < width) × (width * n ≤ length (now row)) × (from + sumTo width 0 (now row) n ≤ length (now names)) ⌝ }
-    ensures { λ r. ⌜ r ≡ differAnswer (namesIn width (now (row .entry)) (now (names .entry)) from n) ⌝ }
+    ensures { λ r. ⌜ r ≡ answered (differ [] (namesIn width (now (row .entry)) (now (names .entry)) from n)) ⌝ }
 {
     if n <= FEW {
         return answer(first_repeated(names, from, row, width, n), n);

@@ -4,16 +4,11 @@ use mathlib.Core.List.{List, [], _∷_}
 use lib.Dec.{leb, ltb}
 use lib.Ieee.{Float}
 use Rattle.shared_words.specs.declared.Refusal.the-variants.{Number, Index, Count}
-use Rattle.shared_words.specs.declared.Written.{Written}
-use Rattle.shared_words.specs.Conditions.{Condition, must, broken}
-use Rattle.studio_write_judge.specs.Judged.{eachMust, wholeRow, finiteFloat, answerOf}
+use Rattle.shared_words.specs.Conditions.{Condition, must}
+use Rattle.studio_write_judge.specs.Judged.{eachMust, wholeRow, finiteFloat}
 use Rattle.studio_figure_rules.specs.Given.{over}
 use Rattle.studio_figure_rules.specs.Judged.{noneOrEach}
 use Rattle.studio_figure_rows.specs.Rows.{entry, sumTo, run, part}
-
--- the first of them that is broken, or 0
-unfoldable pub answered : List Condition → Written
-answered cs = answerOf 0 (broken cs)
 
 -- numbers from one on
 abbrev pub from : ℕ → ℕ → ℕ

@@ -1,6 +1,6 @@
 // The objects of flat rows that fit, judged one after another: their counts, floats and indices; and the size of the file.
 use shared_words::Refusal;
-use shared_words::Written;
+use studio_figure_rows::Judged;
 use studio_figure_rows::number;
 use studio_figure_rows::sum;
 use studio_write_judge::all_below;
@@ -14,8 +14,9 @@ ghost use lib.ListN.{length};
 ghost use Rattle.studio_figure_rules.specs.Given.{over};
 ghost use Rattle.studio_figure_rules.specs.Judged.{noneOrEach};
 ghost use Rattle.shared_words.specs.Lists.{total};
+ghost use Rattle.studio_figure_rows.specs.Answered.{answered};
 ghost use Rattle.studio_figure_rows.specs.Rows.{entry, sumTo, run, Capped};
-ghost use Rattle.studio_figure_objects.specs.Asked.{answered, groupCounts, counts, allFinite, floats, allBelow, groupIndices, indices};
+ghost use Rattle.studio_figure_objects.specs.Asked.{groupCounts, counts, allFinite, floats, allBelow, groupIndices, indices};
 ghost use Rattle.studio_figure_objects.specs.Sizes.{wordsSize, objectBytes};
 
 // The longest file, and more than any sum of lengths of rows.
@@ -26,7 +27,7 @@ const ANY: usize = 0x7FFF_FFFF_FFFF_FFFF;
 // ---- 13
 
 // The first of n groups that has too many faces.
-fn judge_group_counts(groups: &[u32], first: usize, n: usize) -> Written
+fn judge_group_counts(groups: &[u32], first: usize, n: usize) -> Judged
     requires { ⌜ 2 * (first + n) ≤ length (now groups) ⌝ }
     ensures { λ r. ⌜ r ≡ answered (groupCounts (now (groups .entry)) first n) ⌝ }
 {
@@ -34,11 +35,11 @@ fn judge_group_counts(groups: &[u32], first: usize, n: usize) -> Written
     while i < n {
         let faces = number(groups, 2, 1, first + i);
         if 65535 < faces {
-            return Written::Refused(Refusal::Count(faces));
+            return Judged::Refused(Refusal::Count(faces));
         }
         i += 1;
     }
-    Written::Size(0)
+    Judged::Good
 }
 
 // Whether there are no smoothing words, or one a face.
@@ -49,27 +50,27 @@ fn none_or_each(words: usize, faces: usize) -> bool
 }
 
 // The counts of object i, whose first group is of number `group`.
-fn judge_object_counts(objects: &[u32], groups: &[u32], i: usize, group: usize) -> Written
+fn judge_object_counts(objects: &[u32], groups: &[u32], i: usize, group: usize) -> Judged
     requires { ⌜ (5 * i + 5 ≤ length (now objects)) × (group ≡ sumTo 5 4 (now objects) i) × (2 * (group + entry 5 4 (now objects) i) ≤ length (now groups)) ⌝ }
     ensures { λ r. ⌜ r ≡ answered (counts (now (objects .entry)) (now (groups .entry)) i) ⌝ }
 {
     let floats = number(objects, 5, 1, i);
     if !whole_row(floats) {
-        return Written::Refused(Refusal::Count(floats));
+        return Judged::Refused(Refusal::Count(floats));
     }
     let corners = number(objects, 5, 2, i);
     if !whole_row(corners) {
-        return Written::Refused(Refusal::Count(corners));
+        return Judged::Refused(Refusal::Count(corners));
     }
     let words = number(objects, 5, 3, i);
     if !none_or_each(words, corners / 3) {
-        return Written::Refused(Refusal::Count(words));
+        return Judged::Refused(Refusal::Count(words));
     }
     judge_group_counts(groups, group, number(objects, 5, 4, i))
 }
 
 // Those of n objects.
-pub fn judge_counts(objects: &[u32], groups: &[u32], n: usize) -> Written
+pub fn judge_counts(objects: &[u32], groups: &[u32], n: usize) -> Judged
     requires { ⌜ (5 * n ≤ length (now objects)) × (2 * sumTo 5 4 (now objects) n ≤ length (now groups)) ⌝ }
     ensures { λ r. ⌜ r ≡ answered (over (counts (now (objects .entry)) (now (groups .entry))) (run (λ i. i) 0 n)) ⌝ }
 {
@@ -77,32 +78,32 @@ pub fn judge_counts(objects: &[u32], groups: &[u32], n: usize) -> Written
     let mut i = 0usize;
     while i < n {
         match judge_object_counts(objects, groups, i, group) {
-            Written::Refused(r) => {
-                return Written::Refused(r);
+            Judged::Refused(r) => {
+                return Judged::Refused(r);
             }
-            Written::Size(_) => {
+            Judged::Good => {
                 group += number(objects, 5, 4, i);
                 i += 1;
             }
         }
     }
-    Written::Size(0)
+    Judged::Good
 }
 
 // ---- 11
 
 // The first float that is not finite.
-fn judge_finite(vertices: &[f32]) -> Written
+fn judge_finite(vertices: &[f32]) -> Judged
     ensures { λ r. ⌜ r ≡ answered (allFinite (now (vertices .entry))) ⌝ }
 {
     if !all_finite(vertices) {
-        return Written::Refused(Refusal::Number(first_not_finite(vertices)));
+        return Judged::Refused(Refusal::Number(first_not_finite(vertices)));
     }
-    Written::Size(0)
+    Judged::Good
 }
 
 // That of n objects, each by itself.
-pub fn judge_floats(objects: &[u32], vertices: &[f32], n: usize) -> Written
+pub fn judge_floats(objects: &[u32], vertices: &[f32], n: usize) -> Judged
     requires { ⌜ (5 * n ≤ length (now objects)) × (sumTo 5 1 (now objects) n ≤ length (now vertices)) ⌝ }
     ensures { λ r. ⌜ r ≡ answered (over (floats (now (objects .entry)) (now (vertices .entry))) (run (λ i. i) 0 n)) ⌝ }
 {
@@ -111,34 +112,34 @@ pub fn judge_floats(objects: &[u32], vertices: &[f32], n: usize) -> Written
     while i < n {
         let end = at + number(objects, 5, 1, i);
         match judge_finite(&vertices[at..end]) {
-            Written::Refused(r) => {
-                return Written::Refused(r);
+            Judged::Refused(r) => {
+                return Judged::Refused(r);
             }
-            Written::Size(_) => {
+            Judged::Good => {
                 at = end;
                 i += 1;
             }
         }
     }
-    Written::Size(0)
+    Judged::Good
 }
 
 // ---- 12
 
 // The first number that is not below n. (Where n has 16 bits the row is first looked through by vector code.)
-fn judge_below(n: usize, row: &[u16]) -> Written
+fn judge_below(n: usize, row: &[u16]) -> Judged
     ensures { λ r. ⌜ r ≡ answered (allBelow n (now (row .entry))) ⌝ }
 {
     if n < 65536 {
         if all_below(n as u16, row) {
-            return Written::Size(0);
+            return Judged::Good;
         }
     }
     let at = first_not_below(n, row);
     if at < row.len() {
-        return Written::Refused(Refusal::Index(at));
+        return Judged::Refused(Refusal::Index(at));
     }
-    Written::Size(0)
+    Judged::Good
 }
 
 // That of the face numbers of n groups, of which there are f faces; those of the first begin at `start`.
@@ -149,7 +150,7 @@ fn judge_group_indices(
     first: usize,
     n: usize,
     start: usize,
-) -> Written
+) -> Judged
     requires { ⌜ (2 * (first + n) ≤ length (now groups)) × (start ≡ sumTo 2 1 (now groups) first) ×
         (sumTo 2 1 (now groups) (first + n) ≤ length (now faces)) ⌝ }
     ensures { λ r. ⌜ r ≡ answered (groupIndices (now (groups .entry)) (now (faces .entry)) f first n) ⌝ }
@@ -159,16 +160,16 @@ fn judge_group_indices(
     while i < n {
         let end = at + number(groups, 2, 1, first + i);
         match judge_below(f, &faces[at..end]) {
-            Written::Refused(r) => {
-                return Written::Refused(r);
+            Judged::Refused(r) => {
+                return Judged::Refused(r);
             }
-            Written::Size(_) => {
+            Judged::Good => {
                 at = end;
                 i += 1;
             }
         }
     }
-    Written::Size(0)
+    Judged::Good
 }
 
 // Those of object i: its corners, whose first stands at `at`, then the face numbers of its groups.
@@ -181,7 +182,7 @@ fn judge_object_indices(
     at: usize,
     group: usize,
     face: usize,
-) -> Written
+) -> Judged
     requires { ⌜ (5 * i + 5 ≤ length (now objects)) × (at ≡ sumTo 5 2 (now objects) i) × (at + entry 5 2 (now objects) i ≤ length (now corners)) ⌝ }
     requires { ⌜ (group ≡ sumTo 5 4 (now objects) i) × (2 * (group + entry 5 4 (now objects) i) ≤ length (now groups)) ⌝ }
     requires { ⌜ (face ≡ sumTo 2 1 (now groups) group) × (sumTo 2 1 (now groups) (group + entry 5 4 (now objects) i) ≤ length (now faces)) ⌝ }
@@ -190,8 +191,8 @@ fn judge_object_indices(
     let count = number(objects, 5, 2, i);
     let end = at + count;
     match judge_below(number(objects, 5, 1, i) / 3, &corners[at..end]) {
-        Written::Refused(r) => Written::Refused(r),
-        Written::Size(_) => judge_group_indices(
+        Judged::Refused(r) => Judged::Refused(r),
+        Judged::Good => judge_group_indices(
             groups,
             faces,
             count / 3,
@@ -209,7 +210,7 @@ pub fn judge_indices(
     groups: &[u32],
     faces: &[u16],
     n: usize,
-) -> Written
+) -> Judged
     requires { ⌜ (5 * n ≤ length (now objects)) × (sumTo 5 2 (now objects) n ≤ length (now corners)) × (2 * sumTo 5 4 (now objects) n ≤ length (now groups)) ⌝ }
     requires { ⌜ sumTo 2 1 (now groups) (sumTo 5 4 (now objects) n) ≤ length (now faces) ⌝ }
     ensures { λ r. ⌜ r ≡ answered (over (indices (now (objects .entry)) (now (corners .entry)) (now (groups .entry)) (now (faces .entry)))
@@ -221,10 +222,10 @@ pub fn judge_indices(
     let mut i = 0usize;
     while i < n {
         match judge_object_indices(objects, corners, groups, faces, i, at, group, face) {
-            Written::Refused(r) => {
-                return Written::Refused(r);
+            Judged::Refused(r) => {
+                return Judged::Refused(r);
             }
-            Written::Size(_) => {
+            Judged::Good => {
                 at += number(objects, 5, 2, i);
                 let next = group + number(objects, 5, 4, i);
                 face += sum(groups, 2, 1, group, next, ANY);
@@ -233,7 +234,7 @@ pub fn judge_indices(
             }
         }
     }
-    Written::Size(0)
+    Judged::Good
 }
 
 // ---- 1

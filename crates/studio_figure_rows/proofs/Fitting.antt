@@ -9,14 +9,13 @@ use lib.Dec.{eqb}
 use lib.ListN.{length, take, drop}
 use Rattle.shared_words.specs.declared.Refusal.{Refusal}
 use Rattle.shared_words.specs.declared.Refusal.the-variants.{Count}
-use Rattle.shared_words.specs.declared.Written.the-variants.{Refused, Size}
 use Rattle.shared_words.specs.Conditions.{Condition, must, broken}
 use Rattle.shared_words.proofs.Conditions.{Met, unbroken}
-use Rattle.studio_write_judge.specs.Judged.{answerOf}
 use Rattle.studio_write_judge.proofs.Judged.{broken-at}
 use Rattle.studio_figure_rules.specs.Described.{Flat, ObjectCounts, GroupCounts, objectNameBytes, materialNameBytes, groupNameBytes, longMust, fitConditions}
+use Rattle.studio_figure_rows.specs.declared.Judged.the-variants.{Good, Refused}
+use Rattle.studio_figure_rows.specs.Answered.{judgedBy, answered}
 use Rattle.studio_figure_rows.specs.Rows.{sumTo, objectCount, groupCount, namesLength}
-use Rattle.studio_figure_rows.specs.Same.{fitAnswer}
 use Rattle.studio_figure_rows.proofs.Same.{object-total, group-total, object-names, material-names, group-names}
 
 module _ (r : Flat) where
@@ -46,13 +45,13 @@ module _ (r : Flat) where
         group-total r (λ (c : GroupCounts). c .faces) 1 (λ i. refl),
       )
 
-  pub misfit : (k : ℕ) {b : Bool} {x : Refusal} {rest : List Condition} → Met (take k asked) → drop k asked ≡ must b x ∷ rest → b ≡ false → Refused x ≡ fitAnswer r
-  unfolding fitAnswer
-  misfit k m e f = sym (ap (answerOf 0) (ap broken same-asked ∙ broken-at k asked m e f))
+  pub misfit : (k : ℕ) {b : Bool} {x : Refusal} {rest : List Condition} → Met (take k asked) → drop k asked ≡ must b x ∷ rest → b ≡ false → Refused x ≡ answered (fitConditions r)
+  unfolding answered
+  misfit k m e f = sym (ap judgedBy (ap broken same-asked ∙ broken-at k asked m e f))
 
   pub all-fit : Met asked → broken (fitConditions r) ≡ none
   all-fit m = ap broken same-asked ∙ unbroken asked m
 
-  pub fitting : Met asked → Size 0 ≡ fitAnswer r
-  unfolding fitAnswer
-  fitting m = sym (ap (answerOf 0) (all-fit m))
+  pub fitting : Met asked → Good ≡ answered (fitConditions r)
+  unfolding answered
+  fitting m = sym (ap judgedBy (all-fit m))

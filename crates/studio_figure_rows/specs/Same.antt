@@ -4,8 +4,6 @@ use Prim.Native.Nat.{_+_, _*_, _%_}
 use mathlib.Core.Option.{none}
 use lib.ListN.{length}
 use Rattle.shared_words.specs.Conditions.{broken}
-use Rattle.shared_words.specs.declared.Written.{Written}
-use Rattle.studio_write_judge.specs.Judged.{answerOf}
 use Rattle.studio_figure_rules.specs.Described.{Flat, fitConditions, described}
 use Rattle.studio_figure_rows.specs.Rows.{sumTo, objectCount, groupCount, groupsFrom, figureOf}
 
@@ -19,10 +17,6 @@ pub record Fits (r : Flat) : Type 0 where
   pub smoothing : length (r .smoothing) ≡ sumTo 5 3 (r .objects) (objectCount r)
   pub faces : length (r .faces) ≡ sumTo 2 1 (r .groups) (groupCount r)
   pub colours : length (r .colours) ≡ 9 * length (r .materials)
-
--- what is answered of rows alone: the first that does not fit, or 0
-unfoldable pub fitAnswer : Flat → Written
-fitAnswer r = answerOf 0 (broken (fitConditions r))
 
 pub record ByPosition (r : Flat) : Type 0 where
   pub fits : broken (fitConditions r) ≡ none → Fits r

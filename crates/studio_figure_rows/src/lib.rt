@@ -1,12 +1,18 @@
 // Flat rows: what their descriptions add up to, and whether they fit it.
 use shared_words::Refusal;
-use shared_words::Written;
 ghost use mathlib.Core.Path.{_≡_};
 ghost use Prim.Native.Nat.{_+_, _*_, _/_, _<_, _≤_};
 ghost use lib.Dec.{eqb};
 ghost use lib.ListN.{length};
+ghost use Rattle.studio_figure_rows.specs.Answered.{answered};
 ghost use Rattle.studio_figure_rows.specs.Rows.{flat, entry, sumTo, namesLength, Capped};
-ghost use Rattle.studio_figure_rows.specs.Same.{fitAnswer};
+ghost use Rattle.studio_figure_rules.specs.Described.{fitConditions};
+
+// What a test of rows tells: that nothing is wrong with them, or the first thing that is.
+pub enum Judged {
+    Good,
+    Refused(Refusal),
+}
 
 // Number `column` of thing i, where each has `width` numbers.
 pub fn number(row: &[u32], width: usize, column: usize, i: usize) -> usize
@@ -89,34 +95,34 @@ pub fn fits(
     faces: &[u16],
     materials: &[u32],
     colours: &[u8],
-) -> Written
-    ensures { λ r. ⌜ r ≡ fitAnswer (flat (now (names .entry)) (now (objects .entry)) (now (vertices .entry)) (now (corners .entry)) (now (smoothing .entry))
-        (now (groups .entry)) (now (faces .entry)) (now (materials .entry)) (now (colours .entry))) ⌝ }
+) -> Judged
+    ensures { λ r. ⌜ r ≡ answered (fitConditions (flat (now (names .entry)) (now (objects .entry)) (now (vertices .entry)) (now (corners .entry)) (now (smoothing .entry))
+        (now (groups .entry)) (now (faces .entry)) (now (materials .entry)) (now (colours .entry)))) ⌝ }
 {
     if objects.len() % 5 != 0 {
-        return Written::Refused(Refusal::Count(objects.len()));
+        return Judged::Refused(Refusal::Count(objects.len()));
     }
     if !groups_add_up(objects, groups) {
-        return Written::Refused(Refusal::Count(groups.len()));
+        return Judged::Refused(Refusal::Count(groups.len()));
     }
     if !names_add_up(names.len(), objects, materials, groups) {
-        return Written::Refused(Refusal::Count(names.len()));
+        return Judged::Refused(Refusal::Count(names.len()));
     }
     let n = objects.len() / 5;
     if !adds_up(objects, 5, 1, n, vertices.len()) {
-        return Written::Refused(Refusal::Count(vertices.len()));
+        return Judged::Refused(Refusal::Count(vertices.len()));
     }
     if !adds_up(objects, 5, 2, n, corners.len()) {
-        return Written::Refused(Refusal::Count(corners.len()));
+        return Judged::Refused(Refusal::Count(corners.len()));
     }
     if !adds_up(objects, 5, 3, n, smoothing.len()) {
-        return Written::Refused(Refusal::Count(smoothing.len()));
+        return Judged::Refused(Refusal::Count(smoothing.len()));
     }
     if !adds_up(groups, 2, 1, groups.len() / 2, faces.len()) {
-        return Written::Refused(Refusal::Count(faces.len()));
+        return Judged::Refused(Refusal::Count(faces.len()));
     }
     if !colours_add_up(colours.len(), materials.len()) {
-        return Written::Refused(Refusal::Count(colours.len()));
+        return Judged::Refused(Refusal::Count(colours.len()));
     }
-    Written::Size(0)
+    Judged::Good
 }

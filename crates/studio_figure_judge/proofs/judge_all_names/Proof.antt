@@ -3,7 +3,7 @@ use mathlib.Core.Path.{sym, _∙_}
 use mathlib.Core.Bool.{true, false}
 use mathlib.Core.List.{List, _++_}
 use Rattle.shared_words.specs.Conditions.{Condition}
-use Rattle.studio_figure_objects.proofs.Answers.{front-refused, front-passed}
+use Rattle.studio_figure_rows.proofs.Answers.{front-refused, front-passed}
 use Rattle.studio_figure_judge.specs.Judged.{textAsked, sameAsked, materialAsked}
 use borrow.Author.Needs.{needs}
 use Rattle.studio_figure_judge.proofs.judge_all_names.Statement.{statement}
@@ -60,22 +60,22 @@ returns-2 : tie.Need-returns-2
 returns-2 c =
     let s = c .before .before .before .before .before .before .before .before .before .before .before in
     front-refused (texts s) (sames s ++ last s) _ (sym (c .before .r2 .given .1) ∙ c .before .before .before .judge-text2 .ensures) ∙
-    front-passed (zeros s) (texts s ++ (sames s ++ last s)) _ (sym (c .before .before .before .before .enum-told .given .1) ∙ c .before .before .before .before .before .before .judge-text .ensures)
+    front-passed (zeros s) (texts s ++ (sames s ++ last s)) (sym (c .before .before .before .before .enum-told .given .1) ∙ c .before .before .before .before .before .before .judge-text .ensures)
 
 returns-3 : tie.Need-returns-3
 returns-3 c =
     let s = c .before .before .before .before .before .before .before .before .before .before .before .before .before .before in
     front-refused (sames s) (last s) _ (sym (c .before .r3 .given .1) ∙ c .before .before .before .judge-same .ensures) ∙
-    front-passed (texts s) (sames s ++ last s) _ (sym (c .before .before .before .before .enum-told2 .given .1) ∙ c .before .before .before .before .before .before .judge-text2 .ensures) ∙
-    front-passed (zeros s) (texts s ++ (sames s ++ last s)) _ (sym (c .before .before .before .before .before .before .before .enum-told .given .1) ∙ c .before .before .before .before .before .before .before .before .before .judge-text .ensures)
+    front-passed (texts s) (sames s ++ last s) (sym (c .before .before .before .before .enum-told2 .given .1) ∙ c .before .before .before .before .before .before .judge-text2 .ensures) ∙
+    front-passed (zeros s) (texts s ++ (sames s ++ last s)) (sym (c .before .before .before .before .before .before .before .enum-told .given .1) ∙ c .before .before .before .before .before .before .before .before .before .judge-text .ensures)
 
 returns-4 : tie.Need-returns-4
 returns-4 c =
     let s = c .before .before .before .before .before .before .before .before .before .before .before .before .before .before in
     c .judge-materials .ensures ∙
-    front-passed (sames s) (last s) _ (sym (c .before .enum-told3 .given .1) ∙ c .before .before .before .judge-same .ensures) ∙
-    front-passed (texts s) (sames s ++ last s) _ (sym (c .before .before .before .before .enum-told2 .given .1) ∙ c .before .before .before .before .before .before .judge-text2 .ensures) ∙
-    front-passed (zeros s) (texts s ++ (sames s ++ last s)) _ (sym (c .before .before .before .before .before .before .before .enum-told .given .1) ∙ c .before .before .before .before .before .before .before .before .before .judge-text .ensures)
+    front-passed (sames s) (last s) (sym (c .before .enum-told3 .given .1) ∙ c .before .before .before .judge-same .ensures) ∙
+    front-passed (texts s) (sames s ++ last s) (sym (c .before .before .before .before .enum-told2 .given .1) ∙ c .before .before .before .before .before .before .judge-text2 .ensures) ∙
+    front-passed (zeros s) (texts s ++ (sames s ++ last s)) (sym (c .before .before .before .before .before .before .before .enum-told .given .1) ∙ c .before .before .before .before .before .before .before .before .before .judge-text .ensures)
 
 pub judge-all-names-spec : {M : Type 1} → statement M
 judge-all-names-spec =

@@ -3,8 +3,8 @@ use mathlib.Core.Path.{sym, _∙_}
 use mathlib.Core.List.{List, _++_}
 use Rattle.shared_words.specs.Conditions.{Condition}
 use Rattle.studio_figure_rules.specs.Given.{over}
+use Rattle.studio_figure_rows.proofs.Answers.{front-refused, front-passed}
 use Rattle.studio_figure_objects.specs.Asked.{counts, floats, indices}
-use Rattle.studio_figure_objects.proofs.Answers.{front-refused, front-passed}
 use Rattle.studio_figure_judge.specs.Judged.{numbers}
 use borrow.Author.Needs.{needs}
 use Rattle.studio_figure_judge.proofs.judge_all_objects.Statement.{statement}
@@ -49,14 +49,14 @@ returns-2 : tie.Need-returns-2
 returns-2 c =
     let s = c .before .before .before .before .before .before .before .before .before .before .before .before in
     front-refused (second s) (third s) _ (sym (c .before .r2 .given .1) ∙ c .before .before .before .judge-floats .ensures) ∙
-    front-passed (first s) (second s ++ third s) _ (sym (c .before .before .before .before .enum-told .given .1) ∙ c .before .before .before .before .before .before .judge-counts .ensures)
+    front-passed (first s) (second s ++ third s) (sym (c .before .before .before .before .enum-told .given .1) ∙ c .before .before .before .before .before .before .judge-counts .ensures)
 
 returns-3 : tie.Need-returns-3
 returns-3 c =
     let s = c .before .before .before .before .before .before .before .before .before .before .before .before in
     c .judge-indices .ensures ∙
-    front-passed (second s) (third s) _ (sym (c .before .enum-told2 .given .1) ∙ c .before .before .before .judge-floats .ensures) ∙
-    front-passed (first s) (second s ++ third s) _ (sym (c .before .before .before .before .enum-told .given .1) ∙ c .before .before .before .before .before .before .judge-counts .ensures)
+    front-passed (second s) (third s) (sym (c .before .enum-told2 .given .1) ∙ c .before .before .before .judge-floats .ensures) ∙
+    front-passed (first s) (second s ++ third s) (sym (c .before .before .before .before .enum-told .given .1) ∙ c .before .before .before .before .before .before .judge-counts .ensures)
 
 pub judge-all-objects-spec : {M : Type 1} → statement M
 judge-all-objects-spec =

@@ -19,7 +19,7 @@ rows s =
 
 -- the rows fit, and as many groups as the objects have are there
 fitting : (c : tie.After-enum-told) → Fits (rows (c .before .before .before .before .before .before .before .before .before .before .before .before))
-fitting c = fits-told (rows (c .before .before .before .before .before .before .before .before .before .before .before .before)) _ (sym (c .enum-told .given .1) ∙ c .before .before .fits2 .ensures)
+fitting c = fits-told (rows (c .before .before .before .before .before .before .before .before .before .before .before .before)) (sym (c .enum-told .given .1) ∙ c .before .before .fits2 .ensures)
 
 faces-inside : (r : Flat) → Fits r → sumTo 2 1 (r .groups) (sumTo 5 4 (r .objects) (length (r .objects) / 5)) ≡ length (r .faces)
 faces-inside r f =
@@ -78,7 +78,7 @@ returns-2 c =
     let c6 = c .before .before .before .before .before .before in
     let c13 = c .before .before .before .before .before .before .before .before .before .before .before .before .before in
     let x = c .before .before .before .before .before .before .before .before .before .before .before .before .before .before .before .before in
-    names-refused (rows x) (x .args .room) (bits c13) _ (sym (c4 .enum-told .given .1) ∙ c6 .fits2 .ensures) _ (sym (c .before .r2 .given .1) ∙ c3 .judge-all-names .ensures)
+    names-refused (rows x) (x .args .room) (bits c13) (sym (c4 .enum-told .given .1) ∙ c6 .fits2 .ensures) _ (sym (c .before .r2 .given .1) ∙ c3 .judge-all-names .ensures)
 
 returns-3 : tie.Need-returns-3
 returns-3 c =
@@ -89,7 +89,7 @@ returns-3 c =
     let c9 = c .before .before .before .before .before .before .before .before .before in
     let c16 = c .before .before .before .before .before .before .before .before .before .before .before .before .before .before .before .before in
     let x = c .before .before .before .before .before .before .before .before .before .before .before .before .before .before .before .before .before .before .before in
-    objects-refused (rows x) (x .args .room) (bits c16) _ (sym (c7 .enum-told .given .1) ∙ c9 .fits2 .ensures) _ (sym (c4 .enum-told2 .given .1) ∙ c6 .judge-all-names .ensures) _ (sym (c .before .r3 .given .1) ∙ c3 .judge-all-objects .ensures)
+    objects-refused (rows x) (x .args .room) (bits c16) (sym (c7 .enum-told .given .1) ∙ c9 .fits2 .ensures) (sym (c4 .enum-told2 .given .1) ∙ c6 .judge-all-names .ensures) _ (sym (c .before .r3 .given .1) ∙ c3 .judge-all-objects .ensures)
 
 returns-4 : tie.Need-returns-4
 returns-4 c =
@@ -101,7 +101,7 @@ returns-4 c =
     let c16 = c .before .before .before .before .before .before .before .before .before .before .before .before .before .before .before .before in
     let x = c .before .before .before .before .before .before .before .before .before .before .before .before .before .before .before .before .before .before .before in
     c .judge-size .ensures ∙
-    sized (rows x) (x .args .room) (bits c16) _ (sym (c7 .enum-told .given .1) ∙ c9 .fits2 .ensures) _ (sym (c4 .enum-told2 .given .1) ∙ c6 .judge-all-names .ensures) _ (sym (c .before .enum-told3 .given .1) ∙ c3 .judge-all-objects .ensures)
+    sized (rows x) (x .args .room) (bits c16) (sym (c7 .enum-told .given .1) ∙ c9 .fits2 .ensures) (sym (c4 .enum-told2 .given .1) ∙ c6 .judge-all-names .ensures) (sym (c .before .enum-told3 .given .1) ∙ c3 .judge-all-objects .ensures)
 
 pub judge-figure-spec : {M : Type 1} → statement M
 judge-figure-spec =

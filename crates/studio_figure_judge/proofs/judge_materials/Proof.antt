@@ -8,9 +8,9 @@ use Rattle.shared_words.specs.declared.Refusal.the-variants.{NoMaterial}
 use Rattle.shared_words.specs.Lists.{firstFault}
 use Rattle.studio_figure_rules.specs.Judged.{oneOf}
 use Rattle.studio_figure_rows.specs.Rows.{nameAt}
+use Rattle.studio_figure_rows.proofs.Answers.{none-broken, row-found, row-through}
 use Rattle.studio_figure_rows.proofs.Runs.{capped-under, run-length}
 use Rattle.studio_figure_names.specs.Names.{namesIn}
-use Rattle.studio_figure_objects.proofs.Answers.{none-broken, row-found, row-through}
 use Rattle.studio_figure_judge.specs.Judged.{materialsAt, groupsAt, materialNames, groupNames}
 use borrow.Author.Needs.{needs}
 use Rattle.studio_figure_judge.proofs.judge_materials.Statement.{statement}

@@ -5,12 +5,11 @@ use native.Mathlib.Omega.{arith}
 use mathlib.Core.List.{[]}
 use lib.ListN.{length}
 use Rattle.studio_figure_rules.specs.Judged.{differ}
+use Rattle.studio_figure_rows.specs.Answered.{answered}
+use Rattle.studio_figure_rows.proofs.Answers.{front-refused, front-passed}
 use Rattle.studio_figure_rows.proofs.Runs.{capped-under}
 use Rattle.studio_figure_names.specs.Names.{namesIn}
-use Rattle.studio_figure_objects.specs.Asked.{answered}
-use Rattle.studio_figure_objects.proofs.Answers.{front-refused, front-passed}
 use Rattle.studio_figure_judge.specs.Judged.{objectNames, materialsAt, materialNames}
-use Rattle.studio_figure_judge.proofs.Whole.{same-answer}
 use borrow.Author.Needs.{needs}
 use Rattle.studio_figure_judge.proofs.judge_same.Statement.{statement}
 use Rattle.studio_figure_judge.proofs.judge_same.Tie as tie
@@ -41,7 +40,7 @@ returns c =
     let c3 = c .before .before .before in
     let x = c .before .before .before .before .before .before .before in
     let a = x .args in
-    front-refused (differ [] (objectNames (a .names .now) (a .objects .now))) (differ [] (materialNames (a .names .now) (a .objects .now) (a .materials .now))) _ (sym (c .before .r .given .1) ∙ c3 .judge-differ .ensures ∙ same-answer (objectNames (a .names .now) (a .objects .now)))
+    front-refused (differ [] (objectNames (a .names .now) (a .objects .now))) (differ [] (materialNames (a .names .now) (a .objects .now) (a .materials .now))) _ (sym (c .before .r .given .1) ∙ c3 .judge-differ .ensures)
 
 returns-2 : tie.Need-returns-2
 returns-2 c =
@@ -50,8 +49,8 @@ returns-2 c =
     let x = c .before .before .before .before .before .before .before .before in
     let a = x .args in
     let e = ap (λ (k : ℕ). answered (differ [] (namesIn 1 (a .materials .now) (a .names .now) k (length (a .materials .now))))) (begins (c .before)) in
-    c .judge-differ2 .ensures ∙ same-answer _ ∙ e ∙
-    front-passed (differ [] (objectNames (a .names .now) (a .objects .now))) (differ [] (materialNames (a .names .now) (a .objects .now) (a .materials .now))) _ (sym (c2 .enum-told .given .1) ∙ c4 .judge-differ .ensures ∙ same-answer (objectNames (a .names .now) (a .objects .now)))
+    c .judge-differ2 .ensures ∙ e ∙
+    front-passed (differ [] (objectNames (a .names .now) (a .objects .now))) (differ [] (materialNames (a .names .now) (a .objects .now) (a .materials .now))) (sym (c2 .enum-told .given .1) ∙ c4 .judge-differ .ensures)
 
 pub judge-same-spec : {M : Type 1} → statement M
 judge-same-spec =

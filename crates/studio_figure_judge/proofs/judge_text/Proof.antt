@@ -4,12 +4,11 @@ use Prim.Native.Nat.{ℕ}
 use native.Mathlib.Omega.{arith}
 use lib.ListN.{length}
 use Rattle.studio_figure_rules.specs.Given.{over}
+use Rattle.studio_figure_rows.specs.Answered.{answered}
+use Rattle.studio_figure_rows.proofs.Answers.{front-refused, front-passed}
 use Rattle.studio_figure_rows.proofs.Runs.{capped-under}
 use Rattle.studio_figure_names.specs.Names.{nameAsked, namesIn}
-use Rattle.studio_figure_objects.specs.Asked.{answered}
-use Rattle.studio_figure_objects.proofs.Answers.{front-refused, front-passed}
 use Rattle.studio_figure_judge.specs.Judged.{objectNames, materialsAt, materialNames}
-use Rattle.studio_figure_judge.proofs.Whole.{text-answer}
 use borrow.Author.Needs.{needs}
 use Rattle.studio_figure_judge.proofs.judge_text.Statement.{statement}
 use Rattle.studio_figure_judge.proofs.judge_text.Tie as tie
@@ -41,7 +40,7 @@ returns c =
     let x = c .before .before .before .before .before .before .before in
     let a = x .args in
     front-refused (over (nameAsked (a .text)) (objectNames (a .names .now) (a .objects .now))) (over (nameAsked (a .text)) (materialNames (a .names .now) (a .objects .now) (a .materials .now))) _
-    (sym (c .before .r .given .1) ∙ c3 .judge-names .ensures ∙ text-answer (a .text) (objectNames (a .names .now) (a .objects .now)))
+    (sym (c .before .r .given .1) ∙ c3 .judge-names .ensures)
 
 returns-2 : tie.Need-returns-2
 returns-2 c =
@@ -50,9 +49,9 @@ returns-2 c =
     let x = c .before .before .before .before .before .before .before .before in
     let a = x .args in
     let e = ap (λ (k : ℕ). answered (over (nameAsked (a .text)) (namesIn 1 (a .materials .now) (a .names .now) k (length (a .materials .now))))) (begins (c .before)) in
-    c .judge-names2 .ensures ∙ text-answer (a .text) _ ∙ e ∙
-    front-passed (over (nameAsked (a .text)) (objectNames (a .names .now) (a .objects .now))) (over (nameAsked (a .text)) (materialNames (a .names .now) (a .objects .now) (a .materials .now))) _
-    (sym (c2 .enum-told .given .1) ∙ c4 .judge-names .ensures ∙ text-answer (a .text) (objectNames (a .names .now) (a .objects .now)))
+    c .judge-names2 .ensures ∙ e ∙
+    front-passed (over (nameAsked (a .text)) (objectNames (a .names .now) (a .objects .now))) (over (nameAsked (a .text)) (materialNames (a .names .now) (a .objects .now) (a .materials .now)))
+    (sym (c2 .enum-told .given .1) ∙ c4 .judge-names .ensures)
 
 pub judge-text-spec : {M : Type 1} → statement M
 judge-text-spec =

@@ -2,7 +2,7 @@
 use Prim.Native.Nat.{_-_}
 use native.Mathlib.Omega.{arith}
 use Rattle.studio_figure_rows.proofs.Runs.{stride, sum-up, sum-inside}
-use Rattle.studio_figure_names.proofs.Judging.{Comparing, comparing-none, comparing-out, comparing-on, comparing-all}
+use Rattle.studio_figure_names.proofs.Differing.{Comparing, comparing-none, comparing-out, comparing-on, comparing-all}
 use Rattle.studio_figure_names.proofs.first_repeated.Statement.{statement}
 use Rattle.studio_figure_names.proofs.first_repeated.Tie as tie
 

@@ -3,7 +3,7 @@ use Prim.Native.Nat.{_-_}
 use native.Mathlib.Omega.{arith}
 use Rattle.studio_figure_rows.specs.Rows.{part}
 use Rattle.studio_figure_rows.proofs.Runs.{stride, sum-inside}
-use Rattle.studio_figure_names.proofs.Judging.{Looking, looking-none, looking-here, looking-on, looking-all}
+use Rattle.studio_figure_names.proofs.Differing.{Looking, looking-none, looking-here, looking-on, looking-all}
 use Rattle.studio_figure_names.proofs.is_one_of.Statement.{statement}
 use Rattle.studio_figure_names.proofs.is_one_of.Tie as tie
 

@@ -1,17 +1,19 @@
 -- `studio_figure_names::judge_names` meets its contract: what is left to judge is judged as all of it.
 use mathlib.Core.Path.{_≡_, sym, ap, _∙_}
-use Prim.Native.Nat.{_+_, _-_, _≤_}
+use Prim.Native.Nat.{ℕ, _+_, _-_, _≤_}
 use native.Mathlib.Omega.{arith}
+use mathlib.Core.List.{List}
+use Rattle.studio_figure_rows.specs.Answered.{answered}
 use Rattle.studio_figure_rows.specs.Rows.{sumTo, nameAt}
+use Rattle.studio_figure_rows.proofs.Answers.{Left, left-all, left-on, left-out, left-none}
 use Rattle.studio_figure_rows.proofs.Runs.{stride, sum-next, sum-inside, part-is}
-use Rattle.studio_figure_names.specs.Names.{nameAsked, nameAnswer}
-use Rattle.studio_figure_names.proofs.Judging.{left-all, Judged, judged-on, judged-out, judged-all}
+use Rattle.studio_figure_names.specs.Names.{nameAsked}
 use borrow.Author.Needs.{needs}
 use Rattle.studio_figure_names.proofs.judge_names.Statement.{statement}
 use Rattle.studio_figure_names.proofs.judge_names.Tie as tie
 
 abbrev Inv-loop : tie.InvT-loop
-Inv-loop names from row width n text at₀ i₀ at i = (i ≤ n) × (at ≡ from + sumTo width 0 row i) × Judged text (nameAt width row names from) n i
+Inv-loop names from row width n text at₀ i₀ at i = (i ≤ n) × (at ≡ from + sumTo width 0 row i) × Left (nameAsked text) (nameAt width row names from) n i
 
 abbrev μ-loop : tie.MeasureT-loop
 μ-loop names from row width n text at₀ i₀ at i = n - i
@@ -52,8 +54,8 @@ returns : tie.Need-returns Inv-loop μ-loop
 returns c =
     let l = c .before .before .before .before .before .before .before .loop in
     let a = c .before .before .before .before .before .before .before .before .before .before .args in
-    let e = ap (nameAnswer (a .text)) (part-is (a .names .now) (l .at) (c .before .before .before .before .before .number .result) _ _ (l .inv .1) (c .before .before .before .before .before .number .ensures .0)) in
-    judged-out (a .text) (nameAt (a .width) (a .row .now) (a .names .now) (a .from)) (a .n) (l .i) (omega arith) (l .inv .2) _ (sym (c .before .r .given .1) ∙ c .before .before .before .judge-name .ensures ∙ e)
+    let e = ap (λ (name : List ℕ). answered (nameAsked (a .text) name)) (part-is (a .names .now) (l .at) (c .before .before .before .before .before .number .result) _ _ (l .inv .1) (c .before .before .before .before .before .number .ensures .0)) in
+    left-out (nameAsked (a .text)) (nameAt (a .width) (a .row .now) (a .names .now) (a .from)) (a .n) (l .i) (omega arith) (l .inv .2) _ (sym (c .before .r .given .1) ∙ c .before .before .before .judge-name .ensures ∙ e)
 
 enum-told : tie.Need-enum-told Inv-loop μ-loop
 enum-told c = search needs
@@ -68,17 +70,17 @@ loop-again : tie.Need-loop-again Inv-loop μ-loop
 loop-again c =
     let l = c .before .before .before .before .before .before .loop in
     let a = c .before .before .before .before .before .before .before .before .before .args in
-    let e = ap (nameAnswer (a .text)) (part-is (a .names .now) (l .at) (c .before .before .before .before .number .result) _ _ (l .inv .1) (c .before .before .before .before .number .ensures .0)) in (
+    let e = ap (λ (name : List ℕ). answered (nameAsked (a .text) name)) (part-is (a .names .now) (l .at) (c .before .before .before .before .number .result) _ _ (l .inv .1) (c .before .before .before .before .number .ensures .0)) in (
       omega arith,
       omega (arith, l .inv .1, c .before .before .before .before .number .ensures .0, sum-next (a .width) 0 (a .row .now) (l .i)),
-      judged-on (a .text) (nameAt (a .width) (a .row .now) (a .names .now) (a .from)) (a .n) (l .i) (omega arith) (l .inv .2) _ (sym (c .enum-told .given .1) ∙ c .before .before .judge-name .ensures ∙ e),
+      left-on (nameAsked (a .text)) (nameAt (a .width) (a .row .now) (a .names .now) (a .from)) (a .n) (l .i) (omega arith) (l .inv .2) (sym (c .enum-told .given .1) ∙ c .before .before .judge-name .ensures ∙ e),
     )
 
 returns-2 : tie.Need-returns-2 Inv-loop μ-loop
 returns-2 c =
     let l = c .before .loop in
     let a = c .before .before .before .before .args in
-    judged-all (a .text) (nameAt (a .width) (a .row .now) (a .names .now) (a .from)) (a .n) (l .i) (omega arith) (l .inv .2)
+    left-none (nameAsked (a .text)) (nameAt (a .width) (a .row .now) (a .names .now) (a .from)) (a .n) (l .i) (omega arith) (l .inv .2)
 
 pub judge-names-spec : {M : Type 1} → statement M
 judge-names-spec =

@@ -3,7 +3,7 @@ use mathlib.Core.Path.{sym, _∙_}
 use mathlib.Core.List.{[]}
 use lib.Dec.{ltb}
 use Rattle.shared_words.specs.declared.Refusal.the-variants.{Index}
-use Rattle.studio_figure_objects.proofs.Answers.{none-broken, row-passed, row-found, row-through}
+use Rattle.studio_figure_rows.proofs.Answers.{none-broken, row-passed, row-found, row-through}
 use borrow.Author.Needs.{needs}
 use Rattle.studio_figure_objects.proofs.judge_below.Statement.{statement}
 use Rattle.studio_figure_objects.proofs.judge_below.Tie as tie

@@ -3,10 +3,9 @@ use mathlib.Core.Path.{_≡_, sym, _∙_}
 use Prim.Native.Nat.{ℕ, _-_, _≤_}
 use native.Mathlib.Omega.{arith}
 use Rattle.studio_figure_rows.specs.Rows.{sumTo}
+use Rattle.studio_figure_rows.proofs.Answers.{Left, left-all, left-on, left-out, left-none}
 use Rattle.studio_figure_rows.proofs.Runs.{sum-next, sum-inside}
-use Rattle.studio_figure_names.proofs.Judging.{Left, left-all}
 use Rattle.studio_figure_objects.specs.Asked.{counts}
-use Rattle.studio_figure_objects.proofs.Answers.{going-on, going-out, going-all}
 use borrow.Author.Needs.{needs}
 use Rattle.studio_figure_objects.proofs.judge_counts.Statement.{statement}
 use Rattle.studio_figure_objects.proofs.judge_counts.Tie as tie
@@ -34,7 +33,7 @@ returns : tie.Need-returns Inv-loop μ-loop
 returns c =
     let l = c .before .before .before .before .before .loop in
     let a = c .before .before .before .before .before .before .before .before .args in
-    going-out (counts (a .objects .now) (a .groups .now)) (λ (k : ℕ). k) (a .n) (l .i) (omega arith) (l .inv .2) _ (sym (c .before .r .given .1) ∙ c .before .before .before .judge-object-counts .ensures)
+    left-out (counts (a .objects .now) (a .groups .now)) (λ (k : ℕ). k) (a .n) (l .i) (omega arith) (l .inv .2) _ (sym (c .before .r .given .1) ∙ c .before .before .before .judge-object-counts .ensures)
 
 enum-told : tie.Need-enum-told Inv-loop μ-loop
 enum-told c = search needs
@@ -59,14 +58,14 @@ loop-again c =
     let a = c .before .before .before .before .before .before .before .before .args in (
       omega arith,
       omega (arith, l .inv .1, c .number .ensures .0, sum-next 5 4 (a .objects .now) (l .i)),
-      going-on (counts (a .objects .now) (a .groups .now)) (λ (k : ℕ). k) (a .n) (l .i) (omega arith) (l .inv .2) _ (sym (c .before .enum-told .given .1) ∙ c .before .before .before .judge-object-counts .ensures),
+      left-on (counts (a .objects .now) (a .groups .now)) (λ (k : ℕ). k) (a .n) (l .i) (omega arith) (l .inv .2) (sym (c .before .enum-told .given .1) ∙ c .before .before .before .judge-object-counts .ensures),
     )
 
 returns-2 : tie.Need-returns-2 Inv-loop μ-loop
 returns-2 c =
     let l = c .before .loop in
     let a = c .before .before .before .before .args in
-    going-all (counts (a .objects .now) (a .groups .now)) (λ (k : ℕ). k) (a .n) (l .i) (omega arith) (l .inv .2)
+    left-none (counts (a .objects .now) (a .groups .now)) (λ (k : ℕ). k) (a .n) (l .i) (omega arith) (l .inv .2)
 
 pub judge-counts-spec : {M : Type 1} → statement M
 judge-counts-spec =

@@ -4,7 +4,7 @@ use mathlib.Core.List.{[]}
 use borrow.Author.Tests.{not-true, not-false}
 use Rattle.shared_words.specs.declared.Refusal.the-variants.{Number}
 use Rattle.studio_write_judge.specs.Judged.{finiteFloat}
-use Rattle.studio_figure_objects.proofs.Answers.{none-broken, row-refused, row-passed}
+use Rattle.studio_figure_rows.proofs.Answers.{none-broken, row-refused, row-passed}
 use borrow.Author.Needs.{needs}
 use Rattle.studio_figure_objects.proofs.judge_finite.Statement.{statement}
 use Rattle.studio_figure_objects.proofs.judge_finite.Tie as tie

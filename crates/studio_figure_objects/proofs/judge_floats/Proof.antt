@@ -4,11 +4,11 @@ use Prim.Native.Nat.{ℕ, _-_, _≤_}
 use native.Mathlib.Omega.{arith}
 use mathlib.Core.List.{List}
 use lib.Ieee.{Float}
+use Rattle.studio_figure_rows.specs.Answered.{answered}
 use Rattle.studio_figure_rows.specs.Rows.{sumTo}
+use Rattle.studio_figure_rows.proofs.Answers.{Left, left-all, left-on, left-out, left-none}
 use Rattle.studio_figure_rows.proofs.Runs.{sum-next, sum-inside, part-is}
-use Rattle.studio_figure_names.proofs.Judging.{Left, left-all}
-use Rattle.studio_figure_objects.specs.Asked.{answered, allFinite, floats}
-use Rattle.studio_figure_objects.proofs.Answers.{going-on, going-out, going-all}
+use Rattle.studio_figure_objects.specs.Asked.{allFinite, floats}
 use borrow.Author.Needs.{needs}
 use Rattle.studio_figure_objects.proofs.judge_floats.Statement.{statement}
 use Rattle.studio_figure_objects.proofs.judge_floats.Tie as tie
@@ -59,7 +59,7 @@ returns c =
     let l = c .before .before .before .before .before .before .before .loop in
     let a = c .before .before .before .before .before .before .before .before .before .before .args in
     let e = ap (λ (row : List Float). answered (allFinite row)) (part-is (a .vertices .now) (l .at) (c .before .before .before .before .before .number .result) _ _ (l .inv .1) (c .before .before .before .before .before .number .ensures .0)) in
-    going-out (floats (a .objects .now) (a .vertices .now)) (λ (k : ℕ). k) (a .n) (l .i) (omega arith) (l .inv .2) _ (sym (c .before .r .given .1) ∙ c .before .before .before .judge-finite .ensures ∙ e)
+    left-out (floats (a .objects .now) (a .vertices .now)) (λ (k : ℕ). k) (a .n) (l .i) (omega arith) (l .inv .2) _ (sym (c .before .r .given .1) ∙ c .before .before .before .judge-finite .ensures ∙ e)
 
 enum-told : tie.Need-enum-told Inv-loop μ-loop
 enum-told c = search needs
@@ -77,14 +77,14 @@ loop-again c =
     let e = ap (λ (row : List Float). answered (allFinite row)) (part-is (a .vertices .now) (l .at) (c .before .before .before .before .number .result) _ _ (l .inv .1) (c .before .before .before .before .number .ensures .0)) in (
       omega arith,
       omega (arith, l .inv .1, c .before .before .before .before .number .ensures .0, sum-next 5 1 (a .objects .now) (l .i)),
-      going-on (floats (a .objects .now) (a .vertices .now)) (λ (k : ℕ). k) (a .n) (l .i) (omega arith) (l .inv .2) _ (sym (c .enum-told .given .1) ∙ c .before .before .judge-finite .ensures ∙ e),
+      left-on (floats (a .objects .now) (a .vertices .now)) (λ (k : ℕ). k) (a .n) (l .i) (omega arith) (l .inv .2) (sym (c .enum-told .given .1) ∙ c .before .before .judge-finite .ensures ∙ e),
     )
 
 returns-2 : tie.Need-returns-2 Inv-loop μ-loop
 returns-2 c =
     let l = c .before .loop in
     let a = c .before .before .before .before .args in
-    going-all (floats (a .objects .now) (a .vertices .now)) (λ (k : ℕ). k) (a .n) (l .i) (omega arith) (l .inv .2)
+    left-none (floats (a .objects .now) (a .vertices .now)) (λ (k : ℕ). k) (a .n) (l .i) (omega arith) (l .inv .2)
 
 pub judge-floats-spec : {M : Type 1} → statement M
 judge-floats-spec =

@@ -6,11 +6,10 @@ use mathlib.Core.List.{[]}
 use lib.Dec.{leb}
 use borrow.Author.Tests.{le-leb, lt-leb}
 use Rattle.shared_words.specs.declared.Refusal.the-variants.{Count}
-use Rattle.shared_words.specs.declared.Written.the-variants.{Refused}
+use Rattle.studio_figure_rows.specs.declared.Judged.the-variants.{Refused}
 use Rattle.studio_figure_rows.specs.Rows.{entry}
-use Rattle.studio_figure_names.proofs.Judging.{Left, left-all}
+use Rattle.studio_figure_rows.proofs.Answers.{Left, left-all, none-broken, here, later, left-on, left-out, left-none}
 use Rattle.studio_figure_objects.specs.Asked.{from, groupCount}
-use Rattle.studio_figure_objects.proofs.Answers.{none-broken, here, later, going-on, going-out, going-all}
 use Rattle.studio_figure_objects.proofs.judge_group_counts.Statement.{statement}
 use Rattle.studio_figure_objects.proofs.judge_group_counts.Tie as tie
 
@@ -37,7 +36,7 @@ returns c =
     let a = c .before .before .before .before .before .args in
     let k = entry 2 1 (a .groups .now) (a .first + l .i) in
     ap (λ (x : ℕ). Refused (Count x)) (c .before .number .ensures .0) ∙
-    going-out (groupCount (a .groups .now)) (from (a .first)) (a .n) (l .i) (omega arith) (l .inv .1) (Count k)
+    left-out (groupCount (a .groups .now)) (from (a .first)) (a .n) (l .i) (omega arith) (l .inv .1) (Count k)
     (here (leb k 65535) (Count k) [] (lt-leb k 65535 (omega (arith, c .before .number .ensures .0))))
 
 add-i : tie.Need-add-i Inv-loop μ-loop
@@ -51,13 +50,13 @@ loop-again c =
     let l = c .before .before .before .loop in
     let a = c .before .before .before .before .before .args in
     let k = entry 2 1 (a .groups .now) (a .first + l .i) in
-    (omega arith, going-on (groupCount (a .groups .now)) (from (a .first)) (a .n) (l .i) (omega arith) (l .inv .1) 0 (none-broken ∙ later (leb k 65535) (Count k) [] (le-leb k 65535 (omega (arith, c .before .number .ensures .0)))))
+    (omega arith, left-on (groupCount (a .groups .now)) (from (a .first)) (a .n) (l .i) (omega arith) (l .inv .1) (none-broken ∙ later (leb k 65535) (Count k) [] (le-leb k 65535 (omega (arith, c .before .number .ensures .0)))))
 
 returns-2 : tie.Need-returns-2 Inv-loop μ-loop
 returns-2 c =
     let l = c .before .loop in
     let a = c .before .before .before .args in
-    going-all (groupCount (a .groups .now)) (from (a .first)) (a .n) (l .i) (omega arith) (l .inv .1)
+    left-none (groupCount (a .groups .now)) (from (a .first)) (a .n) (l .i) (omega arith) (l .inv .1)
 
 pub judge-group-counts-spec : {M : Type 1} → statement M
 judge-group-counts-spec =

@@ -3,11 +3,11 @@ use mathlib.Core.Path.{_≡_, sym, ap, _∙_}
 use Prim.Native.Nat.{ℕ, _+_, _-_, _≤_}
 use native.Mathlib.Omega.{arith}
 use mathlib.Core.List.{List}
+use Rattle.studio_figure_rows.specs.Answered.{answered}
 use Rattle.studio_figure_rows.specs.Rows.{sumTo}
+use Rattle.studio_figure_rows.proofs.Answers.{Left, left-all, left-on, left-out, left-none}
 use Rattle.studio_figure_rows.proofs.Runs.{sum-next, sum-inside, part-is}
-use Rattle.studio_figure_names.proofs.Judging.{Left, left-all}
-use Rattle.studio_figure_objects.specs.Asked.{answered, from, allBelow, groupIndex}
-use Rattle.studio_figure_objects.proofs.Answers.{going-on, going-out, going-all}
+use Rattle.studio_figure_objects.specs.Asked.{from, allBelow, groupIndex}
 use borrow.Author.Needs.{needs}
 use Rattle.studio_figure_objects.proofs.judge_group_indices.Statement.{statement}
 use Rattle.studio_figure_objects.proofs.judge_group_indices.Tie as tie
@@ -62,7 +62,7 @@ returns c =
     let l = c .before .before .before .before .before .before .before .loop in
     let a = c .before .before .before .before .before .before .before .before .before .before .args in
     let e = ap (λ (row : List ℕ). answered (allBelow (a .f) row)) (part-is (a .faces .now) (l .at) (c .before .before .before .before .before .number .result) _ _ (l .inv .1) (c .before .before .before .before .before .number .ensures .0)) in
-    going-out (groupIndex (a .groups .now) (a .faces .now) (a .f)) (from (a .first)) (a .n) (l .i) (omega arith) (l .inv .2) _ (sym (c .before .r .given .1) ∙ c .before .before .before .judge-below .ensures ∙ e)
+    left-out (groupIndex (a .groups .now) (a .faces .now) (a .f)) (from (a .first)) (a .n) (l .i) (omega arith) (l .inv .2) _ (sym (c .before .r .given .1) ∙ c .before .before .before .judge-below .ensures ∙ e)
 
 enum-told : tie.Need-enum-told Inv-loop μ-loop
 enum-told c = search needs
@@ -81,14 +81,14 @@ loop-again c =
     let z : a .first + (l .i + 1) ≡ a .first + l .i + 1 = omega arith in (
       omega arith,
       rw z (omega (arith, l .inv .1, c .before .before .before .before .number .ensures .0, sum-next 2 1 (a .groups .now) (a .first + l .i))),
-      going-on (groupIndex (a .groups .now) (a .faces .now) (a .f)) (from (a .first)) (a .n) (l .i) (omega arith) (l .inv .2) _ (sym (c .enum-told .given .1) ∙ c .before .before .judge-below .ensures ∙ e),
+      left-on (groupIndex (a .groups .now) (a .faces .now) (a .f)) (from (a .first)) (a .n) (l .i) (omega arith) (l .inv .2) (sym (c .enum-told .given .1) ∙ c .before .before .judge-below .ensures ∙ e),
     )
 
 returns-2 : tie.Need-returns-2 Inv-loop μ-loop
 returns-2 c =
     let l = c .before .loop in
     let a = c .before .before .before .before .args in
-    going-all (groupIndex (a .groups .now) (a .faces .now) (a .f)) (from (a .first)) (a .n) (l .i) (omega arith) (l .inv .2)
+    left-none (groupIndex (a .groups .now) (a .faces .now) (a .f)) (from (a .first)) (a .n) (l .i) (omega arith) (l .inv .2)
 
 pub judge-group-indices-spec : {M : Type 1} → statement M
 judge-group-indices-spec =

@@ -3,10 +3,9 @@ use mathlib.Core.Path.{_≡_, sym, _∙_}
 use Prim.Native.Nat.{ℕ, _+_, _-_, _≤_}
 use native.Mathlib.Omega.{arith}
 use Rattle.studio_figure_rows.specs.Rows.{entry, sumTo}
+use Rattle.studio_figure_rows.proofs.Answers.{Left, left-all, left-on, left-out, left-none}
 use Rattle.studio_figure_rows.proofs.Runs.{sum-next, sum-inside, sum-up, capped-under}
-use Rattle.studio_figure_names.proofs.Judging.{Left, left-all}
 use Rattle.studio_figure_objects.specs.Asked.{indices}
-use Rattle.studio_figure_objects.proofs.Answers.{going-on, going-out, going-all}
 use borrow.Author.Needs.{needs}
 use Rattle.studio_figure_objects.proofs.judge_indices.Statement.{statement}
 use Rattle.studio_figure_objects.proofs.judge_indices.Tie as tie
@@ -38,7 +37,7 @@ returns : tie.Need-returns Inv-loop μ-loop
 returns c =
     let l = c .before .before .before .before .before .loop in
     let a = c .before .before .before .before .before .before .before .before .before .before .args in
-    going-out (indices (a .objects .now) (a .corners .now) (a .groups .now) (a .faces .now)) (λ (k : ℕ). k) (a .n) (l .i) (omega arith) (l .inv .4) _ (sym (c .before .r .given .1) ∙ c .before .before .before .judge-object-indices .ensures)
+    left-out (indices (a .objects .now) (a .corners .now) (a .groups .now) (a .faces .now)) (λ (k : ℕ). k) (a .n) (l .i) (omega arith) (l .inv .4) _ (sym (c .before .r .given .1) ∙ c .before .before .before .judge-object-indices .ensures)
 
 enum-told : tie.Need-enum-told Inv-loop μ-loop
 enum-told c = search needs
@@ -90,14 +89,14 @@ loop-again c =
       omega (arith, l .inv .1, c .before .before .number .ensures .0, sum-next 5 2 (a .objects .now) (l .i)),
       omega (arith, l .inv .2, c .before .number2 .ensures .0, sum-next 5 4 (a .objects .now) (l .i)),
       omega (arith, l .inv .3),
-      going-on (indices (a .objects .now) (a .corners .now) (a .groups .now) (a .faces .now)) (λ (k : ℕ). k) (a .n) (l .i) (omega arith) (l .inv .4) _ (sym (c .before .before .before .enum-told .given .1) ∙ c .before .before .before .before .before .judge-object-indices .ensures),
+      left-on (indices (a .objects .now) (a .corners .now) (a .groups .now) (a .faces .now)) (λ (k : ℕ). k) (a .n) (l .i) (omega arith) (l .inv .4) (sym (c .before .before .before .enum-told .given .1) ∙ c .before .before .before .before .before .judge-object-indices .ensures),
     )
 
 returns-2 : tie.Need-returns-2 Inv-loop μ-loop
 returns-2 c =
     let l = c .before .loop in
     let a = c .before .before .before .before .before .before .args in
-    going-all (indices (a .objects .now) (a .corners .now) (a .groups .now) (a .faces .now)) (λ (k : ℕ). k) (a .n) (l .i) (omega arith) (l .inv .4)
+    left-none (indices (a .objects .now) (a .corners .now) (a .groups .now) (a .faces .now)) (λ (k : ℕ). k) (a .n) (l .i) (omega arith) (l .inv .4)
 
 pub judge-indices-spec : {M : Type 1} → statement M
 judge-indices-spec =

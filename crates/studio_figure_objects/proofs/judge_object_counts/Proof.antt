@@ -5,13 +5,14 @@ use native.Mathlib.Omega.{arith}
 use mathlib.Core.List.{List, _∷_}
 use borrow.Author.Tests.{not-true, not-false}
 use Rattle.shared_words.specs.declared.Refusal.the-variants.{Count}
-use Rattle.shared_words.specs.declared.Written.the-variants.{Refused}
+use Rattle.studio_figure_rows.specs.declared.Judged.the-variants.{Refused}
 use Rattle.shared_words.specs.Conditions.{Condition, must}
 use Rattle.studio_write_judge.specs.Judged.{wholeRow}
 use Rattle.studio_figure_rules.specs.Judged.{noneOrEach}
+use Rattle.studio_figure_rows.specs.Answered.{answered}
 use Rattle.studio_figure_rows.specs.Rows.{entry, sumTo}
-use Rattle.studio_figure_objects.specs.Asked.{answered, groupCounts}
-use Rattle.studio_figure_objects.proofs.Answers.{here, later}
+use Rattle.studio_figure_rows.proofs.Answers.{here, later}
+use Rattle.studio_figure_objects.specs.Asked.{groupCounts}
 use borrow.Author.Needs.{needs}
 use Rattle.studio_figure_objects.proofs.judge_object_counts.Statement.{statement}
 use Rattle.studio_figure_objects.proofs.judge_object_counts.Tie as tie

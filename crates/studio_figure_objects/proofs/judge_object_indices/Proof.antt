@@ -4,10 +4,11 @@ use Prim.Native.Nat.{ℕ, _+_, _-_, _/_}
 use native.Mathlib.Omega.{arith}
 use mathlib.Core.List.{List}
 use Rattle.shared_words.specs.Conditions.{Condition}
+use Rattle.studio_figure_rows.specs.Answered.{answered}
 use Rattle.studio_figure_rows.specs.Rows.{entry, sumTo, part}
+use Rattle.studio_figure_rows.proofs.Answers.{front-refused, front-passed}
 use Rattle.studio_figure_rows.proofs.Runs.{part-is}
-use Rattle.studio_figure_objects.specs.Asked.{answered, allBelow, groupIndices}
-use Rattle.studio_figure_objects.proofs.Answers.{front-refused, front-passed}
+use Rattle.studio_figure_objects.specs.Asked.{allBelow, groupIndices}
 use borrow.Author.Needs.{needs}
 use Rattle.studio_figure_objects.proofs.judge_object_indices.Statement.{statement}
 use Rattle.studio_figure_objects.proofs.judge_object_indices.Tie as tie
@@ -86,7 +87,7 @@ returns-2 c =
     let x = c .before .before .before .before .before .before .before .before .before .before .before .before in
     let a = x .args in
     c .judge-group-indices .ensures ∙ groups-are (a .objects .now) (a .groups .now) (a .faces .now) (a .i) (c7 .number .result) (a .group) (c .before .number3 .result) (c7 .number .ensures .0) (x .pre .1 .0 .0) (c .before .number3 .ensures .0) ∙
-    front-passed (first (a .objects .now) (a .corners .now) (a .groups .now) (a .faces .now) (a .i)) (second (a .objects .now) (a .corners .now) (a .groups .now) (a .faces .now) (a .i)) _
+    front-passed (first (a .objects .now) (a .corners .now) (a .groups .now) (a .faces .now) (a .i)) (second (a .objects .now) (a .corners .now) (a .groups .now) (a .faces .now) (a .i))
     (sym (c2 .enum-told .given .1) ∙ c4 .judge-below .ensures ∙ corners-are (a .objects .now) (a .corners .now) (a .i) (c6 .number2 .result) (a .at) (c7 .number .result) (c6 .number2 .ensures .0) (x .pre .0 .1) (c7 .number .ensures .0))
 
 pub judge-object-indices-spec : {M : Type 1} → statement M

@@ -1,56 +1,22 @@
--- Conditions over things by number, for loops that judge one after another: one law for every list of conditions. And names that are
--- looked for among others.
+-- Names that are looked for among others, and names that differ.
 use mathlib.Core.Path.{_≡_, refl, sym, ap, _∙_}
 use Prim.Native.Nat.{ℕ, _+_, _-_, _<_, _≤_}
 use native.Mathlib.Omega.{arith}
 use mathlib.Core.Bool.{Bool, true, false, not, _||_}
 use mathlib.Core.List.{List, [], _∷_, _++_}
-use mathlib.Core.Option.{Option, none, some}
+use mathlib.Core.Option.{some}
 use lib.ListN.{length}
 use borrow.Author.Tests.{lt-ltb, le-ltb}
-use Rattle.shared_words.specs.declared.Refusal.{Refusal}
 use Rattle.shared_words.specs.declared.Refusal.the-variants.{SameName}
-use Rattle.shared_words.specs.declared.Written.the-variants.{Refused, Size}
-use Rattle.shared_words.specs.Conditions.{Condition, must, broken}
+use Rattle.shared_words.specs.Conditions.{must, broken}
 use Rattle.shared_words.specs.Lists.{same}
 use Rattle.shared_words.proofs.Conditions.{broken-here, broken-later}
-use Rattle.studio_write_judge.specs.Judged.{answerOf}
-use Rattle.studio_figure_rules.specs.Given.{over}
 use Rattle.studio_figure_rules.specs.Judged.{oneOf, differ}
-use Rattle.studio_figure_rules.proofs.Described.{broken-first, broken-rest}
+use Rattle.studio_figure_rows.specs.declared.Judged.the-variants.{Good, Refused}
+use Rattle.studio_figure_rows.specs.Answered.{judgedBy, answered}
 use Rattle.studio_figure_rows.specs.Rows.{entry, sumTo, run, part, nameAt}
-use Rattle.studio_figure_names.specs.Names.{nameAsked, nameAnswer, namesAnswer, differAnswer, Repeated}
+use Rattle.studio_figure_names.specs.Names.{Repeated}
 use Rattle.studio_figure_rows.proofs.Runs.{run-opened, run-none, run-joined, sum-next}
-
--- what an answer tells of the first broken condition
-pub refused-told : (n : ℕ) (o : Option Refusal) (r : Refusal) → Refused r ≡ answerOf n o → o ≡ some r
-refused-told n none r e = let z : _≡_ {A = ℕ} 0 1 = cc in absurd (omega arith)
-refused-told n (some x) r e = cc
-
-pub size-told : (n m : ℕ) (o : Option Refusal) → Size m ≡ answerOf n o → o ≡ none
-size-told n m none e = refl
-size-told n m (some x) e = let z : _≡_ {A = ℕ} 0 1 = cc in absurd (omega arith)
-
-module _ {A : Type 0} (give : A → List Condition) (thing : ℕ → A) (n : ℕ) where
-  -- what is left to judge from i on
-  abbrev pub Left : ℕ → Type 0
-  Left i = broken (over give (run thing 0 n)) ≡ broken (over give (run thing i (n - i)))
-
-  pub left-all : Left 0
-  left-all = let a : n - 0 ≡ n = omega arith in rw a
-
-  opened : (i : ℕ) → i < n → broken (over give (run thing i (n - i))) ≡ broken (give (thing i) ++ over give (run thing (i + 1) (n - (i + 1))))
-  opened i h = ap (λ (l : List A). broken (over give l)) (run-opened thing i n h)
-
-  pub left-on : (i : ℕ) → i < n → Left i → broken (give (thing i)) ≡ none → Left (i + 1)
-  left-on i h l b = l ∙ opened i h ∙ broken-rest (give (thing i)) (over give (run thing (i + 1) (n - (i + 1)))) b
-
-  pub left-out : (i : ℕ) → i < n → Left i → (m : ℕ) (r : Refusal) → broken (give (thing i)) ≡ some r → Refused r ≡ answerOf m (broken (over give (run thing 0 n)))
-  left-out i h l m r b = sym (ap (answerOf m) (l ∙ opened i h ∙ broken-first (give (thing i)) (over give (run thing (i + 1) (n - (i + 1)))) r b))
-
-  pub left-none : (i : ℕ) → n ≤ i → Left i → (m : ℕ) → Size m ≡ answerOf m (broken (over give (run thing 0 n)))
-  unfolding broken
-  left-none i h l m = sym (ap (answerOf m) (l ∙ ap (λ (xs : List A). broken (over give xs)) (run-none thing i n h)))
 
 -- ---- a name among others
 
@@ -144,22 +110,21 @@ module _ (thing : ℕ → List ℕ) (n : ℕ) where
       left = d .left ∙ next ∙ broken-later _ _ _ (ap not (d .those (thing i) ∙ sym e));
     }
 
-    pub differing-out : (m : ℕ) → true ≡ oneOf (run thing 0 i) (thing i) → Refused (SameName i) ≡ answerOf m (broken (differ [] (run thing 0 n)))
-    differing-out m e =
-        sym (ap (answerOf m) (d .left ∙ next ∙ broken-here _ _ _ (ap not (d .those (thing i) ∙ sym e)) ∙ ap (λ (k : ℕ). some (SameName k)) (d .count)))
+    pub differing-out : true ≡ oneOf (run thing 0 i) (thing i) → Refused (SameName i) ≡ answered (differ [] (run thing 0 n))
+    unfolding answered
+    differing-out e =
+        sym (ap judgedBy (d .left ∙ next ∙ broken-here _ _ _ (ap not (d .those (thing i) ∙ sym e)) ∙ ap (λ (k : ℕ). some (SameName k)) (d .count)))
 
-  pub differing-all : (i : ℕ) → n ≤ i → Differing i → (m : ℕ) → Size m ≡ answerOf m (broken (differ [] (run thing 0 n)))
-  unfolding broken
-  differing-all i h d m = sym (ap (answerOf m) (d .left ∙ ap (λ (l : List (List ℕ)). broken (differ (d .seen) l)) (run-none thing i n h)))
+  pub differing-all : (i : ℕ) → n ≤ i → Differing i → Good ≡ answered (differ [] (run thing 0 n))
+  unfolding answered broken
+  differing-all i h d = sym (ap judgedBy (d .left ∙ ap (λ (l : List (List ℕ)). broken (differ (d .seen) l)) (run-none thing i n h)))
 
   -- as the first name that is there before
   pub repeated-here : (i : ℕ) → i < n → Differing i → true ≡ oneOf (run thing 0 i) (thing i) → Repeated thing n i
-  unfolding differAnswer
-  repeated-here i h d e = rw (lt-ltb i n h) (differing-out i h d 0 e)
+  repeated-here i h d e = rw (lt-ltb i n h) (differing-out i h d e)
 
   pub repeated-none : (i : ℕ) → n ≤ i → Differing i → Repeated thing n i
-  unfolding differAnswer
-  repeated-none i h d = rw (le-ltb i n h) (differing-all i h d 0)
+  repeated-none i h d = rw (le-ltb i n h) (differing-all i h d)
 
 -- the same in a row of names
 module _ (width : ℕ) (row names : List ℕ) (from n : ℕ) where
@@ -188,21 +153,3 @@ module _ (width : ℕ) (row names : List ℕ) (from n : ℕ) where
 
   pub comparing-all : (at i : ℕ) → Comparing at i → n ≤ i → Repeated (nameAt width row names from) n i
   comparing-all at i c h = repeated-none (nameAt width row names from) n i h (c .differing)
-
--- ---- each name judged by itself
-
-module _ (text : Bool) (thing : ℕ → List ℕ) (n : ℕ) where
-  abbrev pub Judged : ℕ → Type 0
-  Judged i = Left (nameAsked text) thing n i
-
-  pub judged-on : (i : ℕ) → i < n → Judged i → (m : ℕ) → Size m ≡ nameAnswer text (thing i) → Judged (i + 1)
-  unfolding nameAnswer
-  judged-on i h j m e = left-on (nameAsked text) thing n i h j (size-told 0 m _ e)
-
-  pub judged-out : (i : ℕ) → i < n → Judged i → (r : Refusal) → Refused r ≡ nameAnswer text (thing i) → Refused r ≡ namesAnswer text (run thing 0 n)
-  unfolding nameAnswer namesAnswer
-  judged-out i h j r e = left-out (nameAsked text) thing n i h j 0 r (refused-told 0 _ r e)
-
-  pub judged-all : (i : ℕ) → n ≤ i → Judged i → Size 0 ≡ namesAnswer text (run thing 0 n)
-  unfolding namesAnswer
-  judged-all i h j = left-none (nameAsked text) thing n i h j 0
