@@ -9,9 +9,10 @@ use Rattle.shared_words.specs.declared.Refusal.{Refusal}
 use Rattle.shared_words.specs.declared.Refusal.the-variants.{TooLong, Form}
 use Rattle.shared_words.specs.Lists.{same}
 use Rattle.shared_words.specs.Conditions.{broken, refused}
+use Rattle.shared_words.specs.Refusals.{limit}
 use Rattle.c4d_rules.specs.declared.Found.{Found}
 use Rattle.c4d_rules.specs.Layout.{fileHeader}
-use Rattle.c4d_rules.specs.Rules.{limit, start}
+use Rattle.c4d_rules.specs.Rules.{start}
 use Rattle.c4d_rules.specs.Read.{walk}
 use Rattle.c4d_rules.specs.Walk.{chunkGrammar, verdict}
 use Rattle.c4d_rules.specs.Calls.{c4dCheckCall}

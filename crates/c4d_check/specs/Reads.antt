@@ -4,8 +4,8 @@ use Prim.Native.Nat.{ℕ, _≤_}
 use mathlib.Core.List.{List}
 use lib.ListN.{length}
 use Rattle.shared_words.specs.Conditions.{refused, accepted}
+use Rattle.shared_words.specs.Refusals.{limit}
 use Rattle.c4d_rules.specs.Layout.{Layout}
-use Rattle.c4d_rules.specs.Rules.{limit}
 use Rattle.c4d_rules.specs.Walk.{verdict}
 use Rattle.c4d_rules.specs.Gives.{objects}
 use Rattle.c4d_objects.specs.Notes.{Noted}

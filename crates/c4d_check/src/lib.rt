@@ -9,8 +9,8 @@ ghost use mathlib.Core.Bool.{true};
 ghost use Prim.Native.Nat.{_-_, _≤_};
 ghost use lib.ListN.{length, take};
 ghost use Rattle.shared_words.specs.Lists.{same};
+ghost use Rattle.shared_words.specs.Refusals.{limit};
 ghost use Rattle.c4d_rules.specs.Layout.{fileHeader};
-ghost use Rattle.c4d_rules.specs.Rules.{limit};
 ghost use Rattle.c4d_rules.specs.Calls.{c4dCheckCall};
 ghost use Rattle.c4d_check.specs.Reads.{Reads};
 

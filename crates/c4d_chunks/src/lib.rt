@@ -11,8 +11,8 @@ ghost use mathlib.Core.Bool.{true};
 ghost use mathlib.Core.List.{List};
 ghost use Prim.Native.Nat.{ℕ, _+_, _≤_};
 ghost use lib.ListN.{length};
+ghost use Rattle.shared_words.specs.Refusals.{limit};
 ghost use Rattle.c4d_rules.specs.Kinds.{Platform, Materials, Objects, kindOf};
-ghost use Rattle.c4d_rules.specs.Rules.{limit};
 ghost use Rattle.c4d_chunks.specs.Steps.{isListed, Enters, EntersAny, Walks};
 
 const PLTF: usize = 0x504C_5446;

@@ -1,19 +1,20 @@
 -- The conditions of a sub-chunk, by its identifier: what they answer.
 use mathlib.Core.Path.{_≡_, refl, ap, _∙_}
-use Prim.Native.Nat.{ℕ, zero, suc, _<_, _≤_}
+use Prim.Native.Nat.{ℕ, zero, suc, _*_, _^_, _<_, _≤_}
 use native.Mathlib.Omega.{arith}
 use mathlib.Core.Bool.{Bool, true, false, not, _&&_, _||_, cond}
 use mathlib.Core.List.{List}
 use mathlib.Core.Option.{Option, none, some}
-use lib.Dec.{eqb, leb}
+use lib.Dec.{eqb}
 use lib.ListN.{length}
 use borrow.Author.Tests.{le-leb, lt-leb, ne-eqb}
 use Rattle.shared_words.specs.declared.Refusal.the-variants.{Length, Order, Material, Combination}
 use Rattle.shared_words.specs.Conditions.{broken}
+use Rattle.shared_words.specs.Bytes.{negative, minusOne}
 use Rattle.c4d_rules.specs.Blocks.{Block}
 use Rattle.c4d_rules.specs.Kinds.{tEnd, tObject, tTexture, listed}
 use Rattle.c4d_rules.specs.Combinations.{isIn, combination, onceEach, combined}
-use Rattle.c4d_rules.specs.Rules.{Open, isOpen, soFar, objectId, identifiers, material, minusOne}
+use Rattle.c4d_rules.specs.Rules.{Open, isOpen, soFar, objectId, identifiers, material}
 use Rattle.c4d_held.specs.Held.{numberOf, lastOf, isMaterial, fault}
 use Rattle.c4d_held.proofs.OneMore.{is-part, no-part}
 
@@ -85,7 +86,7 @@ module _ (b : Block) (last : Option ℕ) (o : Open) (at : ℕ) where
 -- below the number: as there are few, none of these is negative
 pub material-below : (below n : ℕ) → below ≤ 0x8000_0000 → n < below → isMaterial (lastOf below) n ≡ true
 material-below zero n l h = absurd (omega arith)
-material-below (suc k) n l h = rw (lt-leb 0x8000_0000 n (omega arith), le-leb n k (omega arith)) (go (eqb n minusOne))
+material-below (suc k) n l h = rw (lt-leb (256 ^ 4) (2 * n) (omega arith), le-leb n k (omega arith)) (go (eqb n minusOne))
   where
     go : (q : Bool) → (q || true) ≡ true
     go true = refl
@@ -98,7 +99,7 @@ material-above zero n h = go (eqb n minusOne)
     go : (q : Bool) → (q || false) ≡ q
     go true = refl
     go false = refl
-material-above (suc k) n h = rw (lt-leb n k (omega arith)) (go (eqb n minusOne) (not (leb 0x8000_0000 n)))
+material-above (suc k) n h = rw (lt-leb n k (omega arith)) (go (eqb n minusOne) (not (negative 4 n)))
   where
     go : (q p : Bool) → (q || (p && false)) ≡ q
     go true p = refl

@@ -7,12 +7,12 @@ use mathlib.Core.Option.{Option, none, some}
 use lib.Dec.{eqb}
 use lib.ListN.{length}
 use Rattle.shared_words.specs.declared.Refusal.{Refusal}
-use Rattle.shared_words.specs.Bytes.{beAt}
+use Rattle.shared_words.specs.Bytes.{beAt, minusOne}
 use Rattle.shared_words.specs.Conditions.{broken}
 use Rattle.c4d_rules.specs.Blocks.{Block}
 use Rattle.c4d_rules.specs.Kinds.{tEnd, tTexture}
 use Rattle.c4d_rules.specs.Combinations.{isIn, combination, onceEach}
-use Rattle.c4d_rules.specs.Rules.{Open, objectId, material, minusOne, upTo}
+use Rattle.c4d_rules.specs.Rules.{Open, objectId, material, upTo}
 use Rattle.c4d_rules.specs.Walk.{objectConditions}
 use Rattle.c4d_parts.specs.Bits.{bits}
 use Rattle.c4d_held.specs.declared.Held.{Held}

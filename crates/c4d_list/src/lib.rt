@@ -12,8 +12,8 @@ ghost use lib.ListN.{length};
 ghost use lib.Seq.{slice};
 ghost use Rattle.shared_words.specs.Bytes.{packed};
 ghost use Rattle.shared_words.specs.Encodings.{numberBytes};
+ghost use Rattle.shared_words.specs.Refusals.{limit};
 ghost use Rattle.shared_numbers.specs.Put.{Put};
-ghost use Rattle.c4d_rules.specs.Rules.{limit};
 ghost use Rattle.c4d_rules.specs.Calls.{objectBytes, twoRows, c4dListCall};
 ghost use Rattle.c4d_list.specs.Filled.{Fillable, FilledIs};
 

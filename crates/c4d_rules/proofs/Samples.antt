@@ -2,9 +2,9 @@
 use mathlib.Core.Path.{refl}
 use borrow.Author.Tests.{lt-leb}
 use lib.ListN.{length}
+use Rattle.shared_words.specs.Refusals.{limit}
 use Rattle.c4d_rules.specs.Kinds.{listed}
 use Rattle.c4d_rules.specs.Combinations.{holds, combination, onceEach, combined}
-use Rattle.c4d_rules.specs.Rules.{limit}
 use Rattle.shared_words.specs.Lists.{every}
 use Rattle.shared_words.specs.Conditions.{broken}
 use Rattle.c4d_rules.specs.Read.{blockAt, walk}

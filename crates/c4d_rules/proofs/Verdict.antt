@@ -6,9 +6,10 @@ use mathlib.Core.List.{List, _++_}
 use mathlib.Core.Option.{none}
 use lib.ListN.{length, take, drop, length-take, length-drop, take-append-drop}
 use borrow.Author.Tests.{leb-true, le-leb}
+use Rattle.shared_words.specs.Refusals.{limit}
 use Rattle.c4d_rules.specs.Blocks.{allBytes}
 use Rattle.c4d_rules.specs.Layout.{Layout, block, fileHeader, bytes}
-use Rattle.c4d_rules.specs.Rules.{start, ChunkRules, limit, Meets}
+use Rattle.c4d_rules.specs.Rules.{start, ChunkRules, Meets}
 use Rattle.shared_words.specs.Conditions.{broken, Answer, refused, accepted}
 use Rattle.shared_words.proofs.Lists.{same-true, same-refl}
 use Rattle.shared_words.proofs.Conditions.{unbroken}

@@ -6,8 +6,9 @@ use mathlib.Core.List.{List, [], _∷_, _++_}
 use mathlib.Core.Option.{Option, none, some}
 use lib.Dec.{eqb, leb}
 use lib.ListN.{length, drop}
+use Rattle.shared_words.specs.Refusals.{limit}
 use Rattle.shared_flat.specs.Flat.{Obeys, afterAll}
-use Rattle.shared_words.specs.Bytes.{valueBe}
+use Rattle.shared_words.specs.Bytes.{valueBe, minusOne, negative}
 use Rattle.c4d_rules.specs.Blocks.{Block, chunkHeader, materialHeader, objectHeader, identifier, Framed}
 use Rattle.c4d_rules.specs.Kinds.{Kind, Platform, Materials, Objects, Other, matEnd, matNext, tEnd, tObject, tTexture, listed}
 use Rattle.c4d_rules.specs.Combinations.{combined}
@@ -83,16 +84,10 @@ inPlace held b = cond (listed (objectId b)) (cond (eqb (objectId b) tObject) (no
 abbrev pub material : Block → ℕ
 material b = valueBe (drop 60 (b .body))
 
-abbrev pub minusOne : ℕ
-minusOne = 0xFFFF_FFFF
-
-abbrev pub negative : ℕ → Bool
-negative n = leb 0x8000_0000 n
-
 -- "with a MAT4 before it from 0 to the number of its MAT_NEXTs": the last material, where there is a MAT4
 abbrev pub upTo : Option ℕ → ℕ → Bool
 upTo none n = false
-upTo (some last) n = not (negative n) && leb n last
+upTo (some last) n = not (negative 4 n) && leb n last
 
 abbrev pub materialThere : Option ℕ → Block → Bool
 materialThere last b = ofTexture b (eqb (material b) minusOne || upTo last (material b))
@@ -159,10 +154,6 @@ pub record ChunkRules (p : Before) (c : Chunk) : Type 0 where
   pub framed : Framed chunkHeader (block c)
   pub in-order : inOrder p (kind c) ≡ true
   pub inside-obeys : InsideObeys (p .last) (kind c) (c .inside)
-
--- the longest file
-abbrev pub limit : ℕ
-limit = 1_048_576
 
 -- THE FILE s MEETS THE RULES, with the layout l
 pub record Meets (s : List ℕ) (l : Layout) : Type 0 where

@@ -5,11 +5,10 @@ use Prim.Native.Nat.{ℕ, _+_, _<_}
 use mathlib.Core.List.{List, [], _∷_, _++_}
 use lib.ListN.{length, set, replicate}
 use Rattle.shared_words.specs.declared.Refusal.the-variants.{TooLong}
-use Rattle.shared_words.specs.Refusals.{codeOf}
-use Rattle.shared_words.specs.Bytes.{be}
+use Rattle.shared_words.specs.Refusals.{limit, codeOf}
+use Rattle.shared_words.specs.Bytes.{be, minusOne}
 use Rattle.c4d_rules.specs.Kinds.{matEnd, matNext, tEnd, tObject, tPoints, tTriangles, tEdges, tPolygon, tTexture, tPhong, tSphere, tHermite}
 use Rattle.c4d_rules.specs.Layout.{fileHeader}
-use Rattle.c4d_rules.specs.Rules.{minusOne, limit}
 use Rattle.shared_words.specs.Conditions.{Answer, refused, accepted}
 use Rattle.c4d_rules.specs.Walk.{verdict}
 use Rattle.c4d_rules.specs.Gives.{Object}

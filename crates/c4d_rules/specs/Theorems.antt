@@ -6,13 +6,14 @@ use mathlib.Core.Bool.{Bool}
 use mathlib.Core.List.{List}
 use mathlib.Core.Option.{Option, none}
 use lib.ListN.{length, take, drop}
+use Rattle.shared_words.specs.Refusals.{limit}
 use Rattle.shared_flat.specs.Put.{Mark, without, with}
 use Rattle.shared_words.specs.Bytes.{valueBe, Bytes}
 use Rattle.shared_words.specs.Lists.{All}
 use Rattle.c4d_rules.specs.Blocks.{Block}
 use Rattle.c4d_rules.specs.Combinations.{combinations, howMany}
 use Rattle.c4d_rules.specs.Layout.{Chunk, Layout, form, mc4d, fileHeader, bytes}
-use Rattle.c4d_rules.specs.Rules.{MaterialsObey, ObjectsObey, limit, Meets}
+use Rattle.c4d_rules.specs.Rules.{MaterialsObey, ObjectsObey, Meets}
 use Rattle.shared_words.specs.Conditions.{accepted}
 use Rattle.c4d_rules.specs.Walk.{verdict}
 use Rattle.c4d_rules.specs.Gives.{objectsFrom}

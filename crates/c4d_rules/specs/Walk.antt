@@ -8,11 +8,12 @@ use lib.Dec.{leb}
 use lib.ListN.{length, take, drop}
 use Rattle.shared_words.specs.declared.Refusal.the-variants.{TooLong, Form, Length, Order, Material, Combination}
 use Rattle.shared_words.specs.Lists.{same}
+use Rattle.shared_words.specs.Refusals.{limit}
 use Rattle.c4d_rules.specs.Blocks.{Block, chunkHeader, materialHeader, objectHeader, identifier}
 use Rattle.c4d_rules.specs.Kinds.{Kind, Platform, Materials, Objects, Other, kindOf}
 use Rattle.c4d_rules.specs.Layout.{plain, subs, Chunk, Layout, fileHeader}
 use Rattle.c4d_rules.specs.Rules.{afterMaterial, Open, isOpen, afterObject, textureWhole, inPlace, materialThere, combinationHolds, Before, start, after}
-use Rattle.c4d_rules.specs.Rules.{inOrder, limit}
+use Rattle.c4d_rules.specs.Rules.{inOrder}
 use Rattle.shared_words.specs.Conditions.{Condition, must, broken, Answer, refused, accepted, unless}
 use Rattle.c4d_rules.specs.Read.{Grammar, walk}
 

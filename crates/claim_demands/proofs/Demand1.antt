@@ -7,6 +7,7 @@ use mathlib.Core.Option.{Option, none, some}
 use Prim.Native.Nat.{ℕ}
 use lib.Dec.{eqb, leb}
 use lib.ListN.{length, getElem?}
+use Rattle.shared_words.specs.Picked.{pickMesh}
 use Rattle.studio_rules.specs.declared.Record.{Record}
 use Rattle.shared_words.specs.declared.Refusal.{Refusal}
 use Rattle.shared_words.specs.declared.Refusal.the-variants.{NoRoom, NoSuchMesh, Empty}
@@ -21,7 +22,7 @@ use Rattle.studio_rules.specs.Walk.{verdict}
 use Rattle.studio_rules.specs.Gives.{recordCount, Mesh, meshes, parts}
 use Rattle.shared_words.specs.Encodings.{Encoding}
 use Rattle.shared_words.specs.Effects.{leaving}
-use Rattle.studio_rules.specs.Calls.{countsOf, checkOf, checkCall, listOf, listCall, pickMesh, ofMesh, Rows, Tables, fits, sizesOf, tablesOf, tablesCall, nameOf, nameCall, aroundOf, boxCall, allOf}
+use Rattle.studio_rules.specs.Calls.{countsOf, checkOf, checkCall, listOf, listCall, ofMesh, Rows, Tables, fits, sizesOf, tablesOf, tablesCall, nameOf, nameCall, aroundOf, boxCall, allOf}
 use Rattle.studio_counted.proofs.All.{all-parts}
 use Rattle.studio_meshes_rules.specs.Standing.{standing}
 use Rattle.studio_meshes_rules.specs.Calls.{meshesCall}

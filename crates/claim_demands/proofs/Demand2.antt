@@ -10,6 +10,7 @@ use lib.ListN.{length, getElem?}
 use borrow.Author.Tests.{leb-true, le-leb, ne-eqb}
 use Rattle.shared_words.specs.declared.Refusal.{Refusal}
 use Rattle.shared_words.specs.declared.Refusal.the-variants.{NoSuchMesh}
+use Rattle.shared_words.specs.Picked.{pickMesh}
 use Rattle.studio_rules.specs.declared.Counts.{Counts}
 use Rattle.studio_rules.specs.declared.Checked.{Checked}
 use Rattle.studio_rules.specs.declared.Sizes.{Sizes}
@@ -23,7 +24,7 @@ use Rattle.studio_rules.specs.Walk.{verdict}
 use Rattle.studio_rules.specs.Gives.{recordCount, Mesh, meshes, parts}
 use Rattle.shared_words.specs.Encodings.{Encoding}
 use Rattle.shared_words.specs.Effects.{Effect, leaving}
-use Rattle.studio_rules.specs.Calls.{checkOf, checkCall, listOf, listCall, pickMesh, ofMesh, Rows, Tables, fits, sizesOf, tablesOf, tablesCall, nameCall, boxCall, partsCall, allOf}
+use Rattle.studio_rules.specs.Calls.{checkOf, checkCall, listOf, listCall, ofMesh, Rows, Tables, fits, sizesOf, tablesOf, tablesCall, nameCall, boxCall, partsCall, allOf}
 use Rattle.studio_rules.proofs.Verdict.{accepted-exactly, verdict-good}
 use Rattle.studio_rules.proofs.Theorems.{counts-add}
 use Rattle.studio_counted.proofs.All.{all-parts}

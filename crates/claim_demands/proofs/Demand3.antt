@@ -9,6 +9,7 @@ use lib.ListN.{length, getElem?}
 use borrow.Author.Tests.{le-leb, lt-leb}
 use Rattle.shared_words.specs.declared.Refusal.{Refusal}
 use Rattle.shared_words.specs.declared.Refusal.the-variants.{NoSuchMesh}
+use Rattle.shared_words.specs.Picked.{pickMesh}
 use Rattle.studio_rules.specs.declared.Named.{Named}
 use Rattle.studio_rules.specs.declared.Boxed.{Boxed}
 use Rattle.studio_rules.specs.declared.Tabled.{Tabled}
@@ -23,7 +24,7 @@ use Rattle.studio_rules.specs.Gaps.{Marked, figureOf, without, with, SameMesh}
 use Rattle.shared_words.specs.Lists.{Pairwise}
 use Rattle.studio_rules.specs.Theorems.{putIn, allPut}
 use Rattle.shared_words.specs.Effects.{leaving}
-use Rattle.studio_rules.specs.Calls.{countsOf, checkCall, listCall, pickMesh, ofMesh, tablesOf, tablesCall, nameOf, nameCall, aroundOf, boxCall, partsCall}
+use Rattle.studio_rules.specs.Calls.{countsOf, checkCall, listCall, ofMesh, tablesOf, tablesCall, nameOf, nameCall, aroundOf, boxCall, partsCall}
 use Rattle.studio_rules.proofs.Verdict.{verdict-good}
 use Rattle.studio_rules.proofs.Gaps.{record-count-same, obeys-taken}
 use Rattle.studio_rules.proofs.Pieces.{none-before, holds-all}

@@ -14,6 +14,7 @@ use Rattle.shared_words.specs.declared.Written.{Written}
 use Rattle.shared_words.specs.Conditions.{Answer, refused, accepted}
 use Rattle.shared_words.specs.Effects.{leaving}
 use Rattle.shared_words.specs.Encodings.{Encoding}
+use Rattle.shared_words.specs.Picked.{pickMesh}
 use Rattle.shared_words.proofs.Bools.{by-test}
 use Rattle.slip_sums.specs.declared.Sum.{Sum}
 use Rattle.slip_sums.specs.declared.Summed.{Summed}
@@ -28,7 +29,7 @@ use Rattle.cob_rules.specs.declared.Record.{Record}
 use Rattle.cob_rules.specs.declared.Answered.{Answered as CobAnswered}
 use Rattle.cob_rules.specs.Walk.{Verdict}
 use Rattle.cob_rules.specs.Gives.{list, Mesh, meshes}
-use Rattle.cob_rules.specs.Calls.{checkOf, give, listOf, pickMesh, ofMesh, Rows, tablesOf}
+use Rattle.cob_rules.specs.Calls.{checkOf, give, listOf, ofMesh, Rows, tablesOf}
 use Rattle.c4d_rules.specs.declared.Found.{Found as C4dFound}
 use Rattle.c4d_rules.specs.Layout.{Layout}
 use Rattle.c4d_rules.specs.Gives.{Object, objects}

@@ -9,11 +9,12 @@ use Rattle.shared_words.specs.declared.Refusal.the-variants.{NoRoom}
 use Rattle.shared_words.specs.Effects.{leaving, filled}
 use Rattle.shared_words.specs.Encodings.{Encoding}
 use Rattle.shared_words.specs.Lists.{Pairwise}
+use Rattle.shared_words.specs.Refusals.{limit}
 use Rattle.shared_flat.specs.Put.{Mark, without, with, Piece, pieces, Moved}
 use Rattle.cob_rules.specs.declared.Record.{Record}
 use Rattle.cob_rules.specs.declared.Answered.{Answered}
 use Rattle.cob_rules.specs.Layout.{Chunk, Layout, size, bytes}
-use Rattle.cob_rules.specs.Rules.{limit, Meets}
+use Rattle.cob_rules.specs.Rules.{Meets}
 use Rattle.cob_rules.specs.Gives.{list, Mesh, meshes}
 use Rattle.cob_rules.specs.Calls.{checkCall, listCall, sizesOf, sizesCall, Rows, tablesCall}
 use Rattle.cob_rules.specs.PutIn.{ending, MayPut, MayTake, SameRecord}

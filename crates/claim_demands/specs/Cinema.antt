@@ -8,10 +8,11 @@ use Rattle.shared_words.specs.declared.Refusal.the-variants.{NoRoom}
 use Rattle.shared_words.specs.Effects.{leaving, filled}
 use Rattle.shared_words.specs.Encodings.{Encoding}
 use Rattle.shared_words.specs.Lists.{Pairwise}
+use Rattle.shared_words.specs.Refusals.{limit}
 use Rattle.shared_flat.specs.Put.{Mark, without, with, Piece, pieces, Moved}
 use Rattle.c4d_rules.specs.declared.Found.{Found}
 use Rattle.c4d_rules.specs.Layout.{Chunk, Layout, chunkSize, bytes}
-use Rattle.c4d_rules.specs.Rules.{limit, Meets}
+use Rattle.c4d_rules.specs.Rules.{Meets}
 use Rattle.c4d_rules.specs.Gives.{Object, objects}
 use Rattle.c4d_rules.specs.Calls.{allMaterials, twoRows, c4dCheckCall, c4dListCall}
 use Rattle.c4d_rules.specs.PutIn.{MayPut, MayTake, SameObject}

@@ -7,6 +7,7 @@ use mathlib.Core.Path.{_≡_}
 use mathlib.Core.List.{List}
 use Prim.Native.Nat.{ℕ, _+_, _≤_, _<_}
 use lib.ListN.{length}
+use Rattle.shared_words.specs.Refusals.{limit}
 use Rattle.studio_rules.specs.declared.Record.{Record}
 use Rattle.shared_words.specs.declared.Refusal.the-variants.{NoRoom}
 use Rattle.studio_rules.specs.declared.Counts.{Counts}
@@ -16,7 +17,7 @@ use Rattle.studio_rules.specs.declared.Named.{Named}
 use Rattle.shared_words.specs.Bytes.{Bytes}
 use Rattle.studio_rules.specs.OwnData.{count}
 use Rattle.studio_rules.specs.Layout.{figure, bytes, child}
-use Rattle.studio_rules.specs.Rules.{limit, Meets}
+use Rattle.studio_rules.specs.Rules.{Meets}
 use Rattle.studio_rules.specs.Gaps.{Marked, without, with, InGaps, Piece, before, Moved}
 use Rattle.shared_words.specs.Lists.{Pairwise}
 use Rattle.studio_rules.specs.Theorems.{putIn, allPut}

@@ -9,13 +9,14 @@ use Rattle.shared_words.specs.declared.Refusal.the-variants.{NoRoom, NoSuchMesh
 use Rattle.shared_words.specs.Conditions.{refused, accepted}
 use Rattle.shared_words.specs.Effects.{Effect, leaving}
 use Rattle.shared_words.specs.Encodings.{Encoding}
+use Rattle.shared_words.specs.Refusals.{limit}
+use Rattle.shared_words.specs.Picked.{pickMesh}
 use Rattle.shared_words.proofs.Bools.{by-test}
 use Rattle.cob_rules.specs.declared.Answered.{Answered}
 use Rattle.cob_rules.specs.declared.Record.{Record}
-use Rattle.cob_rules.specs.Rules.{limit}
 use Rattle.cob_rules.specs.Walk.{Verdict, verdict}
 use Rattle.cob_rules.specs.Gives.{list, Mesh, meshes}
-use Rattle.cob_rules.specs.Calls.{checkOf, checkCall, give, listOf, listCall, pickMesh, ofMesh, sizesOf, sizesCall, Rows, tablesOf, tablesCall}
+use Rattle.cob_rules.specs.Calls.{checkOf, checkCall, give, listOf, listCall, ofMesh, sizesOf, sizesCall, Rows, tablesOf, tablesCall}
 use Rattle.c_cob.specs.Codes.{countOr}
 use Rattle.claim_numbers.specs.Caligari.{CountTold, CaligariTold}
 use Rattle.claim_numbers.proofs.Tells.{tells}

@@ -8,10 +8,9 @@ use mathlib.Core.Option.{some, Option·some-injective, Option·none-ne-some}
 use lib.Dec.{leb}
 use lib.ListN.{length, take, drop, length-drop}
 use borrow.Author.Tests.{leb-true}
-use Rattle.shared_words.specs.Bytes.{value}
+use Rattle.shared_words.specs.Bytes.{value, negative}
 use Rattle.shared_words.specs.Lists.{same}
 use Rattle.shared_words.proofs.Bools.{and-parts}
-use Rattle.cob_rules.specs.Fields.{negative}
 use Rattle.cob_rules.specs.Kinds.{Part, plain, natural, times, faces, optional, anything}
 use Rattle.cob_rules.specs.Body.{Reading, andThen, skip, counted, hole, face, faceRun, mapData, behind, behindAll, nothing}
 use Rattle.cob_rules.specs.Mesh.{listBehind}

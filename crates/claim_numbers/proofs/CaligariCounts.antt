@@ -7,12 +7,13 @@ use mathlib.Core.List.{List, [], _∷_, _++_}
 use lib.ListN.{length, length-append}
 use Rattle.shared_words.specs.Conditions.{accepted}
 use Rattle.shared_words.specs.Lists.{All, total}
+use Rattle.shared_words.specs.Refusals.{limit}
 use Rattle.shared_flat.specs.Flat.{records}
 use Rattle.cob_rules.specs.declared.Kind.{Kind}
 use Rattle.cob_rules.specs.Kinds.{isMesh, listed}
 use Rattle.cob_rules.specs.Body.{exact}
 use Rattle.cob_rules.specs.Layout.{Chunk, kind, size, Layout, lastAt}
-use Rattle.cob_rules.specs.Rules.{AllPlaced, limit}
+use Rattle.cob_rules.specs.Rules.{AllPlaced}
 use Rattle.cob_rules.specs.Walk.{verdict}
 use Rattle.cob_rules.specs.Gives.{recordOf, endRecord, oneIf, caligari, list, meshOf, meshesOf, meshes}
 use Rattle.cob_rules.proofs.Verdict.{accepted-exactly}

@@ -8,12 +8,12 @@ use lib.ListN.{length, take, drop, length-append, length-take, length-drop}
 use borrow.Author.Tests.{leb-true}
 use borrow.Author.Needs.{needs}
 use Rattle.shared_words.specs.Conditions.{refused, accepted}
+use Rattle.shared_words.specs.Refusals.{limit}
 use Rattle.cob_rules.specs.declared.Kind.{Kind}
 use Rattle.cob_rules.specs.Fields.{field}
 use Rattle.cob_rules.specs.Kinds.{kindOf, isEnd}
 use Rattle.cob_rules.specs.Body.{bodyAt}
 use Rattle.cob_rules.specs.Layout.{Chunk, kind, size}
-use Rattle.cob_rules.specs.Rules.{limit}
 use Rattle.cob_rules.specs.Walk.{fileConditions, chunkConditions, endConditions, Verdict, withChunk, chunkAt, goOn, step, run, walk, verdict}
 use Rattle.cob_rules.proofs.Body.{body-whole}
 use Rattle.claim_numbers.proofs.Conditions.{PlacedTo, placed}

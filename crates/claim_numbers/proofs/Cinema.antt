@@ -6,8 +6,8 @@ use borrow.Author.Needs.{needs}
 use lib.ListN.{length}
 use Rattle.shared_words.specs.Conditions.{Answer, refused, accepted}
 use Rattle.shared_words.specs.Encodings.{Encoding}
+use Rattle.shared_words.specs.Refusals.{limit}
 use Rattle.c4d_rules.specs.Layout.{Layout}
-use Rattle.c4d_rules.specs.Rules.{limit}
 use Rattle.c4d_rules.specs.Walk.{verdict}
 use Rattle.c4d_rules.specs.Gives.{Object, objects}
 use Rattle.c4d_rules.specs.Calls.{roomConditions, checkOf, objectsOf, listOf, objectsCall, c4dCheckCall, c4dListCall}

@@ -9,11 +9,12 @@ use mathlib.Core.Option.{Option, none, some}
 use lib.Dec.{eqb}
 use lib.ListN.{length, length-append}
 use Rattle.shared_words.specs.Conditions.{accepted}
+use Rattle.shared_words.specs.Refusals.{limit}
 use Rattle.shared_flat.specs.Flat.{Obeys, records}
 use Rattle.c4d_rules.specs.Blocks.{Block, size, blockBytes, allBytes, itself}
 use Rattle.c4d_rules.specs.Kinds.{Kind, Platform, Materials, Objects, Other, tEnd, tObject, tTexture}
 use Rattle.c4d_rules.specs.Layout.{Inside, plain, subs, Layout, kind, insideBytes, block}
-use Rattle.c4d_rules.specs.Rules.{Open, soFar, objectId, withOne, afterObject, ObjectRules, Before, start, after, InsideObeys, ChunkRules, material, limit}
+use Rattle.c4d_rules.specs.Rules.{Open, soFar, objectId, withOne, afterObject, ObjectRules, Before, start, after, InsideObeys, ChunkRules, material}
 use Rattle.c4d_rules.specs.Walk.{verdict}
 use Rattle.c4d_rules.specs.Gives.{Object, materialsOf, objectAt, objectsFrom, objectsInside, cinema, objects}
 use Rattle.c4d_rules.specs.Calls.{allMaterials}

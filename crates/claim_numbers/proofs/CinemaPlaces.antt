@@ -8,9 +8,10 @@ use lib.ListN.{length, take, drop, length-take, length-drop}
 use borrow.Author.Tests.{leb-true}
 use borrow.Author.Needs.{needs}
 use Rattle.shared_words.specs.Conditions.{Answer, refused, accepted}
+use Rattle.shared_words.specs.Refusals.{limit}
 use Rattle.c4d_rules.specs.Blocks.{Block, width, told, size}
 use Rattle.c4d_rules.specs.Kinds.{Kind, Platform, Materials, Objects, Other}
-use Rattle.c4d_rules.specs.Rules.{Before, start, limit}
+use Rattle.c4d_rules.specs.Rules.{Before, start}
 use Rattle.c4d_rules.specs.Read.{Grammar, blockAt, blockConditions, withMore, taken, run, walk}
 use Rattle.c4d_rules.specs.Walk.{materialConditions, materialGrammar, objectConditions, objectGrammar, chunkConditions, withSubs, lookInside, blockKind, chunkGrammar, fileConditions, verdict}
 use Rattle.claim_numbers.proofs.Conditions.{PlacesTo, PlacedTo, placed}

@@ -16,7 +16,7 @@ use Rattle.shared_words.specs.Lists.{All}
 use Rattle.shared_words.proofs.Bools.{and-parts}
 use Rattle.slip_rules.specs.declared.Numbers.{Numbers}
 use Rattle.slip_rules.specs.Slip.{Entry, behindName, entryBytes, entrySize, allBytes, bytes}
-use Rattle.slip_rules.specs.Rules.{isNamed, remember, limit}
+use Rattle.slip_rules.specs.Rules.{isNamed, remember, mostEntries}
 use Rattle.slip_rules.specs.Conditions.{labelConditions}
 use Rattle.slip_rules.specs.Walk.{headConditions, Entries, withEntry, entryAt, walkConditions, behind, goOn, walk, labelled, verdict}
 use Rattle.slip_rules.specs.Calls.{entryFrom, entriesFrom, Given, rowConditions, oneOn, writeConditions}
@@ -41,13 +41,13 @@ one-more n e es h f = record { count = omega (arith, f .count); short = (h, f .s
 
 -- the bytes of the longest
 abbrev pub most : ℕ
-most = 7 + 262 * limit
+most = 7 + 262 * mostEntries
 
 all-short : (es : List Entry) → All Short es → length (allBytes es) ≤ 262 * length es
 all-short [] h = omega arith
 all-short (e ∷ es) h = omega (arith, h .0, all-short es (h .1), length-append (entryBytes e) (allBytes es), length-append (e .name) (behindName e))
 
-bytes-few : (es : List Entry) → Few limit es → length (bytes es) ≤ most
+bytes-few : (es : List Entry) → Few mostEntries es → length (bytes es) ≤ most
 bytes-few es f = omega (arith, f .count, all-short es (f .short))
 
 -- ---- the labels, with offsets or with numbers for places
@@ -74,37 +74,37 @@ walk-to m (suc n) seen o s l =
     let h = named-short e (t .1 .0) in
     with-to m n e (walk n (remember seen e) (behind o e) left) h (walk-to m n (remember seen e) (behind o e) left (omega arith)))
 
-labelled-to : (n : ℕ) → n ≤ limit → (a : Entries) → AnswerTo most (Few n) a → AnswerTo most (Few limit) (labelled a)
+labelled-to : (n : ℕ) → n ≤ mostEntries → (a : Entries) → AnswerTo most (Few n) a → AnswerTo most (Few mostEntries) (labelled a)
 labelled-to n l (refused r) h = h
 labelled-to n l (accepted es) h =
-    let f : Few limit es = record { count = omega (arith, h .count); short = h .short } in
-    unless-to (Few limit) most (labelConditions behind 7 es []) (accepted es)
-    (labels-asked behind (λ o e k. omega arith) most (Few limit es) [] 7 es (h .short) (omega (arith, f .count)) f)
+    let f : Few mostEntries es = record { count = omega (arith, h .count); short = h .short } in
+    unless-to (Few mostEntries) most (labelConditions behind 7 es []) (accepted es)
+    (labels-asked behind (λ o e k. omega arith) most (Few mostEntries es) [] 7 es (h .short) (omega (arith, f .count)) f)
 
-pub verdict-to : (s : List ℕ) → AnswerTo most (Few limit) (verdict s)
+pub verdict-to : (s : List ℕ) → AnswerTo most (Few mostEntries) (verdict s)
 unfolding verdict
 verdict-to s =
     let n = beAt 5 2 s in
     let left = drop 7 s in
-    unless-met (Few limit) most (headConditions s) (labelled (walk n [] 7 left)) (search needs)
+    unless-met (Few mostEntries) most (headConditions s) (labelled (walk n [] 7 left)) (search needs)
     (λ t.
-    let l = leb-true n limit (t .1 .1 .1 .0) in
+    let l = leb-true n mostEntries (t .1 .1 .1 .0) in
     labelled-to n l (walk n [] 7 left) (walk-to most n [] 7 left (omega arith)))
 
 -- ---- the writer
 
 -- k more may follow the i before
 module _ (names : List ℕ) (P : Type 0) (later : List Condition) where
-  rows-asked : (k : ℕ) (seen : List (List ℕ)) (i : ℕ) (ns : List Numbers) → i + k ≡ limit → (Few k (entriesFrom names ns) → Asked most P later) → Asked most P (rowConditions names seen i ns later)
+  rows-asked : (k : ℕ) (seen : List (List ℕ)) (i : ℕ) (ns : List Numbers) → i + k ≡ mostEntries → (Few k (entriesFrom names ns) → Asked most P later) → Asked most P (rowConditions names seen i ns later)
   rows-asked k seen i [] q h = h record { count = omega arith; short = tt }
-  rows-asked zero seen i (n ∷ ns) q h = (λ _. omega arith, λ t. absurd (omega (arith, ltb-true i limit t)))
+  rows-asked zero seen i (n ∷ ns) q h = (λ _. omega arith, λ t. absurd (omega (arith, ltb-true i mostEntries t)))
   rows-asked (suc k) seen i (n ∷ ns) q h =
       let e = entryFrom names n in
       let more = rows-asked k (remember seen e) (suc i) ns (omega arith) in
       (λ _. omega arith, λ _. (λ _. omega arith, λ _. (λ _. omega arith, λ t. (λ _. omega arith, λ _. (λ _. omega arith, λ _. more (λ f. h (one-more k e (entriesFrom names ns) (named-short e t) f)))))))
 
 pub written-to : (names : List ℕ) (g : Given) (room : ℕ) → Ends most (length (bytes (entriesFrom names (g .rows))) ≤ most) (broken (writeConditions names g room))
-written-to names g room = asked Fits most (writeConditions names g room) (rows-asked names Fits last limit [] 0 (g .rows) (omega arith) after-rows)
+written-to names g room = asked Fits most (writeConditions names g room) (rows-asked names Fits last mostEntries [] 0 (g .rows) (omega arith) after-rows)
   where
     es : List Entry
     es = entriesFrom names (g .rows)
@@ -118,7 +118,7 @@ written-to names g room = asked Fits most (writeConditions names g room) (rows-a
     last : List Condition
     last = must (not (g .part)) (Slip (length (g .rows))) ∷ labelConditions oneOn 0 es room-last
 
-    after-rows : Few limit es → Asked most Fits last
+    after-rows : Few mostEntries es → Asked most Fits last
     after-rows f =
         let n = f .count in
         let b = bytes-few es f in

@@ -20,7 +20,7 @@ use Rattle.slip_sums.specs.Passes.{sumsCall, matchOf}
 use Rattle.slip_rules.specs.declared.Numbers.{Numbers}
 use Rattle.slip_rules.specs.declared.Found.{Found}
 use Rattle.slip_rules.specs.Slip.{bytes}
-use Rattle.slip_rules.specs.Rules.{limit}
+use Rattle.slip_rules.specs.Rules.{mostEntries}
 use Rattle.slip_rules.specs.Walk.{Entries, verdict}
 use Rattle.slip_rules.specs.Calls.{readOf, slipReadCall, entriesFrom, writeConditions, writeOf, slipWriteCall}
 use Rattle.c_codes.specs.Codes.{sizeOr}
@@ -44,7 +44,7 @@ match-told sum l first second =
 
 -- ---- the slip
 
-read-told : (e : Encoding Numbers ℕ) (row : List ℕ) (a : Entries) → AnswerTo most (Few limit) a → EntriesTold (readOf e row a .answer) (entriesOr (readOf e row a .answer))
+read-told : (e : Encoding Numbers ℕ) (row : List ℕ) (a : Entries) → AnswerTo most (Few mostEntries) a → EntriesTold (readOf e row a .answer) (entriesOr (readOf e row a .answer))
 read-told e row (refused r) h = tells r (omega arith)
 read-told e row (accepted es) h =
     let n = h .count in

@@ -12,11 +12,12 @@ use lib.ListN.{length, getElem?}
 use borrow.Author.Tests.{leb-true}
 use Rattle.shared_words.specs.declared.Refusal.{Refusal}
 use Rattle.shared_words.specs.declared.Refusal.the-variants.{NoRoom, NoSuchMesh, Empty}
-use Rattle.shared_words.specs.Refusals.{placeOf}
+use Rattle.shared_words.specs.Refusals.{limit, placeOf}
 use Rattle.shared_words.specs.Bytes.{Bytes}
 use Rattle.shared_words.specs.Conditions.{Answer, refused, accepted, broken}
 use Rattle.shared_words.specs.Effects.{Effect, leaving}
 use Rattle.shared_words.specs.Encodings.{Encoding}
+use Rattle.shared_words.specs.Picked.{pickMesh}
 use Rattle.shared_words.proofs.Conditions.{met}
 use Rattle.studio_rules.specs.declared.Record.{Record}
 use Rattle.studio_rules.specs.declared.Checked.{Checked}
@@ -25,11 +26,10 @@ use Rattle.studio_rules.specs.declared.Named.{Named}
 use Rattle.studio_rules.specs.declared.Boxed.{Boxed}
 use Rattle.studio_rules.specs.declared.Counted.{Counted}
 use Rattle.studio_rules.specs.Layout.{Run, figure, size}
-use Rattle.studio_rules.specs.Rules.{limit}
 use Rattle.studio_rules.specs.Walk.{verdict}
 use Rattle.studio_rules.specs.Gives.{recordCount, headers, owned, skipped, Mesh, meshes, parts}
 use Rattle.studio_rules.specs.Box.{boxOf, centreOf}
-use Rattle.studio_rules.specs.Calls.{checkOf, checkCall, listOf, listCall, pickMesh, ofMesh, Rows, Tables, fits, sizesOf, tablesOf, tablesCall, nameOf, nameCall, aroundOf, boxCall, allOf}
+use Rattle.studio_rules.specs.Calls.{checkOf, checkCall, listOf, listCall, ofMesh, Rows, Tables, fits, sizesOf, tablesOf, tablesCall, nameOf, nameCall, aroundOf, boxCall, allOf}
 use Rattle.studio_counted.proofs.All.{all-parts}
 use Rattle.studio_meshes_rules.specs.Standing.{standing}
 use Rattle.studio_meshes_rules.specs.Calls.{meshesCall}

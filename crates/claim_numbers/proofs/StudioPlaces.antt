@@ -10,14 +10,14 @@ use lib.ListN.{length, take, drop, length-take, length-drop}
 use borrow.Author.Tests.{leb-true, leb-false}
 use borrow.Author.Needs.{needs}
 use Rattle.shared_words.specs.declared.Refusal.{Refusal}
-use Rattle.shared_words.specs.Refusals.{placeOf}
+use Rattle.shared_words.specs.Refusals.{limit, placeOf}
 use Rattle.shared_words.specs.Bytes.{value}
 use Rattle.shared_words.specs.Conditions.{broken, Answer, refused, accepted}
 use Rattle.shared_words.proofs.Conditions.{met}
 use Rattle.studio_rules.specs.Table.{listed, shape}
 use Rattle.studio_rules.specs.OwnData.{ownSize}
 use Rattle.studio_rules.specs.Layout.{Run, end, skip, known, figure, size, offsetOf}
-use Rattle.studio_rules.specs.Rules.{Parent, inside, limit}
+use Rattle.studio_rules.specs.Rules.{Parent, inside}
 use Rattle.studio_rules.specs.Walk.{Step, stop, pass, enter, fileConditions, headerConditions, childConditions, endConditions, opened, sorted, parted, lengthField, step, ended, withSkip, withKnown, taken, run, walk, versionIn, top, figureAt, verdict}
 use Rattle.claim_numbers.proofs.Conditions.{Asked, asked, PlaceTo, broken-to, AnswerTo, unless-to, unless-met}
 

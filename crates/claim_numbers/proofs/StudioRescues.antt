@@ -8,12 +8,11 @@ use native.Mathlib.Omega.{arith}
 use lib.ListN.{length, length-append, length-drop}
 use borrow.Author.Tests.{leb-true}
 use Rattle.shared_words.specs.declared.Refusal.{Refusal}
-use Rattle.shared_words.specs.Refusals.{placeOf}
+use Rattle.shared_words.specs.Refusals.{limit, placeOf}
 use Rattle.shared_words.specs.Bytes.{Bytes}
 use Rattle.shared_words.specs.Conditions.{broken, Answer, refused, accepted}
 use Rattle.shared_words.proofs.Conditions.{met}
 use Rattle.studio_rules.specs.Layout.{Run, header, size, bytes}
-use Rattle.studio_rules.specs.Rules.{limit}
 use Rattle.studio_rules.specs.Walk.{fileConditions, lengthField, walk, top, verdict}
 use Rattle.studio_rules.proofs.Sound.{length-bytes}
 use Rattle.studio_scene.specs.Passed.{passed}

@@ -3,8 +3,7 @@ use mathlib.Core.Path.{_≡_, _∙_}
 use Prim.Native.Nat.{ℕ, _+_, _-_, _*_, _/_, _%_, _≤_, _<_, _^_, min}
 use native.Mathlib.Omega.{arith}
 use Rattle.shared_words.specs.declared.Refusal.{Refusal}
-use Rattle.shared_words.specs.Refusals.{numberOf, placeOf}
-use Rattle.studio_rules.specs.Rules.{limit}
+use Rattle.shared_words.specs.Refusals.{limit, numberOf, placeOf}
 use Rattle.c_codes.specs.Codes.{refusalCode}
 use Rattle.claim_numbers.specs.Tells.{Tells, TellsCapped}
 

@@ -10,10 +10,11 @@ use lib.ListN.{length, length-append, length-map, getElem?}
 use borrow.Author.Tests.{ltb-true, ltb-false}
 use Rattle.shared_words.specs.declared.Refusal.{Refusal}
 use Rattle.shared_words.specs.declared.Refusal.the-variants.{NoSuchMesh}
+use Rattle.shared_words.specs.Picked.{pickMesh}
 use Rattle.studio_rules.specs.Layout.{Run}
 use Rattle.shared_words.specs.Conditions.{accepted}
 use Rattle.studio_rules.specs.Gives.{Mesh, meshes}
-use Rattle.studio_rules.specs.Calls.{pickMesh, ofMesh}
+use Rattle.studio_rules.specs.Calls.{ofMesh}
 use Rattle.studio_rules.proofs.At.{at-back}
 use Rattle.claim_swapped.specs.Swapped.{exchanged}
 

@@ -8,11 +8,12 @@ use mathlib.Core.Option.{Option, none, some}
 use lib.Dec.{eqb}
 use lib.ListN.{length, take, drop, length-append, getElem?}
 use lib.Seq.{drop-at, take-append-le}
+use Rattle.shared_words.specs.Picked.{pickMesh}
 use Rattle.studio_rules.specs.declared.Named.{Named}
 use Rattle.studio_rules.specs.Layout.{Run, end, skip, known, figure, header, size, bytes, _then_}
 use Rattle.shared_words.specs.Conditions.{Answer, refused, accepted}
 use Rattle.studio_rules.specs.Gives.{Mesh, meshOf, oneMesh, meshesOf, meshes}
-use Rattle.studio_rules.specs.Calls.{pickMesh, ofMesh, nameOf}
+use Rattle.studio_rules.specs.Calls.{ofMesh, nameOf}
 use Rattle.studio_rules.proofs.Sound.{length-bytes}
 use Rattle.studio_scene.specs.Scene.{holding}
 use Rattle.claim_swapped.specs.Names.{no, letters, lettersAt}

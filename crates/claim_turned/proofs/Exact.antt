@@ -6,10 +6,11 @@ use native.Mathlib.Omega.{arith}
 use mathlib.Core.Bool.{Bool, true, false, _||_}
 use mathlib.Core.List.{List, []}
 use lib.ListN.{length}
+use Rattle.shared_words.specs.Refusals.{limit}
 use Rattle.studio_rules.specs.declared.Record.{Record}
 use Rattle.studio_rules.specs.Table.{plus}
 use Rattle.studio_rules.specs.Layout.{Run, known, figure, size, bytes, withLength}
-use Rattle.studio_rules.specs.Rules.{file, limit, noChild, version, Meets}
+use Rattle.studio_rules.specs.Rules.{file, noChild, version, Meets}
 use Rattle.shared_words.specs.Conditions.{accepted}
 use Rattle.studio_rules.specs.Walk.{verdict}
 use Rattle.studio_rules.specs.Parses.{inFile}

@@ -6,8 +6,7 @@ use mathlib.Core.List.{List}
 use mathlib.Core.Option.{Option, none, some}
 use lib.Dec.{leb}
 use lib.ListN.{length, take, drop}
-use Rattle.shared_words.specs.Bytes.{value}
-use Rattle.cob_rules.specs.Fields.{negative}
+use Rattle.shared_words.specs.Bytes.{value, negative}
 use Rattle.cob_rules.specs.Body.{Reading}
 use Rattle.cob_body.specs.declared.Place.{Place}
 use Rattle.cob_body.specs.declared.Counted.{Counted}

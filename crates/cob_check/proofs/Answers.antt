@@ -11,9 +11,9 @@ use Rattle.shared_words.specs.declared.Refusal.{Refusal}
 use Rattle.shared_words.specs.declared.Refusal.the-variants.{TooLong, Header}
 use Rattle.shared_words.specs.Lists.{same}
 use Rattle.shared_words.specs.Conditions.{broken, refused, accepted}
+use Rattle.shared_words.specs.Refusals.{limit}
 use Rattle.cob_rules.specs.declared.Answered.{Answered}
 use Rattle.cob_rules.specs.Layout.{Layout, fileHeader}
-use Rattle.cob_rules.specs.Rules.{limit}
 use Rattle.cob_rules.specs.Walk.{Verdict, walk, verdict}
 use Rattle.cob_rules.specs.Calls.{checkOf}
 use Rattle.shared_tree.proofs.Search.{zeros}

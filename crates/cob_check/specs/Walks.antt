@@ -4,8 +4,8 @@ use Prim.Native.Nat.{ℕ, suc, _*_, _≤_}
 use mathlib.Core.List.{List}
 use lib.ListN.{length, getD}
 use Rattle.shared_words.specs.Conditions.{refused, accepted}
+use Rattle.shared_words.specs.Refusals.{limit}
 use Rattle.cob_rules.specs.Layout.{Layout}
-use Rattle.cob_rules.specs.Rules.{limit}
 use Rattle.cob_rules.specs.Walk.{Verdict}
 use Rattle.cob_rules.specs.Gives.{list}
 use Rattle.cob_rules.specs.Theorems.{seenIn}

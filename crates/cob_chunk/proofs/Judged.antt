@@ -8,14 +8,14 @@ use lib.Dec.{eqb, leb}
 use lib.ListN.{length, take, drop, length-drop}
 use lib.Seq.{drop-cons, drop-drop, drop-length, length-take-le}
 use borrow.Author.Tests.{ne-eqb, eq-eqb, le-leb, lt-leb, leb-true}
+use Rattle.shared_words.specs.Bytes.{minusOne, negative}
 use Rattle.shared_words.proofs.Bools.{or-second}
 use Rattle.cob_rules.specs.declared.Kind.{Kind}
-use Rattle.cob_rules.specs.Fields.{negative}
 use Rattle.cob_rules.specs.Kinds.{isMesh, tellsEnd, parts}
 use Rattle.cob_rules.specs.Body.{behindAll, exact, upTo, bodyAt}
 use Rattle.cob_rules.specs.Mesh.{allFinite, faceFirst, facesOf, allBelow}
 use Rattle.cob_rules.specs.Layout.{Chunk, kind, sizeField, size}
-use Rattle.cob_rules.specs.Rules.{minusOne, sizeAllowed}
+use Rattle.cob_rules.specs.Rules.{sizeAllowed}
 use Rattle.cob_rules.specs.Walk.{chunkAt}
 use Rattle.cob_rules.proofs.Body.{told-exactly}
 use Rattle.cob_body.specs.declared.Place.{Place}

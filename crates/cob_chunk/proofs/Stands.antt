@@ -7,8 +7,8 @@ use lib.Dec.{leb}
 use lib.ListN.{length, take, drop, length-append, length-drop}
 use lib.Seq.{drop-drop, drop-at, take-at}
 use borrow.Author.Tests.{le-leb}
+use Rattle.shared_words.specs.Bytes.{negative}
 use Rattle.shared_words.proofs.Bools.{or-else}
-use Rattle.cob_rules.specs.Fields.{negative}
 use Rattle.cob_rules.specs.Layout.{Chunk, sizeField, size, chunkBytes}
 use Rattle.cob_rules.specs.Rules.{Lawful}
 use Rattle.cob_rules.specs.Walk.{chunkAt}

@@ -5,8 +5,8 @@ use mathlib.Core.Bool.{true, _&&_, _||_, cond}
 use mathlib.Core.List.{List}
 use lib.Dec.{eqb, leb}
 use lib.ListN.{length, drop}
+use Rattle.shared_words.specs.Bytes.{negative}
 use Rattle.cob_rules.specs.declared.Kind.{Kind}
-use Rattle.cob_rules.specs.Fields.{negative}
 use Rattle.cob_rules.specs.Kinds.{isMesh}
 use Rattle.cob_rules.specs.Body.{exact}
 use Rattle.cob_rules.specs.Mesh.{allFinite, faceFirst, facesOf, allBelow}

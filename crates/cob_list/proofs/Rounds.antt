@@ -7,9 +7,10 @@ use mathlib.Core.List.{List, [], _∷_}
 use lib.ListN.{length, getD, set, length-set}
 use Rattle.shared_words.specs.Effects.{filled}
 use Rattle.shared_words.specs.Lists.{total}
+use Rattle.shared_words.specs.Refusals.{limit}
 use Rattle.cob_rules.specs.Layout.{Chunk, kind, parent, size, Layout}
 use Rattle.cob_rules.specs.Kinds.{listed}
-use Rattle.cob_rules.specs.Rules.{AllPlaced, limit, Meets}
+use Rattle.cob_rules.specs.Rules.{AllPlaced, Meets}
 use Rattle.cob_rules.specs.Gives.{list}
 use Rattle.cob_rules.specs.Calls.{recordBytes}
 use Rattle.cob_rules.proofs.Verdict.{accepted-exactly, one-accepted}

@@ -10,9 +10,8 @@ use lib.Dec.{leb, ltb}
 use lib.ListN.{length, take, drop, getD, length-drop, drop-of-length-le}
 use lib.Seq.{drop-cons, drop-drop}
 use borrow.Author.Tests.{leb-true, leb-false, ltb-true, ltb-false, not-true}
-use Rattle.shared_words.specs.Bytes.{value}
+use Rattle.shared_words.specs.Bytes.{value, negative}
 use Rattle.shared_words.proofs.Bools.{and-parts}
-use Rattle.cob_rules.specs.Fields.{negative}
 use Rattle.cob_rules.specs.Body.{skip, counted, hole, face, faceRun, fits}
 use Rattle.cob_rules.specs.Mesh.{cornersAt, facesAt}
 use Rattle.cob_rules.proofs.Body.{skip-left, counted-left, then-left}

@@ -9,10 +9,9 @@ use lib.Dec.{leb}
 use lib.ListN.{length, take, drop, length-drop}
 use lib.Seq.{drop-drop}
 use borrow.Author.Tests.{leb-true}
-use Rattle.shared_words.specs.Bytes.{value}
+use Rattle.shared_words.specs.Bytes.{value, negative}
 use Rattle.shared_words.proofs.Bools.{and-parts}
 use Rattle.cob_rules.specs.declared.Kind.{Kind}
-use Rattle.cob_rules.specs.Fields.{negative}
 use Rattle.cob_rules.specs.Kinds.{Part, times, faces, group, vertices, textures, parts}
 use Rattle.cob_rules.specs.Body.{skip, faceRun, behind, behindAll, exact}
 use Rattle.cob_rules.specs.Mesh.{countOf}

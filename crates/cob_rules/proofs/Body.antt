@@ -10,8 +10,7 @@ use lib.Dec.{leb}
 use lib.ListN.{length, take, drop, length-append, take-append-drop, drop-of-length-le}
 use lib.Seq.{drop-append-le, length-take-le, take-at, drop-at, drop-length}
 use borrow.Author.Tests.{leb-true, le-leb}
-use Rattle.shared_words.specs.Bytes.{value}
-use Rattle.cob_rules.specs.Fields.{negative}
+use Rattle.shared_words.specs.Bytes.{value, negative}
 use Rattle.cob_rules.specs.declared.Kind.{Kind}
 use Rattle.cob_rules.specs.declared.Kind.the-variants.{End, Grou, PolH, Mat1, Other}
 use Rattle.shared_words.proofs.Bools.{and-parts}

@@ -10,14 +10,14 @@ use lib.ListN.{length, take, drop, length-append}
 use lib.Seq.{take-at, drop-at}
 use lib.Dec.{eqb, leb}
 use borrow.Author.Tests.{le-leb, eqb-true}
-use Rattle.cob_rules.specs.Fields.{negative}
+use Rattle.shared_words.specs.Bytes.{minusOne, negative}
 use Rattle.shared_words.specs.Conditions.{broken, accepted}
 use Rattle.shared_words.proofs.Bools.{and-parts, or-else, or-second}
 use Rattle.shared_words.proofs.Conditions.{unbroken}
 use Rattle.cob_rules.specs.Kinds.{isEnd, tellsEnd, parts}
 use Rattle.cob_rules.specs.Body.{behindAll, upTo, bodyAt}
 use Rattle.cob_rules.specs.Layout.{Chunk, kind, sizeField, size, chunkBytes, allBytes}
-use Rattle.cob_rules.specs.Rules.{minusOne, Lawful, ownerKnown, AllPlaced}
+use Rattle.cob_rules.specs.Rules.{Lawful, ownerKnown, AllPlaced}
 use Rattle.cob_rules.specs.Walk.{Verdict, chunkConditions, chunkAt, goOn, step, run}
 use Rattle.cob_rules.proofs.Body.{body-told}
 

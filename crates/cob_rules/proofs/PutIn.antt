@@ -8,7 +8,8 @@ use mathlib.Core.List.{List, [], _∷_}
 use lib.Dec.{eqb}
 use lib.ListN.{length, length-append}
 use borrow.Author.Tests.{eq-eqb, ne-eqb, lt-leb}
-use Rattle.cob_rules.specs.Fields.{negative}
+use Rattle.shared_words.specs.Refusals.{limit}
+use Rattle.shared_words.specs.Bytes.{negative}
 use Rattle.cob_rules.specs.declared.Kind.{Kind}
 use Rattle.cob_rules.specs.declared.Kind.the-variants.{End, Grou, PolH, Mat1, Other}
 use Rattle.shared_words.specs.Lists.{All, Pairwise, total}
@@ -21,7 +22,7 @@ use Rattle.cob_rules.specs.declared.Record.{Record}
 use Rattle.cob_rules.specs.Kinds.{listed, isMesh}
 use Rattle.cob_rules.specs.Body.{behindAll}
 use Rattle.cob_rules.specs.Layout.{Chunk, kind, identifier, parent, sizeField, size, Layout, chunkBytes, allBytes, bytes, lastAt}
-use Rattle.cob_rules.specs.Rules.{used, ownerKnown, remember, limit, Lawful, Placed, AllPlaced}
+use Rattle.cob_rules.specs.Rules.{used, ownerKnown, remember, Lawful, Placed, AllPlaced}
 use Rattle.cob_rules.specs.Gives.{oneUp, topmost, recordOf, endRecord, oneIf, caligari, meshesOf}
 use Rattle.cob_rules.specs.PutIn.{ending, Puttable, Different, SameRecord, Unchanged}
 use Rattle.cob_rules.specs.Theorems.{PutIn, TakenOut}

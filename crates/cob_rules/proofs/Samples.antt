@@ -5,8 +5,8 @@ use lib.ListN.{length}
 use Rattle.shared_words.specs.Lists.{every}
 use Rattle.shared_words.specs.Floats.{finite}
 use Rattle.shared_words.specs.Conditions.{broken}
+use Rattle.shared_words.specs.Refusals.{limit}
 use Rattle.cob_rules.specs.Body.{behindAll}
-use Rattle.cob_rules.specs.Rules.{limit}
 use Rattle.cob_rules.specs.Walk.{chunkAt, walk, verdict}
 use Rattle.cob_rules.specs.Gives.{topmost}
 use Rattle.cob_rules.specs.Samples.{Samples}

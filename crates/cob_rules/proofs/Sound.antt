@@ -9,7 +9,8 @@ use mathlib.Core.Option.{Option, none, some}
 use lib.ListN.{length, take, drop, length-drop, take-append-drop}
 use lib.Seq.{length-take-le, drop-drop}
 use borrow.Author.Tests.{leb-true, eq-eqb}
-use Rattle.cob_rules.specs.Fields.{field, negative}
+use Rattle.shared_words.specs.Bytes.{negative}
+use Rattle.cob_rules.specs.Fields.{field}
 use Rattle.shared_words.specs.Conditions.{broken, refused, accepted, unless}
 use Rattle.shared_words.proofs.Bools.{or-else, or-second}
 use Rattle.shared_words.proofs.Conditions.{Met, met}

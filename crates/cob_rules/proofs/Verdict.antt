@@ -7,10 +7,11 @@ use mathlib.Core.Option.{Option, none, some}
 use lib.ListN.{length, take, drop, take-append-drop}
 use borrow.Author.Tests.{leb-true, le-leb}
 use Rattle.shared_words.specs.Conditions.{broken, refused, accepted, unless}
+use Rattle.shared_words.specs.Refusals.{limit}
 use Rattle.shared_words.proofs.Conditions.{met, unbroken}
 use Rattle.shared_words.specs.declared.Refusal.{Refusal}
 use Rattle.cob_rules.specs.Layout.{Layout, fileHeader, chunkBytes, allBytes, bytes}
-use Rattle.cob_rules.specs.Rules.{limit, Meets}
+use Rattle.cob_rules.specs.Rules.{Meets}
 use Rattle.cob_rules.specs.Walk.{Verdict, fileConditions, walk, verdict}
 use Rattle.cob_rules.specs.Theorems.{AcceptedExactly, OneLayout}
 use Rattle.shared_words.proofs.Lists.{same-true, same-refl}

@@ -5,8 +5,7 @@ use mathlib.Core.List.{List, [], _∷_}
 use mathlib.Core.Option.{Option, none, some}
 use lib.Dec.{eqb, leb}
 use lib.ListN.{length, take, drop}
-use Rattle.shared_words.specs.Bytes.{value}
-use Rattle.cob_rules.specs.Fields.{negative}
+use Rattle.shared_words.specs.Bytes.{value, negative}
 use Rattle.shared_words.specs.Lists.{same}
 use Rattle.cob_rules.specs.declared.Kind.{Kind}
 use Rattle.cob_rules.specs.Kinds.{Part, plain, natural, times, faces, optional, anything, parts}

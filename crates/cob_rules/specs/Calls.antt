@@ -3,15 +3,15 @@
 use Prim.Native.Nat.{ℕ, _/_}
 use mathlib.Core.Bool.{cond}
 use mathlib.Core.List.{List, [], _∷_}
-use mathlib.Core.Option.{Option, none, some}
 use lib.Dec.{leb}
 use lib.ListN.{length, getElem?}
 use Rattle.shared_words.specs.declared.Refusal.{Refusal}
-use Rattle.shared_words.specs.declared.Refusal.the-variants.{NoRoom, NoSuchMesh}
+use Rattle.shared_words.specs.declared.Refusal.the-variants.{NoRoom}
 use Rattle.shared_words.specs.Bytes.{packed}
 use Rattle.shared_words.specs.Conditions.{refused, accepted}
 use Rattle.shared_words.specs.Effects.{Effect, leaving, filled}
 use Rattle.shared_words.specs.Encodings.{Encoding}
+use Rattle.shared_words.specs.Picked.{pickMesh}
 use Rattle.cob_rules.specs.declared.Record.{Record}
 use Rattle.cob_rules.specs.declared.Answered.{Answered}
 use Rattle.cob_rules.specs.Walk.{Verdict, verdict}
@@ -52,11 +52,6 @@ unfoldable pub listCall : Encoding Record ℕ → List ℕ → List ℕ → Effe
 listCall e s row = listOf e row (verdict s)
 
 -- ---- one mesh
-
--- the mesh of a number, among those of a figure; 16 refuses the number, not the file
-abbrev pub pickMesh : {A : Type 0} → (Refusal → A) → (Mesh → A) → ℕ → Option Mesh → A
-pickMesh refuse use-it meshes none = refuse (NoSuchMesh meshes)
-pickMesh refuse use-it meshes (some m) = use-it m
 
 abbrev pub ofMesh : {A : Type 0} → (Refusal → A) → (Mesh → A) → ℕ → Verdict → A
 ofMesh refuse use-it mesh (refused r) = refuse r

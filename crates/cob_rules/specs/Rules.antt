@@ -5,7 +5,8 @@ use mathlib.Core.Bool.{Bool, true, false, not, _&&_, _||_, cond}
 use mathlib.Core.List.{List, [], _∷_}
 use lib.Dec.{eqb}
 use lib.ListN.{length}
-use Rattle.cob_rules.specs.Fields.{negative}
+use Rattle.shared_words.specs.Refusals.{limit}
+use Rattle.shared_words.specs.Bytes.{minusOne, negative}
 use Rattle.shared_flat.specs.Flat.{Obeys}
 use Rattle.cob_rules.specs.Kinds.{isEnd, isMesh, tellsEnd}
 use Rattle.cob_rules.specs.Body.{exact}
@@ -15,9 +16,6 @@ use Rattle.cob_rules.specs.Layout.{Chunk, kind, identifier, parent, size
 -- ---- the rules of one chunk
 
 -- "A size of -1 is allowed for END, Grou and PolH ...; every other negative size is refused."
-abbrev pub minusOne : ℕ
-minusOne = 0xFFFF_FFFF
-
 abbrev pub sizeAllowed : Chunk → Bool
 sizeAllowed c = not (negative 4 (sizeField c)) || (eqb (sizeField c) minusOne && tellsEnd (kind c))
 
@@ -90,10 +88,6 @@ remember seen c = c ∷ seen
 
 abbrev pub AllPlaced : List Chunk → List Chunk → Type 0
 AllPlaced = Obeys remember Placed
-
--- the longest file
-abbrev pub limit : ℕ
-limit = 1_048_576
 
 -- THE FILE s MEETS THE RULES, with the layout l
 pub record Meets (s : List ℕ) (l : Layout) : Type 0 where

@@ -4,14 +4,13 @@ use mathlib.Core.Path.{_≡_}
 use Prim.Native.Nat.{ℕ, _<_}
 use mathlib.Core.List.{List, [], _∷_, _++_}
 use lib.ListN.{length, take, drop, set, replicate}
-use Rattle.shared_words.specs.Refusals.{codeOf}
+use Rattle.shared_words.specs.Refusals.{limit, codeOf}
 use Rattle.shared_words.specs.Conditions.{refused, accepted}
-use Rattle.shared_words.specs.Bytes.{le, packed}
+use Rattle.shared_words.specs.Bytes.{le, packed, minusOne}
 use Rattle.cob_rules.specs.declared.Record.{Record}
 use Rattle.shared_words.specs.declared.Refusal.the-variants.{TooLong}
 use Rattle.cob_rules.specs.Kinds.{endType, grouType, polhType, mat1Type}
 use Rattle.cob_rules.specs.Layout.{fileHeader}
-use Rattle.cob_rules.specs.Rules.{limit, minusOne}
 use Rattle.cob_rules.specs.Walk.{Verdict, verdict}
 use Rattle.cob_rules.specs.Gives.{list, Mesh, meshes}
 

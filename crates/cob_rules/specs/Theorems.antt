@@ -5,6 +5,7 @@ use Prim.Native.Nat.{ℕ, _≤_}
 use mathlib.Core.Bool.{true}
 use mathlib.Core.List.{List, []}
 use lib.ListN.{length}
+use Rattle.shared_words.specs.Refusals.{limit}
 use Rattle.cob_rules.specs.declared.Kind.{Kind}
 use Rattle.shared_words.specs.Conditions.{accepted}
 use Rattle.shared_words.specs.Lists.{All}
@@ -13,7 +14,7 @@ use Rattle.shared_flat.specs.Put.{Mark, without, with}
 use Rattle.cob_rules.specs.Kinds.{tellsEnd, parts}
 use Rattle.cob_rules.specs.Body.{behindAll, fits, exact, upTo}
 use Rattle.cob_rules.specs.Layout.{Chunk, Layout, bytes}
-use Rattle.cob_rules.specs.Rules.{remember, limit, Meets}
+use Rattle.cob_rules.specs.Rules.{remember, Meets}
 use Rattle.cob_rules.specs.Walk.{verdict}
 use Rattle.cob_rules.specs.Gives.{caligari}
 use Rattle.cob_rules.specs.Owners.{WayUp, Owned}

@@ -5,14 +5,16 @@ use mathlib.Core.Bool.{Bool, true, false, _||_}
 use mathlib.Core.List.{List, [], _∷_}
 use lib.Dec.{leb}
 use lib.ListN.{length, take, drop}
-use Rattle.cob_rules.specs.Fields.{field, negative}
+use Rattle.shared_words.specs.Refusals.{limit}
+use Rattle.shared_words.specs.Bytes.{negative}
+use Rattle.cob_rules.specs.Fields.{field}
 use Rattle.shared_words.specs.Lists.{same}
 use Rattle.shared_words.specs.declared.Refusal.the-variants.{TooLong, Header, Trailing, Overrun, Owner, Size, Length, Number, Index, Missing}
 use Rattle.shared_words.specs.Conditions.{Condition, must, broken, Answer, refused, accepted, unless}
 use Rattle.cob_rules.specs.Kinds.{kindOf, isEnd}
 use Rattle.cob_rules.specs.Body.{bodyAt}
 use Rattle.cob_rules.specs.Layout.{Chunk, kind, sizeField, size, Layout, fileHeader}
-use Rattle.cob_rules.specs.Rules.{limit, ownerKnown, sizeAllowed, bodyExact, numbersFinite, holesInFaces, indicesBelow}
+use Rattle.cob_rules.specs.Rules.{ownerKnown, sizeAllowed, bodyExact, numbersFinite, holesInFaces, indicesBelow}
 
 -- ---- conditions in order
 

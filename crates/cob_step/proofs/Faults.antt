@@ -11,8 +11,8 @@ use lib.Seq.{getD-set-same, getD-set-other}
 use borrow.Author.Tests.{leb-true, eqb-true, eqb-false, eq-eqb, ne-eqb}
 use Rattle.shared_words.specs.declared.Refusal.the-variants.{Overrun, Owner, Size, Length, Number, Index}
 use Rattle.shared_words.specs.Conditions.{must, broken}
+use Rattle.shared_words.specs.Bytes.{negative}
 use Rattle.shared_words.proofs.Bools.{and-parts}
-use Rattle.cob_rules.specs.Fields.{negative}
 use Rattle.cob_rules.specs.Kinds.{isEnd}
 use Rattle.cob_rules.specs.Layout.{Chunk, kind, identifier, parent, sizeField}
 use Rattle.cob_rules.specs.Rules.{used, ownerKnown, sizeAllowed, bodyExact, numbersFinite, holesInFaces, indicesBelow}

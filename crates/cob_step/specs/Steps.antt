@@ -9,7 +9,7 @@ use lib.ListN.{length, drop, getD}
 use Rattle.shared_words.specs.declared.Refusal.{Refusal}
 use Rattle.shared_words.specs.declared.Refusal.the-variants.{Size, Length, Number, Index}
 use Rattle.shared_words.specs.Conditions.{broken}
-use Rattle.cob_rules.specs.Fields.{negative}
+use Rattle.shared_words.specs.Bytes.{negative}
 use Rattle.cob_rules.specs.Kinds.{isEnd, listed}
 use Rattle.cob_rules.specs.Layout.{Chunk, kind, identifier, sizeField, size}
 use Rattle.cob_rules.specs.Walk.{chunkConditions}

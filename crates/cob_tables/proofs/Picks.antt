@@ -8,11 +8,12 @@ use lib.ListN.{length, getElem?}
 use Rattle.shared_words.specs.declared.Refusal.{Refusal}
 use Rattle.shared_words.specs.declared.Refusal.the-variants.{NoSuchMesh}
 use Rattle.shared_words.specs.Conditions.{refused, accepted}
+use Rattle.shared_words.specs.Picked.{pickMesh}
 use Rattle.cob_rules.specs.declared.Answered.{Answered}
 use Rattle.cob_rules.specs.Layout.{Layout}
 use Rattle.cob_rules.specs.Walk.{Verdict, verdict}
 use Rattle.cob_rules.specs.Gives.{Mesh, meshes}
-use Rattle.cob_rules.specs.Calls.{checkOf, checkCall, pickMesh, ofMesh}
+use Rattle.cob_rules.specs.Calls.{checkOf, checkCall, ofMesh}
 use Rattle.cob_tables.specs.declared.Found.{Found}
 use Rattle.cob_tables.specs.declared.Asked.{Asked}
 use Rattle.cob_tables.specs.Asked.{Readable, FoundIn, FoundIs, Picked, bad, good, picked, AskedIs}

@@ -1,6 +1,8 @@
 -- Numbers as bytes, least byte first (little-endian) or last (big-endian), and lists of them.
+use mathlib.Core.Bool.{Bool}
 use mathlib.Core.List.{List, [], _∷_, _++_, reverse}
-use Prim.Native.Nat.{ℕ, zero, suc, _+_, _*_, _/_, _%_, _<_}
+use Prim.Native.Nat.{ℕ, zero, suc, _+_, _*_, _/_, _%_, _^_, _<_}
+use lib.Dec.{leb}
 use lib.ListN.{take, drop}
 
 -- the number that bytes stand for
@@ -34,6 +36,15 @@ be w n = reverse (le w n)
 -- the number of w bytes that stands at an offset
 abbrev pub beAt : ℕ → ℕ → List ℕ → ℕ
 beAt o w s = valueBe (take w (drop o s))
+
+-- ---- signed: the highest bit says that a number of w bytes is negative
+
+abbrev pub negative : ℕ → ℕ → Bool
+negative w n = leb (256 ^ w) (2 * n)
+
+-- in four bytes
+abbrev pub minusOne : ℕ
+minusOne = 0xFFFF_FFFF
 
 -- each element of a list is a byte
 abbrev pub Bytes : List ℕ → Type 0

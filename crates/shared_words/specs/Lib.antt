@@ -6,4 +6,5 @@ pub mod Labels
 pub mod Conditions
 pub mod Effects
 pub mod Encodings
+pub mod Picked
 pub mod Samples

@@ -7,6 +7,10 @@ use Rattle.shared_words.specs.declared.Refusal.the-variants.{Index, Coun
 use Rattle.shared_words.specs.declared.Refusal.the-variants.{Slip, Differs, Header, Owner, Size, Father, Text, Form, Order, Combination, Material}
 use Rattle.shared_words.specs.declared.Refusal.the-variants.{SameName, NoMaterial}
 
+-- 1: the longest file of any format
+abbrev pub limit : ℕ
+limit = 1_048_576
+
 -- a refusal as the caller sees it
 pub record Code : Type 0 where
   pub number : ℕ

@@ -10,7 +10,7 @@ use Rattle.shared_words.specs.declared.Refusal.the-variants.{Slip}
 use Rattle.shared_words.specs.Bytes.{beAt}
 use Rattle.shared_words.specs.Conditions.{refused, accepted}
 use Rattle.shared_words.proofs.Bools.{and-parts}
-use Rattle.slip_rules.specs.Rules.{limit}
+use Rattle.slip_rules.specs.Rules.{mostEntries}
 use Rattle.slip_rules.specs.Walk.{walk, labelled, verdict}
 use Rattle.slip_rules.proofs.Tests.{one-fails, none-fails}
 use Rattle.slip_check.specs.Entries.{entriesIn, headGood}
@@ -20,19 +20,19 @@ use Rattle.slip_check.specs.Entries.{entriesIn, headGood}
 module _ (s : List ℕ) where
   pub verdict-off : headGood s ≡ false → verdict s ≡ refused (Slip 0)
   unfolding headGood verdict
-  verdict-off e = rw (one-fails (leb 7 (length s) ∷ eqb (getD s 0 0) 1 ∷ eqb (5 + beAt 1 4 s) (length s) ∷ leb (beAt 5 2 s) limit ∷ []) (Slip 0) [] e)
+  verdict-off e = rw (one-fails (leb 7 (length s) ∷ eqb (getD s 0 0) 1 ∷ eqb (5 + beAt 1 4 s) (length s) ∷ leb (beAt 5 2 s) mostEntries ∷ []) (Slip 0) [] e)
 
   verdict-on : headGood s ≡ true → verdict s ≡ labelled (walk (beAt 5 2 s) [] 7 (drop 7 s))
   unfolding headGood verdict
-  verdict-on e = rw (none-fails (leb 7 (length s) ∷ eqb (getD s 0 0) 1 ∷ eqb (5 + beAt 1 4 s) (length s) ∷ leb (beAt 5 2 s) limit ∷ []) (Slip 0) e)
+  verdict-on e = rw (none-fails (leb 7 (length s) ∷ eqb (getD s 0 0) 1 ∷ eqb (5 + beAt 1 4 s) (length s) ∷ leb (beAt 5 2 s) mostEntries ∷ []) (Slip 0) e)
 
-  pub head-few : headGood s ≡ true → beAt 5 2 s ≤ limit
+  pub head-few : headGood s ≡ true → beAt 5 2 s ≤ mostEntries
   unfolding headGood
   head-few e =
       let version = and-parts (leb 7 (length s)) _ e .1 in
       let long = and-parts (eqb (getD s 0 0) 1) _ version .1 in
       let count = and-parts (eqb (5 + beAt 1 4 s) (length s)) _ long .1 in
-      leb-true (beAt 5 2 s) limit (and-parts (leb (beAt 5 2 s) limit) true count .0)
+      leb-true (beAt 5 2 s) mostEntries (and-parts (leb (beAt 5 2 s) mostEntries) true count .0)
 
   module _ (n : ℕ) (e : headGood s ≡ true) (q : n ≡ beAt 5 2 s) where
     pub verdict-bad : (place : ℕ) → walk n [] 7 (drop 7 s) ≡ refused (Slip place) → verdict s ≡ refused (Slip place)
@@ -56,6 +56,6 @@ module _ (s : List ℕ) where
   unfolding headGood
   head-length e = rw (ne-eqb (5 + beAt 1 4 s) (length s) e, and-false (eqb (getD s 0 0) 1), and-false (leb 7 (length s)))
 
-  pub head-count : 7 ≤ length s → getD s 0 0 ≡ 1 → 5 + beAt 1 4 s ≡ length s → headGood s ≡ leb (beAt 5 2 s) limit
+  pub head-count : 7 ≤ length s → getD s 0 0 ≡ 1 → 5 + beAt 1 4 s ≡ length s → headGood s ≡ leb (beAt 5 2 s) mostEntries
   unfolding headGood
-  head-count l v q = rw (le-leb 7 (length s) l, eq-eqb (getD s 0 0) 1 v, eq-eqb (5 + beAt 1 4 s) (length s) q, and-true (leb (beAt 5 2 s) limit))
+  head-count l v q = rw (le-leb 7 (length s) l, eq-eqb (getD s 0 0) 1 v, eq-eqb (5 + beAt 1 4 s) (length s) q, and-true (leb (beAt 5 2 s) mostEntries))

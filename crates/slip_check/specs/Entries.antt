@@ -10,7 +10,7 @@ use Rattle.shared_words.specs.Bytes.{beAt}
 use Rattle.shared_words.specs.Conditions.{refused, accepted}
 use Rattle.slip_rules.specs.declared.Found.{Found}
 use Rattle.slip_rules.specs.Slip.{Entry}
-use Rattle.slip_rules.specs.Rules.{isNamed, sumsProper, notTwice, limit}
+use Rattle.slip_rules.specs.Rules.{isNamed, sumsProper, notTwice, mostEntries}
 use Rattle.slip_rules.specs.Conditions.{allOf}
 use Rattle.slip_rules.specs.Walk.{Entries, entryAt, walk, labelled, verdict}
 use Rattle.slip_seen.specs.Seen.{Seen}
@@ -69,7 +69,7 @@ pub record Walks (s : List ℕ) (n : ℕ) (r : Walked) : Type 0 where
 
 -- the conditions of the first seven bytes, as one test
 unfoldable pub headGood : List ℕ → Bool
-headGood s = allOf (leb 7 (length s) ∷ eqb (getD s 0 0) 1 ∷ eqb (5 + beAt 1 4 s) (length s) ∷ leb (beAt 5 2 s) limit ∷ [])
+headGood s = allOf (leb 7 (length s) ∷ eqb (getD s 0 0) 1 ∷ eqb (5 + beAt 1 4 s) (length s) ∷ leb (beAt 5 2 s) mostEntries ∷ [])
 
 -- the verdict, where the check answers r
 abbrev pub answerAs : Found → List ℕ → Entries
@@ -84,4 +84,4 @@ pub record Labels (s : List ℕ) (n : ℕ) (r : Found) : Type 0 where
 pub record Checks (s : List ℕ) (r : Found) : Type 0 where
   pub is : verdict s ≡ answerAs r s
   pub whole : (n : ℕ) → r ≡ Found.Entries n → Whole n s 7
-  pub few : (n : ℕ) → r ≡ Found.Entries n → n ≤ limit
+  pub few : (n : ℕ) → r ≡ Found.Entries n → n ≤ mostEntries

@@ -17,7 +17,7 @@ use Rattle.shared_words.specs.Bytes.{le, packed, valueBe, beAt}
 use Rattle.shared_words.specs.Conditions.{refused, accepted}
 use Rattle.shared_words.specs.Effects.{leaving, filled}
 use Rattle.slip_rules.specs.Slip.{Entry}
-use Rattle.slip_rules.specs.Rules.{limit}
+use Rattle.slip_rules.specs.Rules.{mostEntries}
 use Rattle.slip_rules.specs.Walk.{entryAt, behind, verdict}
 use Rattle.slip_rules.specs.Calls.{numbersOf, allNumbers, flat, byteRow, slipReadCall}
 use Rattle.slip_check.specs.Entries.{entryIn, nextAt, entriesIn, Whole}
@@ -60,10 +60,10 @@ numbers-from s o len file first second l p q f g =
 pub record Filling (s : List ℕ) (count : ℕ) (row₀ row : List ℕ) (left o at : ℕ) : Type 0 where
   pub whole : Whole left s o
   pub room : at + 16 * left ≤ length row
-  pub low : at + 16 * left ≤ 16 * limit
+  pub low : at + 16 * left ≤ 16 * mostEntries
   pub long : length row ≡ length row₀
   -- an entry has at most 262 bytes
-  pub near : o + 262 * left ≤ 7 + 262 * limit
+  pub near : o + 262 * left ≤ 7 + 262 * mostEntries
   pub fills : sets row at (packed 4 (flat (allNumbers o (entriesIn left s o)))) ≡ sets row₀ 0 (packed 4 (flat (allNumbers 7 (entriesIn count s 7))))
 
 first-then : (row : List ℕ) (i : ℕ) (n : Numbers) (ns : List Numbers) →

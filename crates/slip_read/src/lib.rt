@@ -11,7 +11,7 @@ ghost use Prim.Native.Nat.{_+_, _*_, _≤_};
 ghost use lib.ListN.{length};
 ghost use lib.Seq.{sets};
 ghost use Rattle.shared_numbers.specs.Put.{Put};
-ghost use Rattle.slip_rules.specs.Rules.{limit};
+ghost use Rattle.slip_rules.specs.Rules.{mostEntries};
 ghost use Rattle.slip_rules.specs.Calls.{numbersOf, allNumbers, byteRow, slipReadCall};
 ghost use Rattle.slip_check.specs.Entries.{entryIn, nextAt, entriesIn, Whole};
 
@@ -32,7 +32,7 @@ fn put_entry(s: &[u8], o: usize, at: usize, row: &mut [u8]) -> usize
 
 // Puts the numbers of all entries.
 fn fill(s: &[u8], count: usize, row: &mut [u8])
-    requires { ⌜ Whole count (now s) 7 × (count ≤ limit) × (16 * count ≤ length (now row)) ⌝ }
+    requires { ⌜ Whole count (now s) 7 × (count ≤ mostEntries) × (16 * count ≤ length (now row)) ⌝ }
     ensures { λ _. ⌜ now (row .exit) ≡ sets (now (row .entry)) 0 (byteRow .encode (allNumbers 7 (entriesIn count (now (s .entry)) 7))) ⌝ }
 {
     let mut left = count;

@@ -22,7 +22,7 @@ use Rattle.shared_words.proofs.Conditions.{Met, met, unbroken}
 use Rattle.slip_rules.specs.declared.Numbers.{Numbers}
 use Rattle.shared_words.specs.declared.Written.{Written}
 use Rattle.slip_rules.specs.Slip.{Entry, behindName, entryBytes, allBytes, rest, bytes}
-use Rattle.slip_rules.specs.Rules.{sumsProper, remember, limit, AllLawful, Meets}
+use Rattle.slip_rules.specs.Rules.{sumsProper, remember, mostEntries, AllLawful, Meets}
 use Rattle.slip_rules.specs.Conditions.{entryConditions}
 use Rattle.slip_rules.specs.Walk.{behind, verdict}
 use Rattle.slip_rules.specs.Calls.{numbersOf, allNumbers, entryFrom, entriesFrom, Given, whole, givenBytes, within, rowConditions, oneOn, writeConditions, writeOf, slipWriteCall}
@@ -35,14 +35,14 @@ use Rattle.slip_rules.proofs.Given.{FileFits, given-back, given-fit, al
 
 pub record RowsMet (seen : List (List ℕ)) (i : ℕ) (es : List Entry) (later : List Condition) : Type 0 where
   pub lawful : AllLawful seen es
-  pub few : i + length es ≤ limit
+  pub few : i + length es ≤ mostEntries
   pub then : Met later
 
-rows-met : (names : List ℕ) (seen : List (List ℕ)) (i : ℕ) (ns : List Numbers) (later : List Condition) → i ≤ limit → All FileFits ns →
+rows-met : (names : List ℕ) (seen : List (List ℕ)) (i : ℕ) (ns : List Numbers) (later : List Condition) → i ≤ mostEntries → All FileFits ns →
     Met (rowConditions names seen i ns later) → RowsMet seen i (entriesFrom names ns) later
 rows-met names seen i [] later l f h = record { lawful = tt; few = omega arith; then = h }
 rows-met names seen i (n ∷ ns) later l f h =
-    let b = ltb-true i limit (h .0) in
+    let b = ltb-true i mostEntries (h .0) in
     let r = h .1 .1 in
     let t = rows-met names (remember seen (entryFrom names n)) (suc i) ns later (omega arith) (f .1) (r .1 .1 .1) in
     record {
@@ -120,13 +120,13 @@ entries-back (e ∷ es) seen before h =
     rw (entry-back before e (allBytes es) (h .0 .sums-proper), behind-back before e (allBytes es), next-back before e (allBytes es), n)
 
 rows-back : (es : List Entry) (seen : List (List ℕ)) (i : ℕ) (before : List ℕ) (later : List Condition) → AllLawful seen es →
-    i + length es ≤ limit → Met later → Met (rowConditions (before ++ allBytes es) seen i (allNumbers (length before) es) later)
+    i + length es ≤ mostEntries → Met later → Met (rowConditions (before ++ allBytes es) seen i (allNumbers (length before) es) later)
 rows-back [] seen i before later h l k = k
 rows-back (e ∷ es) seen i before later h l k =
     let n = rows-back es (remember seen e) (suc i) (before ++ entryBytes e) later (h .1) (omega arith) k in
     let p = h .0 in
     let names = before ++ (entryBytes e ++ allBytes es) in (
-      lt-ltb i limit (omega arith),
+      lt-ltb i mostEntries (omega arith),
       (
         within-back before e (allBytes es),
         subst (λ (x : Entry). Met (entryConditions seen i x (rowConditions names (remember seen x) (suc i) (allNumbers (behind (length before) e) es) later)))

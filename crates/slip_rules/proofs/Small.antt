@@ -22,7 +22,7 @@ use Rattle.slip_rules.specs.declared.Numbers.{Numbers}
 use Rattle.slip_rules.specs.declared.Found.{Found}
 use Rattle.shared_words.specs.declared.Written.{Written}
 use Rattle.slip_rules.specs.Slip.{Entry, behindName, entryBytes, allBytes, bytes}
-use Rattle.slip_rules.specs.Rules.{isLabelled, limit, Meets}
+use Rattle.slip_rules.specs.Rules.{isLabelled, mostEntries, Meets}
 use Rattle.slip_rules.specs.Walk.{Entries, verdict}
 use Rattle.slip_rules.specs.Calls.{allNumbers, readOf, slipReadCall, entriesFrom, givenBytes, writeConditions, writeOf, slipWriteCall}
 use Rattle.slip_rules.specs.Theorems.{FewEntries, SmallSize}
@@ -33,14 +33,14 @@ use Rattle.slip_rules.proofs.Again.{written-meets}
 -- ---- entries
 
 abbrev Few : Found → Type 0
-Few (Found.Entries n) = n ≤ limit
+Few (Found.Entries n) = n ≤ mostEntries
 Few (Found.Refused r) = Unit
 
 read-few : (c : Encoding Numbers ℕ) (s row : List ℕ) → Bytes s → Few (slipReadCall c s row .answer)
 unfolding slipReadCall
 read-few c s row b = go (verdict s) refl
   where
-    room : (es : List Entry) → length es ≤ limit → (t : Bool) →
+    room : (es : List Entry) → length es ≤ mostEntries → (t : Bool) →
         Few (cond t (leaving (Found.Entries (length es)) (filled (c .encode (allNumbers 7 es)) row)) (leaving (Found.Refused (NoRoom (length es))) row) .answer)
     room es l true = l
     room es l false = tt
@@ -55,7 +55,7 @@ few-entries c s row n b e = subst Few e (read-few c s row b)
 -- ---- sizes
 
 abbrev Short : Written → Type 0
-Short (Written.Size n) = n ≤ 7 + 70 * limit
+Short (Written.Size n) = n ≤ 7 + 70 * mostEntries
 Short (Written.Refused r) = Unit
 
 -- a name that fits the label has at most 63 bytes
@@ -70,7 +70,7 @@ all-labelled (e ∷ es) h =
     let k = and-parts (isLabelled e) (every isLabelled es) h in
     omega (arith, label-short (e .name) (k .0), all-labelled es (k .1), length-append (entryBytes e) (allBytes es), length-append (e .name) (behindName e))
 
-meets-short : (es : List Entry) → Meets (bytes es) es → length (bytes es) ≤ 7 + 70 * limit
+meets-short : (es : List Entry) → Meets (bytes es) es → length (bytes es) ≤ 7 + 70 * mostEntries
 meets-short es m = let f = m .few in omega (arith, all-labelled es (m .labelled))
 
 write-short : (names entries out : List ℕ) → Bytes entries → Short (slipWriteCall names (givenBytes entries) out .answer)

@@ -16,7 +16,7 @@ use Rattle.shared_words.proofs.BigEndian.{value-be, be-at-whole}
 use Rattle.shared_words.proofs.Bools.{and-parts}
 use Rattle.shared_words.proofs.Conditions.{Met, met, unbroken}
 use Rattle.slip_rules.specs.Slip.{Entry, behindName, entryBytes, allBytes, rest, bytes}
-use Rattle.slip_rules.specs.Rules.{remember, limit, AllLawful, Meets}
+use Rattle.slip_rules.specs.Rules.{remember, mostEntries, AllLawful, Meets}
 use Rattle.slip_rules.specs.Conditions.{labelConditions}
 use Rattle.slip_rules.specs.Walk.{headConditions, Entries, walk, behind, labelled, verdict}
 use Rattle.slip_rules.specs.Theorems.{AcceptedExactly, OneReading}
@@ -57,7 +57,7 @@ module _ (s : List ℕ) (h : Bytes s) (t : Met (headConditions s)) where
       test (some r) q = tt
       test none q = record {
         is = whole-is es k;
-        few = omega (arith, k .count, leb-true (beAt 5 2 s) limit (t .1 .1 .1 .0));
+        few = omega (arith, k .count, leb-true (beAt 5 2 s) mostEntries (t .1 .1 .1 .0));
         lawful = k .lawful;
         labelled = labels-met behind [] 7 es (met _ q) .0;
       }
@@ -89,7 +89,7 @@ good-bytes es m =
     let q : broken (headConditions (bytes es)) ≡ none =
     unbroken _ (
       le-leb 7 (length (bytes es)) (omega arith),
-      (refl, (eq-eqb (5 + beAt 1 4 (bytes es)) (length (bytes es)) (omega arith), (le-leb (beAt 5 2 (bytes es)) limit (omega arith), tt))),
+      (refl, (eq-eqb (5 + beAt 1 4 (bytes es)) (length (bytes es)) (omega arith), (le-leb (beAt 5 2 (bytes es)) mostEntries (omega arith), tt))),
     ) in
     let l : broken (labelConditions behind 7 es []) ≡ none = unbroken _ (met-labels behind [] 7 es (m .labelled) tt) in
     rw (q, c, walk-complete es [] 7 (m .lawful), l)

@@ -15,7 +15,7 @@ use Rattle.slip_rules.specs.declared.Numbers.{Numbers}
 use Rattle.slip_rules.specs.declared.Found.{Found}
 use Rattle.shared_words.specs.declared.Written.{Written}
 use Rattle.slip_rules.specs.Slip.{Entry, bytes}
-use Rattle.slip_rules.specs.Rules.{remember, limit}
+use Rattle.slip_rules.specs.Rules.{remember, mostEntries}
 use Rattle.slip_rules.specs.Conditions.{entryConditions, labelConditions}
 use Rattle.slip_rules.specs.Walk.{Entries, behind, verdict}
 
@@ -88,7 +88,7 @@ within names n = leb (n .name + n .len) (length names)
 abbrev pub rowConditions : List ℕ → List (List ℕ) → ℕ → List Numbers → List Condition → List Condition
 rowConditions names seen i [] later = later
 rowConditions names seen i (n ∷ ns) later =
-    must (ltb i limit) (Slip i) ∷
+    must (ltb i mostEntries) (Slip i) ∷
     must (within names n) (Slip i) ∷
     entryConditions seen i (entryFrom names n) (rowConditions names (remember seen (entryFrom names n)) (suc i) ns later)
 

@@ -51,12 +51,12 @@ AllLawful seen [] = Unit
 AllLawful seen (e ∷ es) = Lawful seen e × AllLawful (remember seen e) es
 
 -- "At most 1,000 entries"
-abbrev pub limit : ℕ
-limit = 1000
+abbrev pub mostEntries : ℕ
+mostEntries = 1000
 
 -- THE SLIP s MEETS THE RULES, with these entries
 pub record Meets (s : List ℕ) (es : List Entry) : Type 0 where
   pub is : bytes es ≡ s
-  pub few : length es ≤ limit
+  pub few : length es ≤ mostEntries
   pub lawful : AllLawful [] es
   pub labelled : every isLabelled es ≡ true

@@ -12,7 +12,7 @@ use Rattle.slip_rules.specs.declared.Numbers.{Numbers}
 use Rattle.slip_rules.specs.declared.Found.{Found}
 use Rattle.shared_words.specs.declared.Written.{Written}
 use Rattle.slip_rules.specs.Slip.{Entry}
-use Rattle.slip_rules.specs.Rules.{limit, Meets}
+use Rattle.slip_rules.specs.Rules.{mostEntries, Meets}
 use Rattle.slip_rules.specs.Walk.{verdict}
 use Rattle.slip_rules.specs.Calls.{allNumbers, byteRow, slipReadCall, entriesFrom, givenBytes, slipWriteCall}
 
@@ -37,8 +37,8 @@ WritesBack = (s : List ℕ) → Bytes s → (es : List Entry) → verdict s ≡ 
 
 -- THE ANSWERS ARE SMALL: at most 1,000 entries, and a slip of at most 70,007 bytes.
 abbrev pub FewEntries : Type 0
-FewEntries = (c : Encoding Numbers ℕ) (s row : List ℕ) (n : ℕ) → Bytes s → slipReadCall c s row .answer ≡ Found.Entries n → n ≤ limit
+FewEntries = (c : Encoding Numbers ℕ) (s row : List ℕ) (n : ℕ) → Bytes s → slipReadCall c s row .answer ≡ Found.Entries n → n ≤ mostEntries
 
 abbrev pub SmallSize : Type 0
 SmallSize = (names entries out : List ℕ) (size : ℕ) → Bytes entries → slipWriteCall names (givenBytes entries) out .answer ≡ Written.Size size →
-    size ≤ 7 + 70 * limit
+    size ≤ 7 + 70 * mostEntries

@@ -8,7 +8,7 @@ use Rattle.shared_words.specs.declared.Refusal.the-variants.{Slip}
 use Rattle.shared_words.specs.Bytes.{beAt}
 use Rattle.shared_words.specs.Conditions.{Condition, must, broken, Answer, refused, accepted, unless}
 use Rattle.slip_rules.specs.Slip.{Entry, entrySize}
-use Rattle.slip_rules.specs.Rules.{remember, limit}
+use Rattle.slip_rules.specs.Rules.{remember, mostEntries}
 use Rattle.slip_rules.specs.Conditions.{entryConditions, labelConditions}
 
 -- ---- the first seven bytes
@@ -19,7 +19,7 @@ headConditions s =
     must (leb 7 (length s)) (Slip 0) ∷
     must (eqb (getD s 0 0) 1) (Slip 0) ∷
     must (eqb (5 + beAt 1 4 s) (length s)) (Slip 0) ∷
-    must (leb (beAt 5 2 s) limit) (Slip 0) ∷ []
+    must (leb (beAt 5 2 s) mostEntries) (Slip 0) ∷ []
 
 -- ---- the entries
 

@@ -6,6 +6,7 @@ use mathlib.Core.Logic.{_↔_}
 use Prim.Native.Nat.{ℕ, _-_, _^_, _<_}
 use lib.Dec.{eqb, ltb}
 use lib.ListN.{length}
+use Rattle.shared_words.specs.Refusals.{limit}
 use Rattle.slip_sums.specs.declared.Sum.{Sum}
 use Rattle.slip_sums.specs.declared.Matched.{Matched}
 use Rattle.slip_sums.specs.declared.Matched.the-variants.{Same}
@@ -16,7 +17,7 @@ use Rattle.slip_sums.specs.Joined.{withParts}
 
 -- "1 when an entry is made", of a file that is too long
 abbrev pub sumsCall : List ℕ → Summed
-sumsCall file = cond (ltb 1_048_576 (length file)) (Summed.Refused TooLong) (Summed.Sums (sumOf file))
+sumsCall file = cond (ltb limit (length file)) (Summed.Refused TooLong) (Summed.Sums (sumOf file))
 
 -- "19 DIFFERS, place 0 for the length, else 1 for the sum"
 abbrev pub otherLength : Matched

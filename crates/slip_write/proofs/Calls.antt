@@ -19,7 +19,7 @@ use Rattle.shared_numbers.proofs.Put.{put-then}
 use Rattle.slip_rules.specs.declared.Numbers.{Numbers}
 use Rattle.shared_words.specs.declared.Written.{Written}
 use Rattle.slip_rules.specs.Slip.{behindName, entryBytes, allBytes, rest, bytes}
-use Rattle.slip_rules.specs.Rules.{remember, limit}
+use Rattle.slip_rules.specs.Rules.{remember, mostEntries}
 use Rattle.slip_rules.specs.Calls.{entryFrom, entriesFrom, givenBytes, rowConditions, oneOn, writeConditions, slipWriteCall}
 use Rattle.slip_rules.proofs.Given.{length-entries}
 use Rattle.slip_rules.proofs.Labels.{labels-met}
@@ -32,14 +32,14 @@ use Rattle.slip_write.specs.Ready.{Fitting, Ready}
 
 pub record Told (names : List ℕ) (i : ℕ) (ns : List Numbers) (later : List Condition) : Type 0 where
   pub fitting : All (Fitting names) ns
-  pub few : i + length ns ≤ limit
+  pub few : i + length ns ≤ mostEntries
   pub then : Met later
 
-told : (names : List ℕ) (seen : List (List ℕ)) (i : ℕ) (ns : List Numbers) (later : List Condition) → i ≤ limit → Met (rowConditions names seen i ns later) →
+told : (names : List ℕ) (seen : List (List ℕ)) (i : ℕ) (ns : List Numbers) (later : List Condition) → i ≤ mostEntries → Met (rowConditions names seen i ns later) →
     Told names i ns later
 told names seen i [] later l h = record { fitting = tt; few = omega arith; then = h }
 told names seen i (n ∷ ns) later l h =
-    let b = ltb-true i limit (h .0) in
+    let b = ltb-true i mostEntries (h .0) in
     let w = leb-true (n .name + n .len) (length names) (h .1 .0) in
     let e = entryFrom names n in
     let s = leb-true (length (e .name)) 255 (and-parts (leb 1 (length (e .name))) (leb (length (e .name)) 255) (h .1 .1 .0) .1) in
@@ -62,7 +62,7 @@ fitting-short names (n ∷ ns) h =
       length-append (e .name) (behindName e),
     )
 
-pub ready-short : {names s : List ℕ} {size room : ℕ} → Ready names s size room → size ≤ 7 + 262 * limit
+pub ready-short : {names s : List ℕ} {size room : ℕ} → Ready names s size room → size ≤ 7 + 262 * mostEntries
 ready-short {names} {s} r =
     omega (arith, r .is, r .few, fitting-short names (givenBytes s .rows) (r .fitting), length-rows (length s / 16) s)
 

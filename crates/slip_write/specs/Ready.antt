@@ -6,7 +6,7 @@ use lib.ListN.{length}
 use Rattle.shared_words.specs.Lists.{All}
 use Rattle.slip_rules.specs.declared.Numbers.{Numbers}
 use Rattle.slip_rules.specs.Slip.{bytes}
-use Rattle.slip_rules.specs.Rules.{limit}
+use Rattle.slip_rules.specs.Rules.{mostEntries}
 use Rattle.slip_rules.specs.Calls.{entriesFrom, givenBytes}
 
 -- one entry beside the names
@@ -18,6 +18,6 @@ pub record Fitting (names : List ℕ) (n : Numbers) : Type 0 where
 -- all entries, for a slip of `size` bytes in a buffer of `room`
 pub record Ready (names s : List ℕ) (size room : ℕ) : Type 0 where
   pub fitting : All (Fitting names) (givenBytes s .rows)
-  pub few : length s / 16 ≤ limit
+  pub few : length s / 16 ≤ mostEntries
   pub is : length (bytes (entriesFrom names (givenBytes s .rows))) ≡ size
   pub fits : size ≤ room

@@ -10,7 +10,7 @@ use lib.ListN.{length}
 use borrow.Author.Tests.{lt-ltb, le-ltb, le-leb, lt-leb}
 use Rattle.shared_name_tree.specs.Names.{Grown}
 use Rattle.slip_rules.specs.declared.Numbers.{Numbers}
-use Rattle.slip_rules.specs.Rules.{isNamed, sumsProper, namedBefore, limit}
+use Rattle.slip_rules.specs.Rules.{isNamed, sumsProper, namedBefore, mostEntries}
 use Rattle.slip_rules.specs.Calls.{within}
 use Rattle.slip_seen.specs.Seen.{Seen}
 use Rattle.slip_seen.proofs.Seen.{seen-answer, seen-on}
@@ -37,17 +37,17 @@ module _ (names s nodes : List ℕ) (i : ℕ) where
     room = refl;
   }
 
-  pub off-many : limit ≤ i → GoodRow names s nodes i false nodes
+  pub off-many : mostEntries ≤ i → GoodRow names s nodes i false nodes
   unfolding goodRow
-  off-many l = refused-row (rw (le-ltb i limit l))
+  off-many l = refused-row (rw (le-ltb i mostEntries l))
 
   pub off-outside : length names < rowNo s i .name + rowNo s i .len → GoodRow names s nodes i false nodes
   unfolding goodRow
-  off-outside l = refused-row (rw (lt-leb (rowNo s i .name + rowNo s i .len) (length names) l, and-false (ltb i limit)))
+  off-outside l = refused-row (rw (lt-leb (rowNo s i .name + rowNo s i .len) (length names) l, and-false (ltb i mostEntries)))
 
   off-named : isNamed (entryNo names s i) ≡ false → GoodRow names s nodes i false nodes
   unfolding goodRow
-  off-named e = refused-row (rw (e, and-false (within names (rowNo s i)), and-false (ltb i limit)))
+  off-named e = refused-row (rw (e, and-false (within names (rowNo s i)), and-false (ltb i mostEntries)))
 
   pub off-empty : Inside names s i → rowNo s i .len ≡ 0 → GoodRow names s nodes i false nodes
   off-empty h e = off-named (rw (lt-leb 1 (length (entryNo names s i .name)) (omega (arith, name-long names (rowNo s i) h))))
@@ -59,7 +59,7 @@ module _ (names s nodes : List ℕ) (i : ℕ) where
 
   off-sums : sumsProper (entryNo names s i) ≡ false → GoodRow names s nodes i false nodes
   unfolding goodRow
-  off-sums e = refused-row (rw (e, and-false (isNamed (entryNo names s i)), and-false (within names (rowNo s i)), and-false (ltb i limit)))
+  off-sums e = refused-row (rw (e, and-false (isNamed (entryNo names s i)), and-false (within names (rowNo s i)), and-false (ltb i mostEntries)))
 
   pub off-first : rowNo s i .sums % 256 ≡ 255 → GoodRow names s nodes i false nodes
   off-first e = off-sums (rw (lt-leb (rowNo s i .sums % 256) 254 (omega arith)))
@@ -67,14 +67,14 @@ module _ (names s nodes : List ℕ) (i : ℕ) where
   pub off-second : 254 < rowNo s i .sums / 256 → GoodRow names s nodes i false nodes
   off-second l = off-sums (rw (lt-leb (rowNo s i .sums / 256) 254 l, and-false (leb (rowNo s i .sums % 256) 254)))
 
-  module _ (l : i < limit) (h : Inside names s i) (p : 0 < rowNo s i .len) (q : rowNo s i .len ≤ 255) (f : rowNo s i .sums % 256 < 255)
+  module _ (l : i < mostEntries) (h : Inside names s i) (p : 0 < rowNo s i .len) (q : rowNo s i .len ≤ 255) (f : rowNo s i .sums % 256 < 255)
       (g : rowNo s i .sums / 256 ≤ 254) where
     on-good : goodRow names s i ≡ not (namedBefore (entryNo names s i .name) (namesFrom names i s 0))
     unfolding goodRow
     on-good =
         let n = name-long names (rowNo s i) h in
         rw (
-          lt-ltb i limit l,
+          lt-ltb i mostEntries l,
           le-leb (rowNo s i .name + rowNo s i .len) (length names) h,
           le-leb 1 (length (entryNo names s i .name)) (omega arith),
           le-leb (length (entryNo names s i .name)) 255 (omega arith),

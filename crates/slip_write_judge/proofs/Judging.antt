@@ -15,7 +15,7 @@ use Rattle.shared_words.specs.declared.Refusal.the-variants.{Slip}
 use Rattle.shared_words.specs.Conditions.{Condition, broken}
 use Rattle.slip_rules.specs.declared.Numbers.{Numbers}
 use Rattle.slip_rules.specs.Slip.{behindName, entryBytes, allBytes, bytes}
-use Rattle.slip_rules.specs.Rules.{isNamed, sumsProper, notTwice, limit}
+use Rattle.slip_rules.specs.Rules.{isNamed, sumsProper, notTwice, mostEntries}
 use Rattle.slip_rules.specs.Calls.{entriesFrom, rowsIn, givenBytes, within, rowConditions}
 use Rattle.slip_rules.proofs.Tests.{all-hold, one-fails}
 use Rattle.slip_write_judge.specs.Rows.{rowNo, entryNo, rowsFrom, namesFrom, Inside, AllInside, goodRow}
@@ -38,7 +38,7 @@ given-rows s = rows-are (length s / 16) s 0
 
 abbrev tests : List ℕ → List ℕ → ℕ → List Bool
 tests names s i =
-    ltb i limit ∷ within names (rowNo s i) ∷ isNamed (entryNo names s i) ∷ sumsProper (entryNo names s i) ∷
+    ltb i mostEntries ∷ within names (rowNo s i) ∷ isNamed (entryNo names s i) ∷ sumsProper (entryNo names s i) ∷
     notTwice (namesFrom names i s 0) (entryNo names s i) ∷ []
 
 module _ (names s : List ℕ) (i : ℕ) (later : List Condition) where
@@ -70,7 +70,7 @@ row-size names s i (suc k) p h =
 
 pub record On (names s : List ℕ) (n size i : ℕ) : Type 0 where
   pub few : i ≤ n
-  pub under : i ≤ limit
+  pub under : i ≤ mostEntries
   pub inside : AllInside names s i
   pub small : size ≤ 7 + 262 * i
   pub goes : (later : List Condition) →
@@ -86,7 +86,7 @@ module _ (names s : List ℕ) (n size i : ℕ) (on : On names s n size i) where
   pub on-bad : i < n → goodRow names s i ≡ false → (later : List Condition) → broken (rowConditions names [] 0 (rowsFrom n s 0) later) ≡ some (Slip i)
   on-bad l e later = on .goes later ∙ row-bad names s i later (n - i) (omega arith) e
 
-  pub on-more : i < n → goodRow names s i ≡ true → Inside names s i → rowNo s i .len ≤ 255 → i < limit → On names s n (size + (7 + rowNo s i .len)) (i + 1)
+  pub on-more : i < n → goodRow names s i ≡ true → Inside names s i → rowNo s i .len ≤ 255 → i < mostEntries → On names s n (size + (7 + rowNo s i .len)) (i + 1)
   on-more l e h k u =
       let q : n - i - 1 ≡ n - suc i = omega arith in
       let z = row-size names s i (n - i) (omega arith) h in

@@ -7,7 +7,7 @@ use lib.Dec.{ltb}
 use lib.ListN.{length, drop}
 use Rattle.slip_rules.specs.declared.Numbers.{Numbers}
 use Rattle.slip_rules.specs.Slip.{Entry}
-use Rattle.slip_rules.specs.Rules.{isNamed, sumsProper, notTwice, limit}
+use Rattle.slip_rules.specs.Rules.{isNamed, sumsProper, notTwice, mostEntries}
 use Rattle.slip_rules.specs.Conditions.{allOf}
 use Rattle.slip_rules.specs.Calls.{rowAt, entryFrom, within}
 use Rattle.slip_seen.specs.Seen.{Seen}
@@ -39,7 +39,7 @@ AllInside names s n = (j : ℕ) → j < n → Inside names s j
 unfoldable pub goodRow : List ℕ → List ℕ → ℕ → Bool
 goodRow names s i =
     allOf (
-    ltb i limit ∷ within names (rowNo s i) ∷ isNamed (entryNo names s i) ∷ sumsProper (entryNo names s i) ∷
+    ltb i mostEntries ∷ within names (rowNo s i) ∷ isNamed (entryNo names s i) ∷ sumsProper (entryNo names s i) ∷
     notTwice (namesFrom names i s 0) (entryNo names s i) ∷ [])
 
 -- and what the code promises of it; the name of a good one is in the tree
@@ -47,6 +47,6 @@ pub record GoodRow (names s nodes : List ℕ) (i : ℕ) (r : Bool) (nodes′ : L
   pub is : r ≡ goodRow names s i
   pub inside : r ≡ true → Inside names s i
   pub short : r ≡ true → rowNo s i .len ≤ 255
-  pub few : r ≡ true → i < limit
+  pub few : r ≡ true → i < mostEntries
   pub seen : r ≡ true → Seen names nodes′ (i + 1) (namesFrom names (i + 1) s 0)
   pub room : length nodes′ ≡ length nodes

@@ -11,12 +11,13 @@ use lib.Seq.{slice, take-length}
 use borrow.Author.Tests.{le-leb, lt-leb, leb-true, eq-eqb, ne-eqb}
 use Rattle.shared_words.specs.declared.Refusal.{Refusal}
 use Rattle.shared_words.specs.declared.Refusal.the-variants.{TooLong, NotAFigure, Short, Overrun, Trailing}
+use Rattle.shared_words.specs.Refusals.{limit}
 use Rattle.studio_rules.specs.declared.Counts.{Counts}
 use Rattle.studio_rules.specs.declared.Checked.{Checked}
 use Rattle.shared_words.specs.Bytes.{Bytes, value}
 use Rattle.studio_rules.specs.Table.{rows, listed, limits, atMostOne}
 use Rattle.studio_rules.specs.Layout.{figure}
-use Rattle.studio_rules.specs.Rules.{Parent, file, limit}
+use Rattle.studio_rules.specs.Rules.{Parent, file}
 use Rattle.studio_rules.specs.Gives.{recordCount, headers, owned, skipped}
 use Rattle.shared_words.specs.Conditions.{broken, accepted, unless}
 use Rattle.studio_rules.specs.Walk.{fileConditions, endConditions, lengthField, ended, walk, versionIn, top, figureAt, verdict}

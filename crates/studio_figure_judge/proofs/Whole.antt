@@ -13,9 +13,9 @@ use Rattle.shared_words.specs.declared.Refusal.the-variants.{TooLong, NoRoom}
 use Rattle.shared_words.specs.declared.Written.the-variants.{Refused, Size}
 use Rattle.shared_words.specs.Lists.{every}
 use Rattle.shared_words.specs.Conditions.{Condition, must, broken}
+use Rattle.shared_words.specs.Refusals.{limit}
 use Rattle.shared_words.proofs.Bools.{both}
 use Rattle.shared_words.proofs.Conditions.{broken-here, broken-later}
-use Rattle.studio_rules.specs.Rules.{limit}
 use Rattle.studio_write_judge.specs.Judged.{answerOf}
 use Rattle.studio_write.specs.ReadsBack.{Floats32}
 use Rattle.studio_figure_rules.specs.Given.{Figure}

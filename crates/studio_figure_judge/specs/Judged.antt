@@ -8,7 +8,7 @@ use lib.ListN.{length}
 use Rattle.shared_words.specs.declared.Refusal.the-variants.{TooLong, NoRoom, NoMaterial}
 use Rattle.shared_words.specs.declared.Written.{Written}
 use Rattle.shared_words.specs.Conditions.{Condition, must, broken}
-use Rattle.studio_rules.specs.Rules.{limit}
+use Rattle.shared_words.specs.Refusals.{limit}
 use Rattle.studio_write_judge.specs.Judged.{eachMust, answerOf}
 use Rattle.studio_figure_rules.specs.Given.{over}
 use Rattle.studio_figure_rules.specs.Judged.{oneOf, differ}

@@ -9,7 +9,8 @@ use Rattle.shared_words.specs.declared.Refusal.{Refusal}
 use Rattle.shared_words.specs.Lists.{every, All, same}
 use Rattle.shared_words.specs.Labels.{fitsLabel}
 use Rattle.shared_words.specs.Floats.{finite}
-use Rattle.studio_rules.specs.Rules.{limit, allBelow}
+use Rattle.shared_words.specs.Refusals.{limit}
+use Rattle.studio_rules.specs.Rules.{allBelow}
 use Rattle.shared_words.specs.Conditions.{Condition, must}
 use Rattle.shared_words.proofs.Bools.{and-parts}
 use Rattle.shared_words.proofs.Conditions.{Met}

@@ -8,9 +8,9 @@ use Rattle.shared_words.specs.declared.Refusal.the-variants.{TooLong, Name, Num
 use Rattle.shared_words.specs.Floats.{finite}
 use Rattle.shared_words.specs.Labels.{fitsLabel, labelFault}
 use Rattle.shared_words.specs.Lists.{total, same}
-use Rattle.studio_rules.specs.Rules.{limit}
 use Rattle.shared_words.specs.Conditions.{Condition, must, broken}
 use Rattle.shared_words.specs.declared.Written.{Written}
+use Rattle.shared_words.specs.Refusals.{limit}
 use Rattle.studio_write_judge.specs.Judged.{triples, eachMust, notZero, wholeRow, answerOf}
 use Rattle.studio_figure_rules.specs.Given.{Group, Object, Material, Figure, over, objectNames, materialNames, allNames, allGroupNames}
 

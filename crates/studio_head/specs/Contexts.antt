@@ -5,9 +5,10 @@ use mathlib.Core.Bool.{true}
 use mathlib.Core.List.{List}
 use Prim.Native.Nat.{ℕ, _≤_, _<_, _^_, min}
 use lib.ListN.{length, getD}
+use Rattle.shared_words.specs.Refusals.{limit}
 use Rattle.studio_rules.specs.Table.{listed}
 use Rattle.studio_rules.specs.OwnData.{root}
-use Rattle.studio_rules.specs.Rules.{Parent, limit, few}
+use Rattle.studio_rules.specs.Rules.{Parent, few}
 use Rattle.studio_row.specs.Packed.{rowOf}
 use Rattle.studio_own_data.specs.Bounds.{BoundIs}
 use Rattle.studio_marks.specs.Marks.{tallySlot, Under}

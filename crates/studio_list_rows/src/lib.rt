@@ -7,7 +7,7 @@ ghost use Prim.Native.Nat.{_+_, _*_, _≤_};
 ghost use lib.ListN.{length};
 ghost use lib.Seq.{sets};
 ghost use Rattle.shared_words.specs.Bytes.{packed};
-ghost use Rattle.studio_rules.specs.Rules.{limit};
+ghost use Rattle.shared_words.specs.Refusals.{limit};
 ghost use Rattle.studio_rules.specs.Gives.{recordNumbers, flat};
 ghost use Rattle.studio_list_rows.specs.Lent.{lent, Room, written};
 

@@ -5,9 +5,9 @@ use mathlib.Core.Bool.{true, false}
 use mathlib.Core.List.{List, []}
 use Prim.Native.Nat.{ℕ, _+_, _*_, _≤_}
 use lib.ListN.{length}
+use Rattle.shared_words.specs.Refusals.{limit}
 use Rattle.studio_rules.specs.OwnData.{ownSize}
 use Rattle.studio_rules.specs.Layout.{Run, end, skip, known}
-use Rattle.studio_rules.specs.Rules.{limit}
 use Rattle.studio_rules.specs.Parses.{Place, Parses}
 use Rattle.studio_rules.specs.Gives.{recordCount, recordsOf}
 use Rattle.studio_stands.specs.Stands.{Stands}

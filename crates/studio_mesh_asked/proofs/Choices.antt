@@ -5,8 +5,9 @@ use Prim.Native.Nat.{ℕ}
 use lib.ListN.{length, getElem?}
 use Rattle.shared_words.specs.declared.Refusal.{Refusal}
 use Rattle.shared_words.specs.Conditions.{Answer, refused, accepted}
+use Rattle.shared_words.specs.Picked.{pickMesh}
 use Rattle.studio_rules.specs.Gives.{Mesh, meshes}
-use Rattle.studio_rules.specs.Calls.{ofMesh, pickMesh}
+use Rattle.studio_rules.specs.Calls.{ofMesh}
 use Rattle.studio_mesh_asked.specs.Choices.{Choice, no, yes, choose}
 use Rattle.studio_rules.specs.Layout.{Run}
 

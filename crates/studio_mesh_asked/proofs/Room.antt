@@ -6,6 +6,7 @@ use mathlib.Core.Option.{Option, none, some}
 use Prim.Native.Nat.{ℕ, _*_}
 use native.Mathlib.Omega.{arith}
 use lib.ListN.{length, drop, getElem?}
+use Rattle.shared_words.specs.Picked.{pickMesh}
 use Rattle.shared_words.proofs.Numbers.{length-numbers}
 use Rattle.studio_rules.proofs.Corners.{length-corners}
 use Rattle.studio_rules.proofs.Mapping.{length-filled-up}
@@ -15,7 +16,6 @@ use Rattle.shared_words.specs.declared.Refusal.the-variants.{NoRoom}
 use Rattle.shared_words.specs.Conditions.{Answer, refused, accepted}
 use Rattle.studio_rules.specs.Walk.{verdict}
 use Rattle.studio_rules.specs.Gives.{Mesh, meshes}
-use Rattle.studio_rules.specs.Calls.{pickMesh}
 use Rattle.studio_mesh_find.specs.declared.Place.{Place}
 use Rattle.studio_mesh_find.specs.Places.{PlaceIs}
 use Rattle.studio_mesh_asked.specs.declared.Asked.{Asked}

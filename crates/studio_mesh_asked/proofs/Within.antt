@@ -10,12 +10,12 @@ use lib.Dec.{eqb}
 use lib.ListN.{length, getElem?}
 use Rattle.shared_words.specs.declared.Refusal.{Refusal}
 use Rattle.shared_words.specs.Bytes.{Bytes}
+use Rattle.shared_words.specs.Refusals.{limit}
+use Rattle.shared_words.specs.Picked.{pickMesh}
 use Rattle.studio_rules.specs.Layout.{Run, end, skip, known, figure, size}
-use Rattle.studio_rules.specs.Rules.{limit}
 use Rattle.shared_words.specs.Conditions.{Answer, refused, accepted}
 use Rattle.studio_rules.specs.Walk.{verdict}
 use Rattle.studio_rules.specs.Gives.{Mesh, oneMesh, meshOf, meshesOf, meshes}
-use Rattle.studio_rules.specs.Calls.{pickMesh}
 use Rattle.studio_rules.proofs.Sound.{length-bytes}
 use Rattle.studio_rules.proofs.Verdict.{accepted-exactly}
 use Rattle.studio_mesh_asked.specs.Choices.{Choice, no, yes, choose}

@@ -11,9 +11,9 @@ use Rattle.shared_words.specs.declared.Refusal.the-variants.{NoRoom}
 use Rattle.shared_words.specs.Bytes.{Bytes, le, packed}
 use Rattle.shared_words.specs.Conditions.{Answer, refused, accepted}
 use Rattle.shared_words.specs.Effects.{leaving, filled}
+use Rattle.shared_words.specs.Refusals.{limit}
 use Rattle.shared_numbers.proofs.Slices.{drop-take}
 use Rattle.studio_rules.specs.Layout.{Run, figure, size, bytes, offsetOf, header}
-use Rattle.studio_rules.specs.Rules.{limit}
 use Rattle.studio_rules.specs.Walk.{lengthField}
 use Rattle.studio_rules.proofs.Sound.{length-bytes}
 use Rattle.studio_rules.proofs.Verdict.{length-figure}

@@ -6,8 +6,8 @@ use lib.ListN.{length, take, drop}
 use lib.Seq.{slice}
 use Rattle.shared_words.specs.Bytes.{le, packed}
 use Rattle.shared_words.specs.Effects.{filled}
+use Rattle.shared_words.specs.Refusals.{limit}
 use Rattle.studio_rules.specs.Layout.{bytes}
-use Rattle.studio_rules.specs.Rules.{limit}
 use Rattle.studio_lookup.specs.Slots.{slots}
 use Rattle.studio_rescue_rules.specs.Rescue.{Sifted, sift, gone}
 use Rattle.studio_rescue_rules.specs.Call.{Lent, flat}

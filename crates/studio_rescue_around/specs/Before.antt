@@ -5,8 +5,9 @@ use mathlib.Core.List.{List, []}
 use lib.ListN.{length, drop}
 use lib.Seq.{slice}
 use Rattle.shared_words.specs.Conditions.{accepted}
+use Rattle.shared_words.specs.Refusals.{limit}
 use Rattle.studio_rules.specs.Layout.{Run, size}
-use Rattle.studio_rules.specs.Rules.{limit, Obeys}
+use Rattle.studio_rules.specs.Rules.{Obeys}
 use Rattle.studio_rules.specs.Walk.{walk, top}
 use Rattle.studio_lookup.specs.Slots.{slots}
 use Rattle.studio_marks.specs.Marks.{noMarks, marksAfter}

@@ -8,8 +8,9 @@ use lib.ListN.{length, take, drop, length-append, length-drop}
 use borrow.Author.Tests.{leb-true, eqb-true}
 use Rattle.shared_words.specs.declared.Refusal.{Refusal}
 use Rattle.shared_words.specs.Bytes.{value, Bytes}
+use Rattle.shared_words.specs.Refusals.{limit}
 use Rattle.studio_rules.specs.Layout.{Run, known, figure, header, size, bytes}
-use Rattle.studio_rules.specs.Rules.{file, limit, Obeys, version, Meets}
+use Rattle.studio_rules.specs.Rules.{file, Obeys, version, Meets}
 use Rattle.shared_words.specs.Conditions.{broken, Answer, refused, accepted, unless}
 use Rattle.studio_rules.specs.Walk.{fileConditions, endConditions, lengthField, ended, versionIn, top}
 use Rattle.shared_words.proofs.Bytes.{bytes-drop}

@@ -12,8 +12,9 @@ use lib.ListN.{length, drop, length-drop}
 use borrow.Author.Tests.{eqb-true, leb-true}
 use Rattle.shared_words.specs.declared.Refusal.{Refusal}
 use Rattle.shared_words.specs.Bytes.{Bytes}
+use Rattle.shared_words.specs.Refusals.{limit}
 use Rattle.studio_rules.specs.Layout.{Run, end, skip, known, header, size, bytes, offsetOf, _then_}
-use Rattle.studio_rules.specs.Rules.{Parent, inside, tally, limit, Obeys}
+use Rattle.studio_rules.specs.Rules.{Parent, inside, tally, Obeys}
 use Rattle.shared_words.specs.Conditions.{broken, Answer, refused, accepted}
 use Rattle.studio_rules.specs.Walk.{fileConditions, lengthField, Step, stop, pass, enter, step, ended, withSkip, withKnown, taken, walk, top, verdict}
 use Rattle.shared_words.proofs.Bytes.{bytes-drop}

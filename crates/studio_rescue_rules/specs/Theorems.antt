@@ -5,11 +5,11 @@ use Prim.Native.Nat.{ℕ, _+_, _≤_}
 use mathlib.Core.List.{List, [], _∷_, _++_, map}
 use lib.ListN.{length, take, drop}
 use Rattle.shared_words.specs.declared.Refusal.{Refusal}
-use Rattle.shared_words.specs.Refusals.{numberOf}
+use Rattle.shared_words.specs.Refusals.{limit, numberOf}
 use Rattle.shared_words.specs.Lists.{All}
 use Rattle.shared_words.specs.Bytes.{Bytes}
 use Rattle.studio_rules.specs.Layout.{Run, header, size, bytes, offsetOf}
-use Rattle.studio_rules.specs.Rules.{limit, Obeys}
+use Rattle.studio_rules.specs.Rules.{Obeys}
 use Rattle.studio_rules.specs.Walk.{walk, top, verdict, lengthField}
 use Rattle.shared_words.specs.Conditions.{refused, accepted}
 use Rattle.studio_rules.specs.Gives.{meshes}

@@ -6,13 +6,12 @@ use mathlib.Core.Option.{Option, none, some}
 use lib.ListN.{length}
 use lib.Seq.{slice}
 use Rattle.shared_words.specs.declared.Refusal.{Refusal}
-use Rattle.shared_words.specs.Refusals.{numberOf}
+use Rattle.shared_words.specs.Refusals.{limit, numberOf}
 use Rattle.shared_words.specs.Bytes.{packed}
 use Rattle.shared_words.specs.Conditions.{broken, Answer, refused, accepted}
 use Rattle.shared_words.specs.Effects.{filled}
 use Rattle.shared_numbers.specs.Put.{Put}
 use Rattle.studio_rules.specs.Layout.{Run, size, bytes}
-use Rattle.studio_rules.specs.Rules.{limit}
 use Rattle.studio_rules.specs.Walk.{headerConditions, lengthField}
 use Rattle.studio_lookup.specs.Slots.{slots}
 use Rattle.studio_rescue_rules.specs.Rescue.{Cut, Sifted, sift, gone}

@@ -10,9 +10,10 @@ use borrow.Author.Tests.{leb-true, le-leb, eqb-true, eq-eqb}
 use Rattle.shared_words.specs.declared.Refusal.{Refusal}
 use Rattle.shared_words.specs.Bytes.{value, Bytes}
 use Rattle.shared_words.specs.Lists.{every}
+use Rattle.shared_words.specs.Refusals.{limit}
 use Rattle.studio_rules.specs.Table.{under, plus, shape, rows, limits, atMostOne}
 use Rattle.studio_rules.specs.Layout.{Run, figure, size, bytes}
-use Rattle.studio_rules.specs.Rules.{Parent, file, limit, childrenInPlus, Own, Children, Obeys, version, Meets}
+use Rattle.studio_rules.specs.Rules.{Parent, file, childrenInPlus, Own, Children, Obeys, version, Meets}
 use Rattle.shared_words.specs.Conditions.{broken, Answer, refused, accepted, unless}
 use Rattle.studio_rules.specs.Walk.{fileConditions, lengthField, walk, versionIn, top, figureAt, verdict}
 use Rattle.shared_words.proofs.Bytes.{bytes-drop, value-le}

@@ -7,9 +7,10 @@ use mathlib.Core.Option.{Option, none, some}
 use lib.Dec.{eqb, leb}
 use lib.Ieee.{Float}
 use lib.ListN.{length, getElem?}
+use Rattle.shared_words.specs.Picked.{pickMesh}
 use Rattle.studio_rules.specs.declared.Record.{Record}
 use Rattle.shared_words.specs.declared.Refusal.{Refusal}
-use Rattle.shared_words.specs.declared.Refusal.the-variants.{NoRoom, NoSuchMesh, Empty}
+use Rattle.shared_words.specs.declared.Refusal.the-variants.{NoRoom, Empty}
 use Rattle.studio_rules.specs.declared.Counts.{Counts}
 use Rattle.studio_rules.specs.declared.Checked.{Checked}
 use Rattle.studio_rules.specs.declared.Sizes.{Sizes}
@@ -55,11 +56,6 @@ unfoldable pub listCall : {A : Type 0} → Encoding Record A → List ℕ → Li
 listCall e s row = listOf e row (verdict s)
 
 -- ---- one mesh
-
--- the mesh of a number, among those of a figure; 16 refuses the number, not the file
-abbrev pub pickMesh : {A : Type 0} → (Refusal → A) → (Mesh → A) → ℕ → Option Mesh → A
-pickMesh refuse use-it meshes none = refuse (NoSuchMesh meshes)
-pickMesh refuse use-it meshes (some m) = use-it m
 
 abbrev pub ofMesh : {A : Type 0} → (Refusal → A) → (Mesh → A) → ℕ → Answer Run → A
 ofMesh refuse use-it mesh (refused r) = refuse r

@@ -7,6 +7,7 @@ use lib.Dec.{eqb, ltb, leb}
 use lib.ListN.{length}
 use Rattle.shared_words.specs.Bytes.{value}
 use Rattle.shared_words.specs.Lists.{every, among}
+use Rattle.shared_words.specs.Refusals.{limit}
 use Rattle.studio_rules.specs.Table.{theFile, listed, under, shape, plus, limits, needs}
 use Rattle.shared_words.specs.Floats.{finite}
 use Rattle.studio_rules.specs.OwnData.{count, ownSize, nameFits, vertexNumbers, mappingNumbers, faceCorners, faceNumbers, father, root}
@@ -145,10 +146,6 @@ Obeys p seen end = Unit
 Obeys p seen (skip id body rest) = (unlisted id ≡ true) × Obeys p seen rest
 Obeys p seen (known id own kids rest) =
     Own p seen id own × Children (inside p seen id own) kids × Obeys (inside p seen id own) [] kids × Obeys p (id ∷ seen) rest
-
--- the longest file
-abbrev pub limit : ℕ
-limit = 1_048_576
 
 -- the version of a file, by the children of its 4D4D: own data of its 0002, and 0 where there is none
 abbrev pub version : Run → ℕ

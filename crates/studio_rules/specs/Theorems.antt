@@ -8,11 +8,12 @@ use mathlib.Core.List.{List, []}
 use mathlib.Core.Option.{some}
 use lib.ListN.{length, drop, getElem?}
 use Rattle.shared_words.specs.Bytes.{Bytes}
+use Rattle.shared_words.specs.Refusals.{limit}
 use Rattle.studio_rules.specs.declared.Record.{Record}
 use Rattle.shared_words.specs.Lists.{All, Pairwise}
 use Rattle.studio_rules.specs.Layout.{Run, figure, bytes, identifiers}
 use Rattle.studio_rules.specs.OwnData.{root}
-use Rattle.studio_rules.specs.Rules.{Parent, few, Obeys, limit, version, Meets}
+use Rattle.studio_rules.specs.Rules.{Parent, few, Obeys, version, Meets}
 use Rattle.shared_words.specs.Conditions.{accepted}
 use Rattle.studio_rules.specs.Walk.{versionIn, verdict}
 use Rattle.studio_rules.specs.Gives.{list, headers, owned, skipped, Mesh, meshes, Part, parts}

@@ -11,10 +11,11 @@ use Rattle.shared_words.specs.declared.Refusal.the-variants.{TooLong, NotAFigur
 use Rattle.shared_words.specs.declared.Refusal.the-variants.{Name, Length, Number, Index, Count, Missing, Father, Text}
 use Rattle.shared_words.specs.Bytes.{value}
 use Rattle.shared_words.specs.Conditions.{Condition, must, broken, Answer, refused, accepted, unless}
+use Rattle.shared_words.specs.Refusals.{limit}
 use Rattle.studio_rules.specs.Table.{listed, shape, plus}
 use Rattle.studio_rules.specs.OwnData.{ownSize, hasName}
 use Rattle.studio_rules.specs.Layout.{Run, end, skip, known, offsetOf}
-use Rattle.studio_rules.specs.Rules.{Parent, file, inside, limit, inPlace, notTwice}
+use Rattle.studio_rules.specs.Rules.{Parent, file, inside, inPlace, notTwice}
 use Rattle.studio_rules.specs.Rules.{namesFit, numbersFinite, faceNumbersBelow, fatherEarlier, noneMissing, cornersBelow, mappingMatches}
 
 -- ---- conditions, in the order in which they are asked

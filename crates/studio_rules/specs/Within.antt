@@ -5,13 +5,13 @@ use mathlib.Core.Bool.{true, not}
 use Prim.Native.Nat.{_+_, _≤_, _<_, _^_}
 use lib.Dec.{T}
 use lib.Ieee.{Float, binary32, isNan, toBits}
+use Rattle.shared_words.specs.Refusals.{limit}
 use Rattle.studio_rules.specs.declared.Checked.{Checked}
 use Rattle.studio_rules.specs.declared.Named.{Named}
 use Rattle.studio_rules.specs.declared.Tabled.{Tabled}
 use Rattle.studio_rules.specs.declared.Boxed.{Boxed}
 use Rattle.studio_rules.specs.declared.Corner.{Corner}
 use Rattle.shared_words.specs.Floats.{finite}
-use Rattle.studio_rules.specs.Rules.{limit}
 use Rattle.shared_words.specs.Floats.{float}
 
 abbrev pub CountsWithin : Checked → Type 0

@@ -10,6 +10,7 @@ use lib.Ieee.{Float}
 use lib.ListN.{length, take, drop, length-append, length-drop, length-map, take-append-drop}
 use lib.Seq.{take-at}
 use borrow.Author.Tests.{eq-eqb, le-leb}
+use Rattle.shared_words.specs.Refusals.{limit}
 use Rattle.shared_words.proofs.Numbers.{length-numbers, front, packed-numbers}
 use Rattle.studio_rules.proofs.Corners.{length-corners}
 use Rattle.shared_words.specs.declared.Refusal.the-variants.{NoRoom}
@@ -23,7 +24,6 @@ use Rattle.shared_words.specs.Floats.{finite}
 use Rattle.shared_words.specs.Labels.{fitsLabel}
 use Rattle.studio_rules.specs.OwnData.{count, text, vertexNumbers, faceCorners}
 use Rattle.studio_rules.specs.Layout.{Run, end, known, figure, header, bytes}
-use Rattle.studio_rules.specs.Rules.{limit}
 use Rattle.shared_words.specs.Conditions.{accepted}
 use Rattle.studio_rules.specs.Walk.{verdict}
 use Rattle.shared_words.specs.Floats.{float}

@@ -13,8 +13,8 @@ use borrow.Author.Tests.{eqb-true, leb-true}
 use Rattle.shared_words.specs.declared.Refusal.{Refusal}
 use Rattle.shared_words.specs.Lists.{every}
 use Rattle.shared_words.specs.Labels.{fitsLabel}
-use Rattle.studio_rules.specs.Rules.{limit}
 use Rattle.shared_words.specs.Conditions.{Condition, must, broken}
+use Rattle.shared_words.specs.Refusals.{limit}
 use Rattle.shared_words.proofs.Bools.{and-parts}
 use Rattle.shared_words.proofs.Conditions.{Met, met, unbroken}
 use Rattle.shared_words.specs.declared.Written.the-variants.{Size, Refused}

@@ -11,10 +11,10 @@ use Rattle.shared_words.specs.declared.Refusal.{Refusal}
 use Rattle.shared_words.specs.declared.Refusal.the-variants.{TooLong, Name, Number, Index, Count, NoRoom, Text}
 use Rattle.shared_words.specs.Lists.{every, firstFault}
 use Rattle.shared_words.specs.Labels.{fitsLabel, labelFault}
-use Rattle.studio_rules.specs.Rules.{limit}
 use Rattle.shared_words.specs.Conditions.{Condition, must, broken}
 use Rattle.shared_words.specs.declared.Written.{Written}
 use Rattle.shared_words.specs.declared.Written.the-variants.{Size, Refused}
+use Rattle.shared_words.specs.Refusals.{limit}
 
 -- how many vertices, or faces, a row has: three numbers to each
 abbrev pub triples : {A : Type 0} → List A → ℕ

@@ -4,7 +4,7 @@ use Prim.Native.Nat.{ℕ}
 use mathlib.Core.Bool.{false≢true}
 use native.Mathlib.Omega.{arith}
 use lib.Dec.{leb}
-use Rattle.slip_rules.specs.Rules.{limit}
+use Rattle.slip_rules.specs.Rules.{mostEntries}
 use Rattle.slip_check.proofs.Head.{head-short, head-version, head-length, head-count}
 use borrow.Author.Needs.{needs}
 use Rattle.slip_check.proofs.is_headed.Statement.{statement}
@@ -34,7 +34,7 @@ word-at-requires c κs = search needs
 returns-4 : tie.Need-returns-4
 returns-4 c =
     let s = c .before .before .before .before .before .before .before .args .s .now in
-    (ap (λ (k : ℕ). leb k limit) (c .word-at .ensures .is) ∙ sym (head-count s (omega arith) (omega arith) (omega arith)), λ e. omega arith)
+    (ap (λ (k : ℕ). leb k mostEntries) (c .word-at .ensures .is) ∙ sym (head-count s (omega arith) (omega arith) (omega arith)), λ e. omega arith)
 
 pub is-headed-spec : {M : Type 1} → statement M
 is-headed-spec =
