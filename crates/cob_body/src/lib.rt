@@ -3,9 +3,9 @@
 
 use cob_rules::Kind;
 use shared_numbers::long_at;
+use shared_numbers::wide;
 use shared_numbers::word_at;
 ghost use Prim.Native.Nat.{_+_, _≤_};
-ghost use mathlib.Core.Path.{_≡_};
 ghost use lib.ListN.{length};
 ghost use mathlib.Core.List.{[], _∷_, _++_};
 ghost use Rattle.cob_rules.specs.Kinds.{natural, times, faces, optional, string, group, vertices, textures, parts};
@@ -23,12 +23,6 @@ pub enum Place {
 enum Counted {
     Of(usize),
     Bad,
-}
-
-fn wide(x: u32) -> usize
-    ensures { λ r. ⌜ r ≡ x ⌝ }
-{
-    x as usize
 }
 
 // So many bytes.

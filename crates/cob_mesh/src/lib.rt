@@ -5,6 +5,7 @@ use cob_body::group_end;
 use cob_body::textures_end;
 use cob_body::vertices_end;
 use shared_numbers::long_at;
+use shared_numbers::wide;
 use shared_numbers::word_at;
 use studio_scan::all_finite;
 ghost use mathlib.Core.Path.{_≡_};
@@ -39,12 +40,6 @@ pub enum Judged {
     Number,
     Index,
     Good,
-}
-
-fn wide(x: u32) -> usize
-    ensures { λ r. ⌜ r ≡ x ⌝ }
-{
-    x as usize
 }
 
 // Where the lists of a mesh stand.

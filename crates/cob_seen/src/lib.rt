@@ -1,6 +1,7 @@
 // A set of 32-bit identifiers, as a digital search tree in lent rows: at most some 32 steps for any identifier, however they are
 // chosen. Node k holds ids[k]; its two links are links[2 * k] and links[2 * k + 1], the number of a later node or 0 for none. A search
 // takes the bits of x from the lowest up.
+use shared_numbers::wide;
 ghost use mathlib.Core.Path.{_≡_};
 ghost use Rattle.shared_tree.specs.Tree.{Ended};
 ghost use Rattle.cob_seen.specs.Tree.{bits, treeIn, Represents, Ready, Grown, Admitted, numberIn};
@@ -15,12 +16,6 @@ struct Spot {
 pub enum Place {
     At(usize),
     Nowhere,
-}
-
-fn wide(x: u32) -> usize
-    ensures { λ r. ⌜ r ≡ x ⌝ }
-{
-    x as usize
 }
 
 // The search for x: to the node that holds it, or to one with no link on its side.

@@ -10,6 +10,7 @@ use cob_mesh::lists_of;
 use cob_rules::Answered;
 use shared_numbers::long_at;
 use shared_numbers::put_long;
+use shared_numbers::wide;
 use shared_words::Refusal;
 use studio_mesh_rows::fill_float_bytes;
 ghost use mathlib.Core.Path.{_≡_};
@@ -43,12 +44,6 @@ enum Found {
 enum Asked {
     At(usize, usize),
     Refused(Refusal),
-}
-
-fn wide(x: u32) -> usize
-    ensures { λ r. ⌜ r ≡ x ⌝ }
-{
-    x as usize
 }
 
 // 1 for a mesh, 0 for any other chunk.

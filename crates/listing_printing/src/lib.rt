@@ -1,7 +1,7 @@
 // Text put into a lent buffer: each function puts it at a position of out, and answers the position behind it. No
 // contract can say what a program writes to its output, so what is printed is made here first, as bytes.
+use shared_numbers::put_byte;
 ghost use mathlib.Core.Path.{_≡_};
-ghost use mathlib.Core.List.{[], _∷_};
 ghost use Prim.Native.Nat.{_+_, _<_, _≤_};
 ghost use lib.ListN.{length};
 ghost use Rattle.shared_numbers.specs.Put.{Put};
@@ -13,15 +13,6 @@ fn digit(d: usize) -> u8
     ensures { λ r. ⌜ r ≡ glyph d ⌝ }
 {
     if d < 10 { 48 + d as u8 } else { 55 + d as u8 }
-}
-
-// One character.
-pub fn put_byte(b: u8, at: usize, out: &mut [u8]) -> usize
-    requires { ⌜ at < length (now out) ⌝ }
-    ensures { λ r. ⌜ Put (now (out .entry)) at (b ∷ []) (now (out .exit)) r ⌝ }
-{
-    out[at] = b;
-    at + 1
 }
 
 // A text that is there already.

@@ -1,10 +1,10 @@
 // What the listing program prints, as bytes in a lent buffer. Each `put_` function puts text at a position of out and
 // answers the position behind it; the bytes around the text stay.
 use listing_input::Input;
-use listing_printing::put_byte;
 use listing_printing::put_decimal;
 use listing_printing::put_four_digits;
 use listing_printing::put_text;
+use shared_numbers::put_byte;
 use shared_words::Refusal;
 use studio_list_rows::RECORD_NUMBERS;
 use studio_rules::Checked;

@@ -1,6 +1,7 @@
-// Little-endian numbers in a slice, read and written, 32-bit floats read, and the test of a float's exponent.
+// Bytes and little-endian numbers in a slice, read and written, 32-bit floats read, and the test of a float's exponent.
 ghost use mathlib.Core.Path.{_≡_};
 ghost use mathlib.Core.Bool.{true};
+ghost use mathlib.Core.List.{[], _∷_};
 ghost use Prim.Native.Nat.{_+_, _<_, _≤_};
 ghost use lib.ListN.{length, getD};
 ghost use Rattle.shared_words.specs.Bytes.{le};
@@ -62,7 +63,23 @@ pub fn float_at(s: &[u8], at: usize) -> f32
     f32::from_bits(long_at(s, at))
 }
 
+// A 4-byte number as a position or a count.
+pub fn wide(x: u32) -> usize
+    ensures { λ r. ⌜ r ≡ x ⌝ }
+{
+    x as usize
+}
+
 // ---- written
+
+// Puts a byte at a position of out, and answers the position behind it.
+pub fn put_byte(b: u8, at: usize, out: &mut [u8]) -> usize
+    requires { ⌜ at < length (now out) ⌝ }
+    ensures { λ r. ⌜ Put (now (out .entry)) at (b ∷ []) (now (out .exit)) r ⌝ }
+{
+    out[at] = b;
+    at + 1
+}
 
 // Puts a 2-byte number at a position of out, and answers the position behind it.
 pub fn put_word(v: u16, at: usize, out: &mut [u8]) -> usize

@@ -3,12 +3,12 @@
 use shared_big_endian::put_long;
 use shared_big_endian::put_word;
 use shared_copy::put_part;
+use shared_numbers::put_byte;
 use shared_words::Written;
 use slip_rules::Numbers;
 use slip_write_judge::judge;
 use slip_write_judge::row;
 ghost use mathlib.Core.Path.{_≡_};
-ghost use mathlib.Core.List.{[], _∷_};
 ghost use Prim.Native.Nat.{_+_, _<_, _≤_};
 ghost use lib.ListN.{length};
 ghost use Rattle.shared_words.specs.Lists.{All};
@@ -16,14 +16,6 @@ ghost use Rattle.shared_numbers.specs.Put.{Put};
 ghost use Rattle.slip_rules.specs.Slip.{entryBytes, allBytes, bytes};
 ghost use Rattle.slip_rules.specs.Calls.{entryFrom, entriesFrom, givenBytes, slipWriteCall};
 ghost use Rattle.slip_write.specs.Ready.{Fitting, Ready};
-
-fn put_byte(b: u8, at: usize, out: &mut [u8]) -> usize
-    requires { ⌜ at < length (now out) ⌝ }
-    ensures { λ r. ⌜ Put (now (out .entry)) at (b ∷ []) (now (out .exit)) r ⌝ }
-{
-    out[at] = b;
-    at + 1
-}
 
 // One entry.
 fn put_entry(names: &[u8], it: Numbers, at: usize, out: &mut [u8]) -> usize

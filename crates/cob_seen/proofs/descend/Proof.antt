@@ -9,7 +9,7 @@ use Rattle.cob_seen.specs.Tree.{bits, treeIn}
 use Rattle.cob_seen.proofs.Search.{bit}
 use Rattle.cob_seen.proofs.descend.Lts as lts
 use Rattle.cob_seen.proofs.descend.Reads as reads
-use Rattle.cob_seen.proofs.wide.Reads as wide-reads
+use Rattle.shared_numbers.proofs.wide.Reads as wide-reads
 use Rattle.cob_seen.proofs.descend.Statement.{statement}
 use Rattle.cob_seen.proofs.descend.Tie as tie
 

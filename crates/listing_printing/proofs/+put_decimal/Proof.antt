@@ -10,7 +10,7 @@ use Rattle.listing_printing.proofs.put_decimal.Reads as put-decimal
 use Rattle.listing_printing.proofs.put_decimal.Kinds as put-decimal-kinds
 use Rattle.listing_printing.proofs.+put_decimal.Lts-put_decimal as put-decimal-lts
 use Rattle.listing_printing.proofs.digit.Reads as digit-reads
-use Rattle.listing_printing.proofs.put_byte.Reads as put-byte-reads
+use Rattle.shared_numbers.proofs.put_byte.Reads as put-byte-reads
 use Rattle.listing_printing.proofs.+put_decimal.{statement}
 use Rattle.listing_printing.proofs.+put_decimal.Tie.{close}
 

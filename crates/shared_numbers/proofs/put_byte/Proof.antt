@@ -1,8 +1,8 @@
 -- One store.
 use borrow.Author.Needs.{needs}
 use Rattle.shared_numbers.proofs.Put.{put-byte}
-use Rattle.listing_printing.proofs.put_byte.Statement.{statement}
-use Rattle.listing_printing.proofs.put_byte.Tie as tie
+use Rattle.shared_numbers.proofs.put_byte.Statement.{statement}
+use Rattle.shared_numbers.proofs.put_byte.Tie as tie
 
 slice-write-out : tie.Need-slice-write-out
 slice-write-out c = search needs
