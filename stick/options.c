@@ -203,10 +203,16 @@ static void judge_rescue(struct options *options) {
     }
 }
 
-/* Whether a folder was named before, by whatever name. */
-static bool is_again(const struct options *options, size_t folder) {
+static bool are_nested(const char *one, const char *other) {
+    return long_lies_in(one, other) || long_lies_in(other, one);
+}
+
+typedef bool test_of_two(const char *one, const char *other);
+
+/* Whether a folder and one that was named before it pass a test. */
+static bool with_earlier(const struct options *options, size_t folder, test_of_two *test) {
     for (size_t i = 0; i < folder; i++) {
-        if (long_same_folder(options->arguments[i], options->arguments[folder])) {
+        if (test(options->arguments[i], options->arguments[folder])) {
             return true;
         }
     }
@@ -214,20 +220,24 @@ static bool is_again(const struct options *options, size_t folder) {
 }
 
 /* The first such folder, or NULL. */
-static const char *named_again(const struct options *options) {
+static const char *first_with_earlier(const struct options *options, test_of_two *test) {
     for (size_t i = 1; i < options->count; i++) {
-        if (is_again(options, i)) {
+        if (with_earlier(options, i, test)) {
             return options->arguments[i];
         }
     }
     return NULL;
 }
 
-/* Two writers in one folder would be in each other's way. */
+/* Two writers in one folder would be in each other's way, and one inside the other's too. */
 static void judge_writing(struct options *options) {
-    const char *again = named_again(options);
+    const char *again = first_with_earlier(options, long_same_folder);
+    const char *nested = first_with_earlier(options, are_nested);
     if (again != NULL) {
         mistake(options, "each stick is written once: leave the second ", again, " away");
+    } else if (nested != NULL) {
+        mistake(options, "no stick that is written may lie inside another: leave ", nested,
+                " away");
     }
 }
 

@@ -31,6 +31,16 @@ status_is 2
 has err "stick: each stick is written once: leave the second $T/./once away"
 if [ -z "$(ls "$T/once")" ]; then pass; else fail 'something was written'; fi
 
+try 'a stick inside another: nothing is written'
+mkdir -p "$T/outer/inner"
+stick --copy "$E" "$T/outer" "$T/outer/inner"
+status_is 2
+has err "stick: no stick that is written may lie inside another: leave $T/outer/inner away"
+stick --copy "$E" "$T/outer/inner" "$T/outer"
+status_is 2
+has err "stick: no stick that is written may lie inside another: leave $T/outer away"
+if [ "$(find "$T/outer" | wc -l)" -eq 2 ]; then pass; else fail 'something was written'; fi
+
 try 'a copy is read from the stick, not from memory'
 mkdir "$T/settled"
 cp "$E/adze.3ds" "$T/settled"
