@@ -46,16 +46,18 @@
  * compared two by two. Each call that reads a figure checks all of it first; the longest takes 0.02
  * to 3 milliseconds, by what is in it, and up to 10 if it is a .cob file made for that
  * (docs/BENCH.md). tds_list, tds_records, tds_meshes, tds_parts and those about one mesh take up to
- * twice that, tds_rescue up to 10 milliseconds. So a call for each of many meshes costs the whole
- * file each time, and one tds_meshes for all of them once. tds_sum_join and tds_sum_matches read no
- * bytes. Stack: at most 20 kilobytes; tds_c4d_list needs 540, tds_write_figure 620 where there are
- * more than 32 objects or materials, the four calls on .cob files 850.
+ * twice as long as the check, and up to 0.1 milliseconds more where that mesh is large; tds_rescue
+ * up to 10 milliseconds. So a call for each of many meshes costs the whole file each time, and one
+ * tds_meshes for all of them once. tds_sum_join and tds_sum_matches read no bytes. Stack: at most
+ * 20 kilobytes; tds_c4d_list needs 540, tds_write_figure 620 where there are more than 32 objects
+ * or materials, the four calls on .cob files 850.
  *
- * ORDER OF REFUSALS. First the faults of the file, which are 1 to 14, 23 and 24: the first that is
- * met, walking the file from its start, a chunk's own faults before those inside it, 24 right after
- * 9 and 23 after 10. Only at a chunk's end, behind all inside it, come 14 and, of a mesh, 12 for
- * its corners and 13. Then 16; then 17; then 15. So a damaged file is refused as damaged whatever
- * mesh was asked for and whatever room was lent.
+ * ORDER OF REFUSALS. First the faults of the file, which are 1 to 14, 23 and 24: 1; 2; 4, 5, 3 of
+ * 4D4D; and then the first that is met, walking the file from its start. Of one chunk that is 6, 4,
+ * 5, 7, 8, 9, 24, 10, 11, 12, 23, in this order; then those of the chunks inside it; and at its end
+ * 14 and, of a mesh, 12 for its corners and 13. Then 16; then 17; then 15. So a damaged file is
+ * refused as damaged whatever mesh was asked for and whatever room was lent. (Caligari and Cinema
+ * 4D figures have an order of their own: see there.)
  *
  * LANGUAGE. C89 and later, and C++. <stdint.h> came only with C99, but is there with every compiler
  * this library is built for, in C89 mode too, and is the one thing beyond C89 that is used here.
@@ -77,7 +79,7 @@ extern "C" {
  * lent may be filled in another way than it was built for. (Version 1 had six numbers a record, and
  * no tds_version.) CHANGELOG.md says what came with each.
  */
-#define TDS_VERSION (65536 * 2 + 256 * 6 + 2)
+#define TDS_VERSION (65536 * 2 + 256 * 7 + 0)
 uint64_t tds_version(void);
 
 /* No file longer than this is a figure. One byte more is enough to hand to tds_check to be told. */
@@ -114,8 +116,8 @@ enum tds_refusal {
     TDS_FATHER = 23,       /* a part that hangs on none before it: see tds_parts (the B010) */
     TDS_TEXT = 24,         /* a name that does not fit the label: see TDS_LONGEST_NAME */
     TDS_FORM = 25,         /* a Cinema 4D file whose first 12 bytes are not right (place 0) */
-    TDS_ORDER = 26,        /* a chunk or sub-chunk of it out of order, or with no end */
-    TDS_COMBINATION = 27,  /* an object of none of the nine kinds (place: its T_END) */
+    TDS_ORDER = 26,        /* a chunk or sub-chunk of it out of order, repeated, or with no end */
+    TDS_COMBINATION = 27,  /* an object of none of the nine kinds, or a repeat (its T_END) */
     TDS_MATERIAL = 28,     /* a texture whose material does not exist */
     TDS_SAME_NAME = 29,    /* two objects, or two materials, of one name (place: the later) */
     TDS_NO_MATERIAL = 30   /* a face group that names no material (place: its number) */
@@ -123,8 +125,8 @@ enum tds_refusal {
 
 /*
  * A name fits the label if it has at most this many bytes, without its zero, each from 32 to 126.
- * It may be empty. Every name in a figure must fit, every name on a slip, and what is to be
- * written.
+ * It may be empty. Every name in a .3ds figure must fit, every name on a slip, and what is to be
+ * written. Names in .cob and .c4d figures are not judged: they may hold any bytes.
  */
 #define TDS_LONGEST_NAME 63
 
@@ -269,6 +271,9 @@ uint64_t tds_name(const uint8_t *file, size_t file_len, uint32_t mesh, uint8_t *
  * -0 are equal). The centre is low / 2 + high / 2, each operation rounded once to a single. Answers
  * 9 (numbers filled), or refuses with a fault of the file; 16 with the count of meshes; 17 if the
  * mesh has no vertices; or 15 with 9 (place). Room is box_len / 4 numbers.
+ *   This call alone computes with floats, and takes a program for granted that rounds to nearest,
+ * traps nothing and keeps numbers below 1.2e-38. (A program that is linked with -ffast-math mostly
+ * takes those for 0, and this call then does too.)
  */
 uint64_t tds_box(const uint8_t *file, size_t file_len, uint32_t mesh, uint8_t *box, size_t box_len);
 
@@ -279,6 +284,7 @@ uint64_t tds_box(const uint8_t *file, size_t file_len, uint32_t mesh, uint8_t *b
  * them. Meshes are in file order, as tds_tables, tds_mapping, tds_name and tds_box number them.
  * Every offset is one in the file, so that names, floats and corners are read where they stand and
  * nothing is copied; all of them lie in the file, and every corner is below the count of vertices.
+ * They have any alignment there, so read them with tds_get_float and tds_get2.
  * Where a mesh has no 4110, no 4120 or no 4140 both numbers of it are 0; one that is there with
  * nothing in it has the count 0 and the offset where its first element would stand, file_len at
  * most. Old figures may have fewer mapping pairs than vertices: the missing ones are 0, 0.
@@ -341,8 +347,9 @@ enum tds_part {
  *
  * Each chunk directly in 3D3D is judged by itself, and cut where it fails. Where one has a bad
  * header (4, 5), or stray bytes stand there (6), nothing tells where the next begins: everything
- * from it to the end of 3D3D goes. Chunks that are not known are never cut, unless they are behind
- * such a header. The lengths of 3D3D and of 4D4D are lowered; every other byte stays as it was.
+ * from it to the end of 3D3D goes. Chunks that are not known are never cut but for such a header,
+ * their own or one before them. The lengths of 3D3D and of 4D4D are lowered; every other byte stays
+ * as it was.
  * tds_check accepts what comes out, and a figure that it accepts comes out unchanged, with no cuts.
  *
  * Fills three numbers a cut, 12 bytes, in the order of enum tds_cut and of the file; tds_get_cut
@@ -450,9 +457,26 @@ uint64_t tds_write_figure(const uint8_t *names, size_t names_len, const uint32_t
                           uint8_t *out, size_t out_len);
 
 /*
+ * The identifiers of materials and of what faces have, for reading the list. A material is an AFFF
+ * in 3D3D. In it stand one A000, whose own data is the name with its zero, and A010, A020, A030; in
+ * these a colour, as tds_write_figure puts it a 0011: red, green and blue, a byte each. In the 4120
+ * of a mesh stand its face groups, 4130: the name of the material with its zero, two bytes that say
+ * how many faces, and the number of each in two bytes; and at most one 4150: four bytes a face.
+ */
+#define TDS_ID_MATERIAL 0xAFFFu
+#define TDS_ID_MATERIAL_NAME 0xA000u
+#define TDS_ID_AMBIENT 0xA010u
+#define TDS_ID_DIFFUSE 0xA020u
+#define TDS_ID_SPECULAR 0xA030u
+#define TDS_ID_COLOUR 0x0011u
+#define TDS_ID_FACE_GROUP 0x4130u
+#define TDS_ID_SMOOTHING 0x4150u
+
+/*
  * CALIGARI FIGURES: binary .cob files, little-endian, with the chunks END 1.0, Grou 0.01, PolH 0.02
  * and Mat1 0.05. A chunk of another type or version is stepped over by its size, but its identifier
- * and parent count. All of the above holds here too. The refusals of a file, in their order:
+ * and parent count. What is said at the top of slices, answers and what is filled holds here too;
+ * names are not judged. The refusals of a file, in their order:
  *
  *    1  as for a figure (place 0)
  *   20  the first 32 bytes are not "Caligari V00.01BLH", 13 spaces and a newline (place 0)
@@ -526,8 +550,9 @@ uint64_t tds_cob_tables(const uint8_t *file, size_t file_len, uint32_t mesh, uin
 /*
  * THE SLIP OF A STICK: one small file that says which files are on the stick, with the length and
  * the sums of each, so that a damaged file is found. The calls below take any files, not only
- * figures. docs/SLIP.md says what the sums find and what they miss: one turned bit is always
- * found, a byte 0 turned into 255 is not.
+ * figures (tds_sums none over 1,048,576 bytes: for such a file add up its parts with tds_sum_add,
+ * whose answer % 65536 is the sums). docs/SLIP.md says what the sums find and what they miss: one
+ * turned bit is always found, a byte 0 turned into 255 is not.
  *
  * To make one, call tds_sums for each file, lay the names one after another in memory and an entry
  * for each in a row, and call tds_slip_write. To check a stick, call tds_slip_read on its slip, and
@@ -564,8 +589,8 @@ uint64_t tds_matches(const uint8_t *file, size_t file_len, uint32_t length, uint
  * calls no answer is a refusal, and every number stands for something: a sum byte 255 counts as 0,
  * and a length over 2^48 - 1 as 2^48 - 1.
  *
- * tds_sum_add answers the number of what stood before followed by these bytes; an empty part
- * changes nothing. tds_sum_join answers the number of two parts joined, from theirs, so that parts
+ * tds_sum_add answers the number of what stood before followed by these bytes; an empty part adds
+ * nothing. tds_sum_join answers the number of two parts joined, from theirs, so that parts
  * may be summed apart; joining is associative as long as the lengths stay below 2^48.
  */
 uint64_t tds_sum_add(uint64_t before, const uint8_t *part, size_t part_len);
@@ -628,13 +653,16 @@ uint64_t tds_slip_write(const uint8_t *names, size_t names_len, const uint8_t *e
 
 /*
  * CINEMA 4D FIGURES (.c4d). Of these the structure alone is read, as strictly: the sizes of all
- * chunks and sub-chunks, PLTF, MAT4 and OBJ5 in this order and once each, materials up to MAT_END,
- * objects from T_OBJECT to T_END, each with the sub-chunks of one of the nine combinations that the
- * format has. Chunks and sub-chunks of unknown kinds are stepped over. docs/FORMAT.md has the
- * rules.
+ * chunks and sub-chunks; PLTF as the very first chunk or not at all, MAT4 before OBJ5, each at most
+ * once; materials up to MAT_END; objects from T_OBJECT to T_END, each with the sub-chunks of one of
+ * the nine combinations that the format has, and none of them twice but textures. Chunks and
+ * sub-chunks of unknown kinds are stepped over. A file with none of these is accepted, and has no
+ * objects. docs/FORMAT.md has the rules.
  *
- * Refusals: 1; 25; then the first fault met, at its chunk or sub-chunk: 5, 10 for a texture that is
- * not of 64 bytes, 26, 28, 27 (at the T_END; a missing end is 26 at its MAT4 or OBJ5); then 15.
+ * Refusals: 1; 25; then the first fault met in file order, at its chunk or sub-chunk, and at one
+ * place in this order: 5, also for what is too short to be a header; 10 for a texture that is not
+ * of 64 bytes; 26 for what is out of order, or a chunk that is repeated; 28; 27 at the T_END, also
+ * for a sub-chunk that is repeated. A missing end is 26 at its MAT4 or OBJ5. Then 15.
  */
 
 /* Answers the count of objects, which may be 0, or refuses. */
@@ -674,17 +702,17 @@ uint64_t tds_c4d_list(const uint8_t *file, size_t file_len, uint8_t *objects, si
 #define TDS_INLINE static
 #endif
 
-/* Two bytes of a filled slice as a number. */
+/* Two bytes of a filled slice, or of a .3ds file, as a number. */
 TDS_INLINE uint16_t tds_get2(const uint8_t *at) {
     return (uint16_t)(at[0] | (uint16_t)(at[1] << 8));
 }
 
-/* Four bytes of a filled slice as a number. */
+/* Four such bytes as a number. */
 TDS_INLINE uint32_t tds_get4(const uint8_t *at) {
     return (uint32_t)at[0] | (uint32_t)at[1] << 8 | (uint32_t)at[2] << 16 | (uint32_t)at[3] << 24;
 }
 
-/* Four bytes of a filled slice as a float. */
+/* Four such bytes as a float. */
 TDS_INLINE float tds_get_float(const uint8_t *at) {
     uint32_t bits = tds_get4(at);
     float number;

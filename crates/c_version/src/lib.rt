@@ -6,10 +6,10 @@ ghost use Rattle.c_version.specs.Version.{version};
 const MAJOR: u64 = 2;
 
 // Grows where there is more than before, and all that was there is as it was.
-const MINOR: u64 = 6;
+const MINOR: u64 = 7;
 
 // Grows where nothing changes that a program can ask for.
-const PATCH: u64 = 2;
+const PATCH: u64 = 0;
 
 // The version.
 pub fn version() -> u64
