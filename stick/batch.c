@@ -68,7 +68,8 @@ static void work_on_stick(struct batch *batch) {
     struct text lines = {0}, number = {0};
     int status;
     status = session_work(batch->session, &batch->folder, 1, &lines);
-    log_add(&batch->log, batch->number, batch->of, lines.length == 0 ? "PASS" : lines.bytes);
+    log_add(&batch->log, batch->number, batch->of,
+            lines.length == 0 ? verdict_word(status == 0) : lines.bytes);
     batch->status = status > batch->status ? status : batch->status;
     batch->passed += status == 0;
     if (status != 0) {
@@ -153,6 +154,9 @@ static void say_end(struct batch *batch) {
     set_end(batch, &line);
     fputs(line.bytes, stdout);
     text_free(&line);
+    if (!output_is_whole()) {
+        batch->status = 2;
+    }
 }
 
 int batch_run(struct session *session, char *folder) {

@@ -4,6 +4,7 @@
 #include <errno.h>
 #include <stdlib.h>
 #include <string.h>
+#include <strings.h>
 
 #include "slip.h"
 #include "stop.h"
@@ -22,6 +23,7 @@ struct check {
     struct presence in_master;
     struct presence on_slip;
     struct manifest *files; /* gets all files, if not NULL */
+    struct manifest unread; /* the folders in which nothing could be looked at */
     bool in_folder;         /* the root is a folder, not one file */
     bool readable;          /* its names could be read */
     bool given_up;
@@ -78,15 +80,6 @@ static void check_file(struct check *check, struct subject *subject) {
     }
 }
 
-/* A file that is not read, since there is nothing to judge it by. */
-static void pass_by(struct check *check, const struct subject *subject) {
-    if (subject->kind == KIND_NEAR_FIGURE) {
-        report_near(check->report, subject->path);
-    } else {
-        report_unknown(check->report, subject->path);
-    }
-}
-
 /* Whether it is said of a file that the master has none of its name. */
 static bool is_strange(struct check *check, const struct subject *subject) {
     if (check->in_master.manifest == NULL || subject->master != NULL) {
@@ -110,19 +103,28 @@ static bool is_extra(struct check *check, const struct subject *subject) {
     return false;
 }
 
-/* A file is read if it can be judged by itself or compared with another. */
+/* A file is read if it can be judged by itself or compared with another. What is almost a figure is
+ * none, though a master or a slip may have it too. */
 static void judge_file(struct check *check, struct subject *subject) {
     bool to_collect = check->files != NULL && subject->kind == KIND_OTHER;
     check->figures += subject->kind == KIND_FIGURE;
     if (is_extra(check, subject)) {
         return;
     }
+    if (subject->kind == KIND_NEAR_FIGURE) {
+        report_near(check->report, subject->path);
+    }
     if (subject->kind == KIND_FIGURE || subject->master != NULL || subject->entry != NULL ||
         to_collect) {
         check_file(check, subject);
-    } else {
-        pass_by(check, subject);
+    } else if (subject->kind != KIND_NEAR_FIGURE) {
+        report_unknown(check->report, subject->path);
     }
+}
+
+/* Whether this slip is the one that was read when the check began. */
+static bool was_seen(const struct check *check, const struct subject *subject) {
+    return check->slip.path != NULL && strcmp(last_name(check->slip.path), subject->below) == 0;
 }
 
 /* The slip has been read already; here it is only compared with the master's. */
@@ -131,6 +133,12 @@ static void look_at_slip(struct check *check, struct subject *subject) {
     subject->entry = NULL;
     if (check->slip.state == SLIP_UNREADABLE) {
         return; /* which was said */
+    }
+    if (!was_seen(check, subject)) { /* a stick may fail to answer once, and then go on */
+        check->report->bare = 0;
+        could_not_for_words(check, subject->path,
+                            "this slip was not to be seen when the check began", "check again");
+        return;
     }
     if (!is_strange(check, subject) && subject->master != NULL) {
         check_file(check, subject);
@@ -172,11 +180,21 @@ static void look_at_file(struct check *check, const struct entry *entry) {
     free(master);
 }
 
+/* Whether a file of this name should be there; it is then not missing too. */
+static bool is_expected(struct check *check, const char *below) {
+    bool in_master = presence_meet(&check->in_master, below) != NULL;
+    return presence_meet(&check->on_slip, below) != NULL || in_master;
+}
+
 static void look_at_folder(struct check *check, const struct entry *entry) {
     enum kind kind = kind_of(entry->path);
     if (*entry->below != '\0' && kind == KIND_LEFT_BEHIND) {
         walk_pass_over(&check->walk);
         report_found(check->report, FOUND_LEFT_BEHIND, entry->path, NULL, "delete it");
+    } else if (is_expected(check, entry->below)) {
+        could_not_for_words(check, entry->path,
+                            "it is a folder, and a file of this name belongs here",
+                            "take it off the stick, and copy again");
     } else if (kind == KIND_FIGURE) {
         could_not_for_words(check, entry->path,
                             "it is a folder, though it is named as a figure (what is in it is "
@@ -189,8 +207,7 @@ static void look_at_folder(struct check *check, const struct entry *entry) {
  */
 static void look_at_other(struct check *check, const struct entry *entry) {
     struct trouble trouble;
-    presence_meet(&check->in_master, entry->below);
-    presence_meet(&check->on_slip, entry->below);
+    is_expected(check, entry->below);
     check->figures += kind_of(entry->path) == KIND_FIGURE;
     if (entry->kind == ENTRY_LINK) {
         trouble_of_system(&trouble, ELOOP);
@@ -199,6 +216,7 @@ static void look_at_other(struct check *check, const struct entry *entry) {
     } else if (entry->kind == ENTRY_ERROR) {
         trouble_of_system(&trouble, entry->error);
         check->readable = check->readable && *entry->below != '\0';
+        manifest_add(&check->unread, entry->below, strlen(entry->below), 0, 0);
         could_not(check, entry->path, &trouble);
     } else {
         could_not_for_words(check, entry->path,
@@ -221,9 +239,24 @@ static void look_at(struct check *check, const struct entry *entry) {
     }
 }
 
+/* Whether nobody could see if a file is there. */
+static bool is_unseen(const struct check *check, const char *name) {
+    for (size_t i = 0; i < check->unread.count; i++) {
+        const char *folder = check->unread.entries[i].name;
+        size_t length = strlen(folder);
+        if (strncasecmp(name, folder, length) == 0 && name[length] == '/') {
+            return true;
+        }
+    }
+    return false;
+}
+
 static void say_missing(struct check *check, const char *name, const char *words,
                         const char *remedy) {
     struct text path = {0};
+    if (is_unseen(check, name)) {
+        return;
+    }
     text_path(&path, check->root, name);
     report_found(check->report, FOUND_MISSING, path.bytes, words, remedy);
     text_free(&path);
@@ -313,5 +346,6 @@ void check_stick(const char *root, const struct against *against, struct manifes
     checker_free(&check.checker);
     presence_free(&check.in_master);
     presence_free(&check.on_slip);
+    manifest_free(&check.unread);
     slip_free(&check.slip);
 }

@@ -9,10 +9,7 @@
 
 /* It is not the stick that does not answer. */
 static bool blame_master(struct trouble *trouble) {
-    char detail[sizeof trouble->detail];
-    memcpy(detail, trouble->detail, sizeof detail);
-    trouble_of_words(trouble, "the master's file of this name cannot be read", "check the master");
-    memcpy(trouble->detail, detail, sizeof detail);
+    trouble_elsewhere(trouble, "the master's file of this name cannot be read", "check the master");
     return false;
 }
 

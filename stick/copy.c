@@ -17,6 +17,7 @@ struct copying {
     struct text from;
     struct text to;
     uint8_t *block;
+    bool unread; /* it was the edition's file that failed */
 };
 
 /* Sets the paths of one file in the edition and on the stick. */
@@ -29,7 +30,9 @@ static void set_paths(struct copying *copying, const char *name) {
 static bool make_folder(const char *path, struct trouble *trouble) {
     struct stat status;
     if (long_mkdir(path) == 0) {
-        return true;
+        int error = write_out_name(path);
+        trouble_of_system(trouble, error);
+        return error == 0;
     }
     if (errno != EEXIST || long_stat(path, 1, &status) != 0) {
         trouble_of_system(trouble, errno);
@@ -66,8 +69,8 @@ static bool carry(struct copying *copying, struct reading *reading, struct writi
                   struct trouble *trouble) {
     size_t length;
     do {
-        if (!reading_block(reading, copying->block, MOST_READ, &length, trouble) ||
-            !writing_add(writing, copying->block, length, trouble)) {
+        copying->unread = !reading_block(reading, copying->block, MOST_READ, &length, trouble);
+        if (copying->unread || !writing_add(writing, copying->block, length, trouble)) {
             return false;
         }
         if (stopped()) {
@@ -83,8 +86,11 @@ static bool copy_file(struct copying *copying, struct trouble *trouble) {
     struct reading reading;
     struct writing writing;
     bool good;
-    if (!make_folders(copying, trouble) ||
-        !reading_open(&reading, copying->from.bytes, FROM_ANYWHERE, trouble)) {
+    if (!make_folders(copying, trouble)) {
+        return false;
+    }
+    copying->unread = !reading_open(&reading, copying->from.bytes, FROM_ANYWHERE, trouble);
+    if (copying->unread) {
         return false;
     }
     good = writing_open(&writing, copying->to.bytes, trouble);
@@ -94,6 +100,7 @@ static bool copy_file(struct copying *copying, struct trouble *trouble) {
     }
     if (!reading_close(&reading, &later) && good) {
         *trouble = later;
+        copying->unread = true;
         good = false;
     }
     return good;
@@ -151,6 +158,20 @@ static bool copy_all(struct copying *copying, const struct manifest *manifest,
     return true;
 }
 
+/* Says what failed: a file of the edition, or one on the stick, if that is still there. */
+static void say_not_copied(const struct copying *copying, struct trouble *trouble) {
+    struct stat status;
+    if (copying->unread) {
+        trouble_elsewhere(trouble, "the edition's file cannot be read", "check the edition");
+    } else if (!trouble->gone && long_stat(copying->stick, 0, &status) != 0 &&
+               copying->from.length > 0) {
+        trouble_of_stick(trouble);
+    }
+    copying->report->unfinished = true;
+    report_trouble(copying->report, copying->unread ? copying->from.bytes : copying->to.bytes,
+                   "not copied", trouble);
+}
+
 bool copy_edition(const char *edition, const struct manifest *manifest, const char *stick,
                   struct report *report) {
     struct copying copying = {.edition = edition, .stick = stick, .report = report};
@@ -159,12 +180,7 @@ bool copy_edition(const char *edition, const struct manifest *manifest, const ch
     copying.block = need_memory(NULL, MOST_READ);
     good = copy_all(&copying, manifest, &trouble);
     if (!good) {
-        struct stat status;
-        if (!trouble.gone && long_stat(stick, 0, &status) != 0 && copying.from.length > 0) {
-            trouble_of_stick(&trouble);
-        }
-        report->unfinished = true;
-        report_trouble(report, copying.to.bytes, "not copied", &trouble);
+        say_not_copied(&copying, &trouble);
     }
     text_free(&copying.from);
     text_free(&copying.to);

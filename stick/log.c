@@ -6,6 +6,7 @@
 
 #include <errno.h>
 #include <string.h>
+#include <sys/stat.h>
 #include <time.h>
 
 #include "escape.h"
@@ -34,6 +35,14 @@ static void add_date(struct text *text, const char *form) {
     text_add(text, date);
 }
 
+/* To open one waits until somebody reads from it. */
+static bool is_pipe(const char *path) {
+    struct stat status;
+    bool pipe = stat(path, &status) == 0 && S_ISFIFO(status.st_mode);
+    errno = pipe ? ESPIPE : 0;
+    return pipe;
+}
+
 bool log_open(struct log *log, const char *path) {
     *log = (struct log){0};
     if (path != NULL) {
@@ -41,7 +50,7 @@ bool log_open(struct log *log, const char *path) {
     } else { /* in the folder from which the program was started */
         add_date(&log->name, "stick-batch-%Y-%m-%d.log");
     }
-    log->file = fopen(log->name.bytes, "a");
+    log->file = is_pipe(log->name.bytes) ? NULL : fopen(log->name.bytes, "a");
     if (log->file == NULL) {
         fails(log);
         text_free(&log->name);

@@ -5,10 +5,11 @@
 #include <getopt.h>
 #include <stdio.h>
 #include <stdlib.h>
+#include <string.h>
 #include <sys/stat.h>
 
-#include "escape.h"
 #include "longpath.h"
+#include "mistakes.h"
 #include "refusals.h"
 #include "tds_words.h"
 
@@ -70,23 +71,13 @@ void print_help(void) {
            TDS_LAST_REFUSAL);
 }
 
-/* A mistake in the command line that has to do with one word of it. */
-static void mistake(struct options *options, const char *before, const char *word,
-                    const char *behind) {
-    struct text escaped = {0};
-    text_escaped(&escaped, word);
-    fprintf(stderr, "stick: %s%s%s\n", before, escaped.bytes, behind);
-    text_free(&escaped);
-    options->task = TASK_MISTAKE;
-}
-
 /* A number in words of the command line; 0 if it is none. */
 static unsigned long number_of(const char *words) {
     char *end;
     unsigned long number;
     errno = 0;
     number = strtoul(words, &end, 10);
-    return errno != 0 || end == words || *end != '\0' || words[0] == '-' ? 0 : number;
+    return errno != 0 || *end != '\0' || strspn(words, "0123456789") != strlen(words) ? 0 : number;
 }
 
 static void take_explain(struct options *options, const char *words) {
@@ -98,6 +89,14 @@ static void take_explain(struct options *options, const char *words) {
         mistake(options, "there is no refusal ", words, ": the manual page has them all");
         fprintf(stderr, "They are numbered 1 to %d.\n", TDS_LAST_REFUSAL);
     }
+}
+
+/* One that is given twice may be a mistake: the first would be passed over in silence. */
+static bool is_first(struct options *options, bool given, const char *option) {
+    if (given) {
+        mistake(options, "", option, " is given twice: leave one away");
+    }
+    return !given;
 }
 
 static void take_batch(struct options *options, const char *words) {
@@ -116,7 +115,19 @@ static void take_folder(struct options *options, const char **folder, const char
     }
 }
 
-/* Takes one option into account. --help and --version win over what stands behind them. */
+/* What getopt_long found wrong; it would print a name of any bytes as it is. */
+static void take_wrong(struct options *options, int option, char **argv) {
+    const char short_name[] = {'-', (char)optopt, '\0'};
+    const char *word = optopt > 0 && optopt < 256 && option == '?' ? short_name : argv[optind - 1];
+    if (option == ':') {
+        mistake(options, "a word is missing behind ", word, "");
+    } else {
+        mistake(options, "there is no option ", word, "");
+    }
+    fprintf(stderr, "Try 'stick --help'.\n");
+}
+
+/* Takes one option into account. */
 static void take(struct options *options, int option) {
     switch (option) {
     case 'q':
@@ -134,39 +145,43 @@ static void take(struct options *options, int option) {
     case OPTION_WRITE_SLIP:
         options->write_slip = true;
         break;
-    case OPTION_LOG:
-        options->log = optarg;
-        break;
-    case OPTION_RESCUE:
-        options->rescue = optarg;
-        break;
     case 'h':
         options->task = TASK_HELP;
         break;
-    case 'V':
+    default: /* 'V' */
         options->task = TASK_VERSION;
-        break;
-    default: /* getopt_long has said what is wrong */
-        fprintf(stderr, "Try 'stick --help'.\n");
-        options->task = TASK_MISTAKE;
         break;
     }
 }
 
-/* The options that have a word behind them which can be wrong. */
+/* The options that have a word behind them. */
 static void take_with_word(struct options *options, int option) {
     switch (option) {
     case 'e':
         take_explain(options, optarg);
         break;
     case OPTION_AGAINST:
-        take_folder(options, &options->against, optarg);
+        if (is_first(options, options->against != NULL, "--against")) {
+            take_folder(options, &options->against, optarg);
+        }
         break;
     case OPTION_COPY:
-        take_folder(options, &options->edition, optarg);
+        if (is_first(options, options->edition != NULL, "--copy")) {
+            take_folder(options, &options->edition, optarg);
+        }
         break;
     case OPTION_BATCH:
-        take_batch(options, optarg);
+        if (is_first(options, options->batch > 0, "--batch")) {
+            take_batch(options, optarg);
+        }
+        break;
+    case OPTION_LOG:
+        is_first(options, options->log != NULL, "--log");
+        options->log = optarg;
+        break;
+    case OPTION_RESCUE:
+        is_first(options, options->rescue != NULL, "--rescue");
+        options->rescue = optarg;
         break;
     default:
         take(options, option);
@@ -174,110 +189,21 @@ static void take_with_word(struct options *options, int option) {
     }
 }
 
-/* Whoever names a folder, too, may take the good end of the explaining for that of a check. */
-static void judge_explain(struct options *options) {
-    if (options->count > 0) {
-        mistake(options, "nothing is checked while a refusal is explained: leave ",
-                options->arguments[0], " away");
-    }
-}
-
-static bool has_style(const struct style *style) {
-    return style->quiet || style->verbose || style->list || style->json;
-}
-
-/* A rescue is of one figure, and nothing else is done with it. */
-static void judge_rescue(struct options *options) {
-    if (options->against != NULL || options->edition != NULL || options->write_slip ||
-        options->batch > 0 || options->log != NULL || has_style(&options->style)) {
-        mistake(options, "one figure is mended, and nothing else done: leave all but ", "--rescue",
-                " away");
-    } else if (options->count > 1) {
-        mistake(options, "one figure is mended, into one new file: leave ", options->arguments[1],
-                " away");
-    } else if (options->count == 0 || *options->arguments[0] == '\0') {
-        mistake(options, "which new file is what is left of ", options->rescue,
-                " to go to? For example: stick --rescue adze.3ds what-is-left.3ds");
-    } else {
-        options->task = TASK_RESCUE;
-    }
-}
-
-static bool are_nested(const char *one, const char *other) {
-    return long_lies_in(one, other) || long_lies_in(other, one);
-}
-
-typedef bool test_of_two(const char *one, const char *other);
-
-/* Whether a folder and one that was named before it pass a test. */
-static bool with_earlier(const struct options *options, size_t folder, test_of_two *test) {
-    for (size_t i = 0; i < folder; i++) {
-        if (test(options->arguments[i], options->arguments[folder])) {
-            return true;
-        }
-    }
-    return false;
-}
-
-/* The first such folder, or NULL. */
-static const char *first_with_earlier(const struct options *options, test_of_two *test) {
-    for (size_t i = 1; i < options->count; i++) {
-        if (with_earlier(options, i, test)) {
-            return options->arguments[i];
-        }
-    }
-    return NULL;
-}
-
-/* Two writers in one folder would be in each other's way, and one inside the other's too. */
-static void judge_writing(struct options *options) {
-    const char *again = first_with_earlier(options, long_same_folder);
-    const char *nested = first_with_earlier(options, are_nested);
-    if (again != NULL) {
-        mistake(options, "each stick is written once: leave the second ", again, " away");
-    } else if (nested != NULL) {
-        mistake(options, "no stick that is written may lie inside another: leave ", nested,
-                " away");
-    }
-}
-
-/* What only the whole command line can tell. An option that would do nothing may be a mistake. */
-static void judge(struct options *options) {
-    if (options->task == TASK_EXPLAIN) {
-        judge_explain(options);
-    } else if (options->rescue != NULL) {
-        judge_rescue(options);
-    } else if (options->count == 0) {
-        fprintf(stderr, "stick: which folder is to be checked? For example: stick /media/stick\n"
-                        "Try 'stick --help'.\n");
-        options->task = TASK_MISTAKE;
-    } else if (options->against != NULL && options->edition != NULL) {
-        mistake(options, "--copy compares with the edition already: leave ", "--against", " away");
-    } else if (options->write_slip && (options->against != NULL || options->edition != NULL)) {
-        mistake(options, "a slip is written for the edition itself: leave ",
-                options->edition != NULL ? "--copy" : "--against", " away");
-    } else if (options->batch > 0 && options->count > 1) {
-        mistake(options, "a batch has one folder: leave ", options->arguments[1], " away");
-    } else if (options->batch == 0 && options->log != NULL) {
-        mistake(options, "only a batch is logged: give --batch N too, or leave ", "--log", " away");
-    } else if (options->edition != NULL || options->write_slip) {
-        judge_writing(options);
-    }
-}
-
 struct options options_read(int argc, char **argv) {
     struct options options = {.task = TASK_WORK};
     while (options.task == TASK_WORK || options.task == TASK_EXPLAIN) {
-        int option = getopt_long(argc, argv, "hVqvle:", names, NULL);
+        int option = getopt_long(argc, argv, ":hVqvle:", names, NULL);
         if (option == -1) {
             break;
         }
-        take_with_word(&options, option);
+        if (option == '?' || option == ':') {
+            take_wrong(&options, option, argv);
+        } else {
+            take_with_word(&options, option);
+        }
     }
     options.arguments = argv + optind;
     options.count = (size_t)(argc - optind);
-    if (options.task == TASK_WORK || options.task == TASK_EXPLAIN) {
-        judge(&options);
-    }
+    options_judge(&options, argc - 1);
     return options;
 }

@@ -9,6 +9,9 @@
 #include <string.h>
 
 #include "escape.h"
+#include "formats.h"
+#include "kinds.h"
+#include "longpath.h"
 #include "reading.h"
 #include "stop.h"
 #include "tds_words.h"
@@ -42,10 +45,22 @@ static void say_trouble(const char *path, const struct trouble *trouble) {
     text_free(&escaped);
 }
 
+/* Figures of the other formats, which a file's name tells. */
+static bool is_of_ours(const char *path, struct trouble *trouble) {
+    const struct format *format = format_of(last_name(path));
+    if (format != NULL && format != studio_format()) {
+        trouble_of_words(trouble, "only .3ds figures can be mended",
+                         "take another copy of this figure");
+        return false;
+    }
+    return true;
+}
+
 static bool read_figure(struct patient *patient) {
     struct reading reading;
     struct trouble trouble;
-    bool good = reading_open(&reading, patient->path, FROM_ANYWHERE, &trouble);
+    bool good = is_of_ours(patient->path, &trouble) &&
+                reading_open(&reading, patient->path, FROM_ANYWHERE, &trouble);
     patient->file = need_memory(NULL, MOST_READ);
     if (good) {
         struct trouble later;
@@ -137,10 +152,21 @@ static bool is_stopped(struct trouble *trouble) {
     return asked;
 }
 
+/* What stands there may be the one copy that is left: no word of deleting it. */
+static bool is_free(const char *path, struct trouble *trouble) {
+    struct stat status;
+    if (long_stat(path, 1, &status) == 0) {
+        trouble_of_words(trouble, "something of this name is there already, and is left alone",
+                         "give the new file another name");
+        return false;
+    }
+    return true;
+}
+
 static bool write_mended(const struct patient *patient, const char *path) {
     struct writing writing;
     struct trouble trouble;
-    bool good = writing_open(&writing, path, &trouble);
+    bool good = is_free(path, &trouble) && writing_open(&writing, path, &trouble);
     if (good) {
         bool added =
             writing_add(&writing, patient->out, patient->size, &trouble) && !is_stopped(&trouble);

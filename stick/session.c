@@ -6,6 +6,7 @@
 #include <sys/stat.h>
 
 #include "copy.h"
+#include "kinds.h"
 #include "longpath.h"
 #include "roomy.h"
 #include "slip.h"
@@ -119,6 +120,17 @@ static void check_and_write_slip(const struct session *session, const char *fold
     manifest_free(&files);
 }
 
+/* Whether a folder, or a file, is one of a master, which it would then be compared with. */
+static bool is_of(const char *master, const char *path) {
+    struct text folder = {0};
+    bool inside;
+    text_add_bytes(&folder, path, (size_t)(last_name(path) - path));
+    text_add(&folder, ".");
+    inside = long_lies_in(is_file(path) ? folder.bytes : path, master);
+    text_free(&folder);
+    return inside;
+}
+
 /* Whether nothing can be done with a folder, and why. */
 static bool is_unfit(const struct round *round, size_t job, struct trouble *trouble) {
     const struct options *options = round->session->options;
@@ -127,6 +139,10 @@ static bool is_unfit(const struct round *round, size_t job, struct trouble *trou
         trouble_of_words(trouble, "the name is empty", "give a folder, for example /media/stick");
     } else if (master != NULL && long_same_folder(master, folder)) { /* it would pass in any case */
         trouble_of_words(trouble, "it is the master itself", "give the folder of the stick");
+    } else if (master != NULL && is_of(master, folder)) {
+        trouble_of_words(trouble, "it lies inside the master", "give the folder of the stick");
+    } else if (master != NULL && long_lies_in(master, folder)) { /* its files would be strange */
+        trouble_of_words(trouble, "the master lies inside it", "put the master elsewhere");
     } else if (options->edition != NULL && round->session->unread) {
         trouble_of_words(trouble, "the edition could not be read whole, and nothing was copied",
                          "see above");

@@ -36,15 +36,29 @@ static bool read_blocks(struct subject *subject, struct checker *checker, struct
     return true;
 }
 
+/* Where the length alone decides there is nothing to add up, however long the file is. Answers
+ * false where it is too long for an entry of its own. */
+static bool weigh(struct subject *subject, const struct reading *reading, struct trouble *trouble) {
+    if (subject->entry != NULL && reading->size != subject->entry->length) {
+        subject->sum = reading->size << 16;
+        subject->summed = false;
+    } else if (subject->summed && reading->size > UINT32_MAX) {
+        trouble_of_words(trouble, "it is too big for a slip", "leave it off");
+        return false;
+    }
+    return true;
+}
+
 bool subject_read(struct subject *subject, struct checker *checker, struct trouble *trouble) {
     struct trouble later;
     struct reading reading;
-    bool good = true;
+    bool good;
     if (!reading_open(&reading, subject->path, FROM_STICK, trouble)) {
         return false;
     }
     subject->settled = reading.settled;
-    if (subject->master != NULL) {
+    good = weigh(subject, &reading, trouble);
+    if (good && subject->master != NULL) {
         good = comparison_start(&subject->comparison, subject->master, trouble);
     }
     good = good && read_blocks(subject, checker, &reading, trouble);

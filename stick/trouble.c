@@ -60,6 +60,13 @@ void trouble_of_system(struct trouble *trouble, int error) {
     }
 }
 
+void trouble_elsewhere(struct trouble *trouble, const char *words, const char *remedy) {
+    char detail[sizeof trouble->detail];
+    memcpy(detail, trouble->detail, sizeof detail);
+    trouble_of_words(trouble, words, remedy);
+    memcpy(trouble->detail, detail, sizeof detail);
+}
+
 void trouble_of_stick(struct trouble *trouble) {
     trouble_of_words(trouble, STOPPED, WARM);
     trouble->gone = true;

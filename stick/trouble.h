@@ -20,6 +20,9 @@ void trouble_of_stick(struct trouble *trouble);
 /* The file had this many bytes when it was opened, and another number of them was read. */
 void trouble_of_size(struct trouble *trouble, unsigned long long before, unsigned long long after);
 
+/* The trouble is another's: these words in place of the stick's, and the system's own kept. */
+void trouble_elsewhere(struct trouble *trouble, const char *words, const char *remedy);
+
 /* Any other words. */
 void trouble_of_words(struct trouble *trouble, const char *words, const char *remedy);
 

@@ -174,6 +174,16 @@ static void add_json(struct text *lines, const struct report *sum, double second
     json_end(lines);
 }
 
+bool output_is_whole(void) {
+    bool whole = fflush(stdout) == 0 && !ferror(stdout);
+    int error = errno; /* of the line that was lost, or of none */
+    if (!whole) {
+        fprintf(stderr, "stick: what was found could not be written: %s: check again\n",
+                error == 0 ? "some lines were lost" : strerror(error));
+    }
+    return whole;
+}
+
 int verdict_of_all(struct report *sum, double seconds) {
     struct text lines = {0};
     if (sum->style->json) {
@@ -185,9 +195,5 @@ int verdict_of_all(struct report *sum, double seconds) {
         screen_line(sum->screen, 0, TO_OUTPUT, lines.bytes);
     }
     text_free(&lines);
-    if (fflush(stdout) != 0 || ferror(stdout)) {
-        fprintf(stderr, "stick: what was found could not be written: %s\n", strerror(errno));
-        return 2;
-    }
-    return report_status(sum);
+    return output_is_whole() ? report_status(sum) : 2;
 }

@@ -14,4 +14,7 @@ void verdict_of_folder(struct report *report, const char *folder);
 /* The last lines of all. Answers the exit status. */
 int verdict_of_all(struct report *sum, double seconds);
 
+/* Whether all lines went out; else that is said. */
+bool output_is_whole(void);
+
 #endif

@@ -79,8 +79,7 @@ bool writing_add(struct writing *writing, const uint8_t *bytes, size_t length,
     return true;
 }
 
-/* Writes out the folder in which a file stands, so that its name is on the medium too. */
-static int write_out_folder(const char *path) {
+int write_out_name(const char *path) {
     struct text folder = {0};
     const char *slash = strrchr(path, '/');
     int error = 0, file;
@@ -100,11 +99,18 @@ static int write_out_folder(const char *path) {
 /* Gives the whole file its name. Answers 0 or the system's error. */
 static int give_name(struct writing *writing) {
     struct stat status;
+    int error;
     if (long_stat(writing->path, 1, &status) == 0) {
         return EEXIST; /* renaming would take away what stands there */
     }
-    return long_rename(writing->part.bytes, writing->path) == 0 ? write_out_folder(writing->path)
-                                                                : errno;
+    if (long_rename(writing->part.bytes, writing->path) != 0) {
+        return errno;
+    }
+    error = write_out_name(writing->path);
+    if (error != 0) {
+        long_unlink(writing->path); /* our own, and it may not be there on another computer */
+    }
+    return error;
 }
 
 bool writing_close(struct writing *writing, bool good, struct trouble *trouble) {

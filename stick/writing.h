@@ -30,4 +30,8 @@ bool writing_add(struct writing *writing, const uint8_t *bytes, size_t length,
  */
 bool writing_close(struct writing *writing, bool good, struct trouble *trouble);
 
+/* Writes out the folder in which something stands, so that its name is on the medium too. Answers 0
+ * or the system's error. */
+int write_out_name(const char *path);
+
 #endif

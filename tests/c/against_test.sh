@@ -226,4 +226,60 @@ stick --json --list samples/edition/adze.3ds
 has out '"result":"OK","meshes":2,"vertices":92,"faces":164}'
 stick --json --quiet samples/edition
 lines out 0
+
+try 'what is almost a figure, or half a slip, though the master has it too'
+mkdir "$T/near"
+cp samples/edition/adze.3ds "$T/near"
+echo x >"$T/near/saw.3ds.part"
+echo x >"$T/near/stick.slip.part"
+cp -R "$T/near" "$T/near-too"
+stick --against "$T/near" "$T/near-too"
+status_is 2
+has out 'not checked: 1 file almost named as a figure: '
+has err 'stick.slip.part: not checked: it is half a slip'
+
+try 'a master that lies inside the stick, or the stick in it'
+cp -R samples/edition "$T/holds"
+cp -R samples/edition "$T/holds/master"
+stick --against "$T/holds/master" "$T/holds"
+status_is 2
+matches err "stick: $T/holds: not checked: the master lies inside it: put the master elsewhere"
+lines out 1
+stick --against "$T/holds" "$T/holds/master"
+status_is 2
+matches err "stick: $T/holds/master: not checked: it lies inside the master: give the folder of the stick"
+stick --against "$T/holds" "$T/holds/adze.3ds"
+status_is 2
+matches err "stick: $T/holds/adze.3ds: not checked: it lies inside the master: give the folder of the stick"
+
+# twice OPTION ARGUMENTS...: nothing is done where an option stands there a second time.
+twice() {
+    option=$1
+    shift
+    stick "$@"
+    status_is 2
+    lines out 0
+    has err "stick: $option is given twice: leave one away"
+}
+try 'an option given twice'
+twice --against --against "$T/near" --against "$T/holds" "$T/near-too"
+twice --copy --copy "$T/near" --copy "$T/holds" "$T/near-too"
+twice --batch --batch 1 --batch 2 "$T/near-too"
+twice --log --batch 1 --log "$T/one.log" --log "$T/other.log" "$T/near-too"
+twice --rescue --rescue "$T/near/adze.3ds" --rescue "$T/holds/adze.3ds" "$T/mended.3ds"
+
+try 'files of a folder that cannot be read are not missing'
+if [ "$(id -u)" -ne 0 ] || ! command -v setpriv >/dev/null; then skip 'nobody else to be here'; else
+    mkdir "$T/shut" "$T/shut/sub"
+    cp samples/edition/adze.3ds "$T/shut"
+    cp samples/edition/saw.3ds "$T/shut/sub"
+    cp -R "$T/shut" "$T/shut-master"
+    chmod 755 "$T" "$T/shut" "$T/shut-master" "$T/shut-master/sub"
+    chmod -R go+r "$T/shut" "$T/shut-master"
+    chmod 700 "$T/shut/sub"
+    run setpriv --reuid=65534 --regid=65534 --clear-groups "$S" --against "$T/shut-master" "$T/shut"
+    status_is 2
+    has err "stick: $T/shut/sub: not checked: this is not permitted"
+    if grep -q missing "$T/out"; then fail 'they are said to be missing'; else pass; fi
+fi
 finish against_test

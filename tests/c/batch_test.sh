@@ -135,7 +135,7 @@ else
     skip 'there is no /dev/full'
 fi
 try 'wrong commands'
-for number in 0 -1 x ''; do
+for number in 0 -1 ' -5' ' 5' +5 x ''; do
     stick --batch "$number" "$P"
     status_is 2
     has err 'stick: how many sticks are '
@@ -143,4 +143,38 @@ done
 stick --batch 2 "$P" "$T/two"
 status_is 2
 has err 'stick: a batch has one folder'
+stick --batch 2 ''
+status_is 2
+has err "stick: there is no folder '': give one, for example /media/stick"
+stick --batch 2 "$S"
+status_is 2
+has err "stick: there is a file where the folder of the sticks should be, $S"
+
+try 'a log in what is to be checked or copied'
+cp -R samples/edition "$T/logged"
+mkdir "$T/logged/sub" "$T/to"
+stick --batch 1 --log "$T/logged/adze.3ds" --copy "$T/logged" "$T/to"
+status_is 2
+has err "stick: the log would be written into $T/logged: give another place with --log"
+same 'the figure' samples/edition/adze.3ds "$T/logged/adze.3ds"
+stick --batch 1 --log "$T/logged/sub/log" --against "$T/logged" "$T/to"
+status_is 2
+stick --batch 1 --log "$T/to/log" "$T/to"
+status_is 2
+if [ -e "$T/to/log" ] || [ -e "$T/logged/sub/log" ]; then fail 'it was written'; else pass; fi
+(cd "$T/to" && "$S" --batch 1 .) >"$T/out" 2>"$T/err"
+status=$?
+status_is 2
+has err 'stick: the log would be written into .: give another place with --log'
+if [ -z "$(ls -A "$T/to")" ]; then pass; else fail "$(ls -A "$T/to")"; fi
+mkfifo "$T/pipe"
+stick --batch 1 --log "$T/pipe" samples/edition
+status_is 2
+has err "stick: the log $T/pipe cannot be written"
+if [ -e /dev/full ]; then
+    "$S" -q --json --batch 1 --log "$T/full.log" samples/edition >/dev/full 2>"$T/err"
+    status=$?
+    status_is 2
+    has err 'stick: what was found could not be written'
+fi
 finish batch_test

@@ -41,6 +41,25 @@ status_is 2
 has err "stick: no stick that is written may lie inside another: leave $T/outer away"
 if [ "$(find "$T/outer" | wc -l)" -eq 2 ]; then pass; else fail 'something was written'; fi
 
+try 'a file of the edition that cannot be read is no fault of the stick'
+mkdir "$T/unread"
+faulty "read:$EIO:edition/texts/more/film" --copy "$E" "$T/unread"
+status_is 2
+has err "stick: $E/texts/more/film.bin: not copied: the edition's file cannot be read: check the edition"
+
+try 'a folder where the edition has another file'
+mkdir -p "$T/folder-there/empty"
+stick --copy "$E" "$T/folder-there"
+status_is 2
+has err "$T/folder-there/empty: not checked: it is a folder, and a file of this name belongs here: take it off the stick, and copy again"
+if grep -q missing "$T/out"; then fail 'it is said to be missing too'; else pass; fi
+
+try 'a name that may not be on the medium is taken back'
+mkdir "$T/no-name"
+faulty "fsync:$EIO:no-name" --copy "$E" "$T/no-name"
+status_is 2
+if [ -z "$(ls -A "$T/no-name")" ]; then pass; else fail "$(ls -A "$T/no-name")"; fi
+
 try 'a copy is read from the stick, not from memory'
 mkdir "$T/settled"
 cp "$E/adze.3ds" "$T/settled"

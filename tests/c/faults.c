@@ -3,12 +3,14 @@
  *
  *     FAULT=CALL:ERROR:PATH[:COUNT]
  *
- * CALL (read, write, fdatasync, fadvise) fails with the error of this number on every file whose
- * path holds PATH, after COUNT calls that go well. So a stick can be drawn out, or be full, at a
- * moment that no luck is needed for. For the CALL "come", and any number but 0, a file comes to
+ * CALL (read, write, readdir, fdatasync, fsync, fadvise) fails with the error of this number on
+ * every file whose path holds PATH, after COUNT calls that go well; where COUNT is below 0, so many
+ * calls fail, and the others go well. So a stick can be drawn out, or be full, at a moment that no
+ * luck is needed for. For the CALL "come", and any number but 0, a file comes to
  * stand there just before another is given its name. For the CALL "stop" the program gets the
  * signal of this number just before it writes.
  */
+#include <dirent.h>
 #include <dlfcn.h>
 #include <errno.h>
 #include <fcntl.h>
@@ -42,7 +44,10 @@ static int fault_at(const char *call, const char *path) {
         strcmp(name, call) != 0) {
         return 0;
     }
-    return strstr(path, part) != NULL && atomic_fetch_add(&calls, 1) >= count ? error : 0;
+    if (strstr(path, part) == NULL) {
+        return 0;
+    }
+    return (count < 0) == (atomic_fetch_add(&calls, 1) >= labs(count)) ? 0 : error;
 }
 
 static int fault(const char *call, int file) {
@@ -84,15 +89,37 @@ ssize_t write(int file, const void *bytes, size_t size) {
     return real(file, bytes, size);
 }
 
-int fdatasync(int file) {
-    typedef int (*function)(int);
-    int error = fault("fdatasync", file);
-    REAL("fdatasync", function)
+struct dirent *readdir(DIR *stream) {
+    typedef struct dirent *(*function)(DIR *);
+    int error = fault("readdir", dirfd(stream));
+    REAL("readdir64", function)
+    if (error != 0) {
+        errno = error;
+        return NULL;
+    }
+    return real(stream);
+}
+
+/* A call on a file, and nothing else: it fails, or is the real one. */
+static int failing(const char *call, int file, int (*real)(int)) {
+    int error = fault(call, file);
     if (error != 0) {
         errno = error;
         return -1;
     }
     return real(file);
+}
+
+int fdatasync(int file) {
+    typedef int (*function)(int);
+    REAL("fdatasync", function)
+    return failing("fdatasync", file, real);
+}
+
+int fsync(int file) {
+    typedef int (*function)(int);
+    REAL("fsync", function)
+    return failing("fsync", file, real);
 }
 
 int posix_fadvise(int file, off_t from, off_t length, int advice) {

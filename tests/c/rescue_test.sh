@@ -31,9 +31,18 @@ stick --rescue "$D/name-zero-byte-lost.3ds" "$L"
 status_is 2
 lines out 0
 lines err 1
+matches err "stick: $L: something of this name is there already, and is left alone: give the new file another name"
 same 'the file' "$T/before" "$L"
 if [ -e "$L.part" ]; then fail 'a part of it was left'; else pass; fi
 rm "$L"
+
+try 'figures of other formats are not mended'
+for figure in samples/caligari/try-square.cob samples/c4d/bench.c4d; do
+    stick --rescue "$figure" "$L"
+    status_is 2
+    matches err "stick: $figure: only \.3ds figures can be mended: take another copy of this figure"
+    nothing
+done
 
 try 'a bad length takes everything up to the end of the editor part'
 stick --rescue "$D/overrun-length-bit-turned.3ds" "$L"

@@ -140,6 +140,44 @@ stick "$F"
 status_is 2
 has err "$F/stick.slip: not checked: it is a link"
 
+try 'a slip that is not to be seen at first, since the stick was slow to answer'
+fresh blink
+turn "$F/adze.3ds" 85
+stick "$F"
+status_is 1
+faulty "readdir:$EIO:blink:-1" "$F"
+status_is 2
+matches err "stick: $F/stick.slip: not checked: this slip was not to be seen when the check began: check again"
+last 'DO NOT SEAL: .*'
+faulty "readdir:$EIO:blink:-1" --write-slip "$F"
+status_is 2
+has err 'no slip was written: not all is well in it'
+
+try 'what is almost a figure, though it is on the slip'
+mkdir "$T/part"
+triangle >"$T/part/t.3ds"
+triangle >"$T/part/u.3ds.part"
+slip "$T/part"
+cp "$T/slip" "$T/part/stick.slip"
+stick "$T/part"
+status_is 2
+has out 'not checked: 1 file almost named as a figure: '
+
+try 'a file whose length is another is not read to its end'
+mkdir "$T/sparse"
+triangle >"$T/sparse/t.3ds"
+echo text >"$T/sparse/notes.txt"
+slip "$T/sparse"
+cp "$T/slip" "$T/sparse/stick.slip"
+truncate -s 200G "$T/sparse/notes.txt"
+stick "$T/sparse"
+status_is 1
+matches out "$T/sparse/notes.txt: differs from the slip .*"
+rm "$T/sparse/stick.slip"
+stick --write-slip "$T/sparse"
+status_is 2
+has err "$T/sparse/notes.txt: not checked: it is too big for a slip: leave it off"
+
 try 'a link or a pipe in the place of the slip is one problem'
 edition link_for_slip
 ln -s adze.3ds "$F/stick.slip"

@@ -666,7 +666,27 @@ try '--version'
 stick --version
 status_is 0
 matches out 'stick [0-9]+\.[0-9]+'
+try 'help and version beside anything else: nothing was checked'
+for order in '-V samples/damaged' 'samples/damaged --version' '--help samples/damaged' '-v -h samples/damaged'; do
+    # shellcheck disable=SC2086
+    stick $order
+    status_is 2
+    lines out 0
+    has err 'stick: nothing is checked with --help or --version: give it alone'
+done
+try 'an option in no letters of ours'
+stick "$(printf -- '--\033[31mX')" samples/edition
+status_is 2
+if grep -q "$(printf '\033')" "$T/err"; then fail 'it is printed raw'; else pass; fi
 try 'an unknown option'
+stick -x samples/edition
+status_is 2
+has err 'stick: there is no option -x'
+stick --against
+status_is 2
+has err 'stick: a word is missing behind --against'
+stick --explain
+has err 'stick: a word is missing behind --explain'
 stick --frobnicate samples/edition
 status_is 2
 has err 'frobnicate'
