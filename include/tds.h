@@ -476,7 +476,8 @@ uint64_t tds_write_figure(const uint8_t *names, size_t names_len, const uint32_t
  * CALIGARI FIGURES: binary .cob files, little-endian, with the chunks END 1.0, Grou 0.01, PolH 0.02
  * and Mat1 0.05. A chunk of another type or version is stepped over by its size, but its identifier
  * and parent count. What is said at the top of slices, answers and what is filled holds here too;
- * names are not judged. The refusals of a file, in their order:
+ * names are not judged. The four files of other houses that were tried break the rule of 21
+ * (docs/REAL_FILES.md), so try yours. The refusals of a file, in their order:
  *
  *    1  as for a figure (place 0)
  *   20  the first 32 bytes are not "Caligari V00.01BLH", 13 spaces and a newline (place 0)
