@@ -264,7 +264,7 @@ twice() {
 try 'an option given twice'
 twice --against --against "$T/near" --against "$T/holds" "$T/near-too"
 twice --copy --copy "$T/near" --copy "$T/holds" "$T/near-too"
-twice --batch --batch 1 --batch 2 "$T/near-too"
+twice --batch --log "$T/twice.log" --batch 1 --batch 2 "$T/near-too"
 twice --log --batch 1 --log "$T/one.log" --log "$T/other.log" "$T/near-too"
 twice --rescue --rescue "$T/near/adze.3ds" --rescue "$T/holds/adze.3ds" "$T/mended.3ds"
 

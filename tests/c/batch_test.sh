@@ -136,17 +136,17 @@ else
 fi
 try 'wrong commands'
 for number in 0 -1 ' -5' ' 5' +5 x ''; do
-    stick --batch "$number" "$P"
+    stick --log "$T/wrong.log" --batch "$number" "$P"
     status_is 2
     has err 'stick: how many sticks are '
 done
-stick --batch 2 "$P" "$T/two"
+stick --log "$T/wrong.log" --batch 2 "$P" "$T/two"
 status_is 2
 has err 'stick: a batch has one folder'
-stick --batch 2 ''
+stick --log "$T/wrong.log" --batch 2 ''
 status_is 2
 has err "stick: there is no folder '': give one, for example /media/stick"
-stick --batch 2 "$S"
+stick --log "$T/wrong.log" --batch 2 "$S"
 status_is 2
 has err "stick: there is a file where the folder of the sticks should be, $S"
 
