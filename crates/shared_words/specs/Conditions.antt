@@ -3,6 +3,7 @@ use mathlib.Core.Bool.{Bool, true, false}
 use mathlib.Core.List.{List, [], _∷_}
 use mathlib.Core.Option.{Option, none, some}
 use Rattle.shared_words.specs.declared.Refusal.{Refusal}
+use Rattle.shared_words.specs.declared.Judged.{Judged}
 
 -- what must hold, and the refusal where it does not
 pub data Condition : Type 0 where
@@ -13,6 +14,14 @@ unfoldable pub broken : List Condition → Option Refusal
 broken [] = none
 broken (must true r ∷ cs) = broken cs
 broken (must false r ∷ cs) = some r
+
+-- what code answers of them: the first that is broken, or that none is
+abbrev pub judgedBy : Option Refusal → Judged
+judgedBy none = Judged.Good
+judgedBy (some r) = Judged.Refused r
+
+unfoldable pub answered : List Condition → Judged
+answered cs = judgedBy (broken cs)
 
 -- what a walk answers: a refusal, or what it has read
 pub data Answer (A : Type 0) : Type 0 where

@@ -36,6 +36,12 @@ pub enum Refusal {
     NoMaterial(usize),
 }
 
+// What is found of something that is judged: nothing wrong, or the first refusal.
+pub enum Judged {
+    Good,
+    Refused(Refusal),
+}
+
 // What a writer answers: the size of what was written, or a refusal.
 pub enum Written {
     Size(usize),

@@ -27,7 +27,7 @@ use Rattle.studio_rules.proofs.Sound.{length-bytes}
 use Rattle.studio_rules.proofs.Theorems.{counted-once}
 use Rattle.shared_numbers.specs.Numbers.{wordAt, longAt}
 use Rattle.studio_row.specs.Packed.{places, rowOf}
-use Rattle.studio_marks.specs.declared.Shut.{Shut}
+use Rattle.shared_words.specs.declared.Judged.{Judged}
 use Rattle.studio_marks.specs.Marks.{noMarks, ShutIs, RuleIs, EndIs}
 use Rattle.studio_walk.specs.declared.Ran.{Ran}
 use Rattle.studio_head.specs.Contexts.{Context}
@@ -40,16 +40,16 @@ use Rattle.studio_rules.proofs.SixEach.{six-each}
 -- ---- the file's own conditions
 
 module _ (s : List ℕ) where
-  shut-is : (x : Option Refusal) (r : Shut) → broken (fileConditions s (lengthField s)) ≡ x → ShutIs x r → ShutIs (broken (fileConditions s (lengthField s))) r
+  shut-is : (x : Option Refusal) (r : Judged) → broken (fileConditions s (lengthField s)) ≡ x → ShutIs x r → ShutIs (broken (fileConditions s (lengthField s))) r
   shut-is x r e h = subst (λ (y : Option Refusal). ShutIs y r) (sym e) h
 
-  pub file-too-long : limit < length s → ShutIs (broken (fileConditions s (lengthField s))) (Shut.Fault TooLong)
+  pub file-too-long : limit < length s → ShutIs (broken (fileConditions s (lengthField s))) (Judged.Refused TooLong)
   file-too-long h = shut-is (some TooLong) _ (broken-here _ _ _ (lt-leb (length s) limit h)) refl
 
-  pub file-too-short : length s ≤ limit → length s < 6 → ShutIs (broken (fileConditions s (lengthField s))) (Shut.Fault NotAFigure)
+  pub file-too-short : length s ≤ limit → length s < 6 → ShutIs (broken (fileConditions s (lengthField s))) (Judged.Refused NotAFigure)
   file-too-short short h = shut-is (some NotAFigure) _ (broken-later _ _ _ (le-leb (length s) limit short) ∙ broken-here _ _ _ (lt-leb 6 (length s) h)) refl
 
-  pub file-no-figure : length s ≤ limit → 6 ≤ length s → (id : ℕ) → id ≡ wordAt s 0 → (id ≡ 0x4D4D → ⊥) → ShutIs (broken (fileConditions s (lengthField s))) (Shut.Fault NotAFigure)
+  pub file-no-figure : length s ≤ limit → 6 ≤ length s → (id : ℕ) → id ≡ wordAt s 0 → (id ≡ 0x4D4D → ⊥) → ShutIs (broken (fileConditions s (lengthField s))) (Judged.Refused NotAFigure)
   unfolding wordAt
   file-no-figure short six id i h =
       shut-is (some NotAFigure) _
@@ -80,31 +80,31 @@ module _ (s : List ℕ) where
     past : broken (fileConditions s (lengthField s)) ≡ broken (drop 3 (fileConditions s (lengthField s)))
     past = broken-later _ _ _ p₁ ∙ broken-later _ _ _ p₂ ∙ broken-later _ _ _ p₃
 
-    pub file-short : n < 6 → ShutIs (broken (fileConditions s (lengthField s))) (Shut.Fault (Short 0))
+    pub file-short : n < 6 → ShutIs (broken (fileConditions s (lengthField s))) (Judged.Refused (Short 0))
     file-short h = shut-is (some (Short 0)) _ (past ∙ broken-here _ _ _ (rw field (lt-leb 6 n h))) refl
 
     module _ (m : 6 ≤ n) where
       p₄ : leb 6 (lengthField s) ≡ true
       p₄ = rw field (le-leb 6 n m)
 
-      pub file-overrun : length s < n → ShutIs (broken (fileConditions s (lengthField s))) (Shut.Fault (Overrun 0))
+      pub file-overrun : length s < n → ShutIs (broken (fileConditions s (lengthField s))) (Judged.Refused (Overrun 0))
       file-overrun h = shut-is (some (Overrun 0)) _ (past ∙ broken-later _ _ _ p₄ ∙ broken-here _ _ _ (rw field (lt-leb n (length s) h))) refl
 
       module _ (l : n ≤ length s) where
         p₅ : leb (lengthField s) (length s) ≡ true
         p₅ = rw field (le-leb n (length s) l)
 
-        pub file-trailing : n < length s → ShutIs (broken (fileConditions s (lengthField s))) (Shut.Fault (Trailing n))
+        pub file-trailing : n < length s → ShutIs (broken (fileConditions s (lengthField s))) (Judged.Refused (Trailing n))
         file-trailing h =
             shut-is (some (Trailing n)) _
             (past ∙ broken-later _ _ _ p₄ ∙ broken-later _ _ _ p₅ ∙ broken-here _ _ _ (rw field (lt-leb (length s) n h)) ∙ ap (λ (k : ℕ). some (Trailing k)) field) refl
 
-        pub file-fine : length s ≤ n → ShutIs (broken (fileConditions s (lengthField s))) Shut.Fine
+        pub file-fine : length s ≤ n → ShutIs (broken (fileConditions s (lengthField s))) Judged.Good
         file-fine h = shut-is none _ (unbroken _ (p₁, (p₂, (p₃, (p₄, (p₅, (rw field (le-leb (length s) n h), tt))))))) refl
 
   -- ---- what follows of them
 
-  pub file-refused : (y : Refusal) (r : Shut) → r ≡ Shut.Fault y → ShutIs (broken (fileConditions s (lengthField s))) r → Checked.Refused y ≡ checkCall s
+  pub file-refused : (y : Refusal) (r : Judged) → r ≡ Judged.Refused y → ShutIs (broken (fileConditions s (lengthField s))) r → Checked.Refused y ≡ checkCall s
   unfolding checkCall verdict
   file-refused y r e h = go (broken (fileConditions s (lengthField s))) h
     where
@@ -112,7 +112,7 @@ module _ (s : List ℕ) where
       go (some x) h = cc
       go none h = absurd (clash (cc))
 
-  pub file-is-fine : (r : Shut) → r ≡ Shut.Fine → ShutIs (broken (fileConditions s (lengthField s))) r → broken (fileConditions s (lengthField s)) ≡ none
+  pub file-is-fine : (r : Judged) → r ≡ Judged.Good → ShutIs (broken (fileConditions s (lengthField s))) r → broken (fileConditions s (lengthField s)) ≡ none
   file-is-fine r e h = go (broken (fileConditions s (lengthField s))) h
     where
       go : (x : Option Refusal) → ShutIs x r → x ≡ none
@@ -174,16 +174,16 @@ module _ (s : List ℕ) (b : Bytes s) (six : 6 ≤ length s) (short : length s �
     well : Ran-well (file (versionIn (drop 6 s))) [] s 0 0x4D4D 6 (length s) [] b six (omega arith) (omega arith) (omega arith) (walk (told s) [] 6 (slice 6 (length s) s)) n k inner
     well = run-accepted (file (versionIn (drop 6 s))) [] s 0 0x4D4D 6 (length s) [] b six (omega arith) (omega arith) (omega arith) next n k inner h
 
-    module _ (asMany : Bool) (rule : RuleIs (told s) asMany) (shut : Shut) (ends : EndIs s 0x4D4D 0 asMany inner shut) where
+    module _ (asMany : Bool) (rule : RuleIs (told s) asMany) (shut : Judged) (ends : EndIs s 0x4D4D 0 asMany inner shut) where
       at-end : ShutIs (broken (endConditions (told s) 0 (well .t))) shut
       at-end = ends (told s) (well .t) (length s) refl rule (well .kept)
 
-      pub figure-shut : (y : Refusal) → shut ≡ Shut.Fault y → Checked.Refused y ≡ checkOf (figureAnswer s)
+      pub figure-shut : (y : Refusal) → shut ≡ Judged.Refused y → Checked.Refused y ≡ checkOf (figureAnswer s)
       figure-shut y e =
           go (broken (endConditions (told s) 0 (well .t))) (subst (ShutIs (broken (endConditions (told s) 0 (well .t)))) e at-end) ∙
           sym (ap checkOf (answer-is ∙ ap (ended (told s) 0) (well .is)))
         where
-          go : (x : Option Refusal) → ShutIs x (Shut.Fault y) → Checked.Refused y ≡ checkOf (unless x (accepted (well .t)))
+          go : (x : Option Refusal) → ShutIs x (Judged.Refused y) → Checked.Refused y ≡ checkOf (unless x (accepted (well .t)))
           go (some x) h = cc
           go none h = absurd (clash (cc))
 
@@ -200,11 +200,11 @@ module _ (s : List ℕ) (b : Bytes s) (six : 6 ≤ length s) (short : length s �
           let e : r .own ≡ owned (figure (well .t)) = omega (arith, c .own-is, well .records-are, well .skipped-are) in
           same-counts r (countsOf (well .t)) a d e f
 
-      pub figure-accepted : shut ≡ Shut.Fine → (r : Counts) → CountsAre (n + 1) k (length s) r → Checked.Accepted r ≡ checkOf (figureAnswer s)
+      pub figure-accepted : shut ≡ Judged.Good → (r : Counts) → CountsAre (n + 1) k (length s) r → Checked.Accepted r ≡ checkOf (figureAnswer s)
       figure-accepted e r c =
           go (broken (endConditions (told s) 0 (well .t))) (subst (ShutIs (broken (endConditions (told s) 0 (well .t)))) e at-end) ∙
           sym (ap checkOf (answer-is ∙ ap (ended (told s) 0) (well .is)))
         where
-          go : (x : Option Refusal) → ShutIs x Shut.Fine → Checked.Accepted r ≡ checkOf (unless x (accepted (well .t)))
+          go : (x : Option Refusal) → ShutIs x Judged.Good → Checked.Accepted r ≡ checkOf (unless x (accepted (well .t)))
           go (some x) h = absurd (clash (cc))
           go none h = ap Checked.Accepted (counts-are r c)

@@ -1,8 +1,8 @@
 // The check of a whole file: the conditions of the file itself, then the walk through the children of its one chunk 4D4D.
 use shared_numbers::long_at;
 use shared_numbers::word_at;
+use shared_words::Judged;
 use shared_words::Refusal;
-use studio_marks::Shut;
 use studio_rules::Checked;
 use studio_rules::Counts;
 use studio_walk::Ran;
@@ -16,30 +16,30 @@ ghost use Rattle.studio_marks.specs.Marks.{ShutIs};
 ghost use Rattle.studio_check.specs.Figure.{CountsAre, figureAnswer};
 
 // The file's own conditions: its length, and the header of its one chunk 4D4D.
-pub fn judge_file(file: &[u8]) -> Shut
+pub fn judge_file(file: &[u8]) -> Judged
     ensures { λ r. ⌜ ShutIs (broken (fileConditions (now (file .entry)) (lengthField (now (file .entry))))) r ⌝ }
 {
     let size = file.len();
     if 1048576 < size {
-        return Shut::Fault(Refusal::TooLong);
+        return Judged::Refused(Refusal::TooLong);
     }
     if size < 6 {
-        return Shut::Fault(Refusal::NotAFigure);
+        return Judged::Refused(Refusal::NotAFigure);
     }
     if word_at(file, 0) != 0x4D4D {
-        return Shut::Fault(Refusal::NotAFigure);
+        return Judged::Refused(Refusal::NotAFigure);
     }
     let len = long_at(file, 2) as usize;
     if len < 6 {
-        return Shut::Fault(Refusal::Short(0));
+        return Judged::Refused(Refusal::Short(0));
     }
     if size < len {
-        return Shut::Fault(Refusal::Overrun(0));
+        return Judged::Refused(Refusal::Overrun(0));
     }
     if len < size {
-        return Shut::Fault(Refusal::Trailing(len));
+        return Judged::Refused(Refusal::Trailing(len));
     }
-    Shut::Fine
+    Judged::Good
 }
 
 // The counts of a file of so many bytes. Each byte is in a header, in own data or skipped.
@@ -82,8 +82,8 @@ fn check_figure(file: &[u8]) -> Checked
             records,
             skipped,
         } => match studio_marks::at_end(file, 0x4D4D, 0, as_many, &marks) {
-            Shut::Fault(r) => Checked::Refused(r),
-            Shut::Fine => Checked::Accepted(counts(records + 1, skipped, size)),
+            Judged::Refused(r) => Checked::Refused(r),
+            Judged::Good => Checked::Accepted(counts(records + 1, skipped, size)),
         },
     }
 }
@@ -93,7 +93,7 @@ pub fn check(file: &[u8]) -> Checked
     ensures { λ r. ⌜ r ≡ checkCall (now (file .entry)) ⌝ }
 {
     match judge_file(file) {
-        Shut::Fault(r) => Checked::Refused(r),
-        Shut::Fine => check_figure(file),
+        Judged::Refused(r) => Checked::Refused(r),
+        Judged::Good => check_figure(file),
     }
 }

@@ -12,7 +12,7 @@ use Rattle.shared_words.specs.declared.Refusal.{Refusal}
 use Rattle.shared_words.specs.declared.Refusal.the-variants.{TooLong, NoRoom}
 use Rattle.shared_words.specs.declared.Written.the-variants.{Refused, Size}
 use Rattle.shared_words.specs.Lists.{every}
-use Rattle.shared_words.specs.Conditions.{Condition, must, broken}
+use Rattle.shared_words.specs.Conditions.{Condition, must, broken, answered}
 use Rattle.shared_words.specs.Refusals.{limit}
 use Rattle.shared_words.proofs.Bools.{both}
 use Rattle.shared_words.proofs.Conditions.{broken-here, broken-later}
@@ -22,9 +22,8 @@ use Rattle.studio_figure_rules.specs.Given.{Figure}
 use Rattle.studio_figure_rules.specs.Judged.{sizeOf, conditions}
 use Rattle.studio_figure_rules.specs.Described.{Flat, fitConditions, described, judgedFlat}
 use Rattle.studio_figure_rules.proofs.Described.{broken-first, broken-rest}
-use Rattle.studio_figure_rows.specs.declared.Judged.{Judged}
-use Rattle.studio_figure_rows.specs.declared.Judged.the-variants.{Good}
-use Rattle.studio_figure_rows.specs.Answered.{answered}
+use Rattle.shared_words.specs.declared.Judged.{Judged}
+use Rattle.shared_words.specs.declared.Judged.the-variants.{Good}
 use Rattle.studio_figure_rows.specs.Rows.{Capped, figureOf}
 use Rattle.studio_figure_rows.specs.Same.{Fits}
 use Rattle.studio_figure_rows.proofs.Answers.{refused-told, good-told}

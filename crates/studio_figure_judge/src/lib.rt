@@ -1,4 +1,5 @@
 // The judgement of a figure of flat rows: the first fault in the papers' order, or the size of the file.
+use shared_words::Judged;
 use shared_words::Refusal;
 use shared_words::Written;
 use studio_figure_names::first_unnamed;
@@ -9,14 +10,13 @@ use studio_figure_objects::judge_floats;
 use studio_figure_objects::judge_indices;
 use studio_figure_objects::materials_size;
 use studio_figure_objects::objects_size;
-use studio_figure_rows::Judged;
 use studio_figure_rows::fits;
 use studio_figure_rows::sum;
 ghost use mathlib.Core.Path.{_≡_};
 ghost use Prim.Native.Nat.{_+_, _*_, _/_, _<_, _≤_};
 ghost use lib.ListN.{length};
+ghost use Rattle.shared_words.specs.Conditions.{answered};
 ghost use Rattle.studio_figure_rules.specs.Described.{judgedFlat};
-ghost use Rattle.studio_figure_rows.specs.Answered.{answered};
 ghost use Rattle.studio_figure_rows.specs.Rows.{flat, sumTo};
 ghost use Rattle.studio_figure_judge.specs.Judged.{groupsAt, textAsked, sameAsked, materialAsked, namesAsked, objectsAsked, sizeIs, sizeAnswer};
 

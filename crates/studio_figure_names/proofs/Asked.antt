@@ -5,13 +5,13 @@ use native.Mathlib.Omega.{arith}
 use mathlib.Core.Bool.{Bool, true, false}
 use mathlib.Core.List.{List, []}
 use lib.ListN.{length}
+use Rattle.shared_words.specs.Conditions.{answered}
 use Rattle.shared_words.specs.declared.Refusal.the-variants.{Name, Text}
 use Rattle.shared_words.specs.Labels.{fitsLabel, labelFault}
 use Rattle.shared_words.specs.Lists.{firstFault}
 use Rattle.shared_words.proofs.Labels.{label-fits, label-unfit, label-within}
 use Rattle.studio_write_judge.specs.Judged.{notZero}
-use Rattle.studio_figure_rows.specs.declared.Judged.the-variants.{Good, Refused}
-use Rattle.studio_figure_rows.specs.Answered.{answered}
+use Rattle.shared_words.specs.declared.Judged.the-variants.{Good, Refused}
 use Rattle.studio_figure_rows.proofs.Answers.{none-broken, here, later, row-found, row-through}
 use Rattle.studio_figure_names.specs.Names.{nameAsked}
 

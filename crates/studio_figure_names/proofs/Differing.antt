@@ -8,12 +8,11 @@ use mathlib.Core.Option.{some}
 use lib.ListN.{length}
 use borrow.Author.Tests.{lt-ltb, le-ltb}
 use Rattle.shared_words.specs.declared.Refusal.the-variants.{SameName}
-use Rattle.shared_words.specs.Conditions.{must, broken}
+use Rattle.shared_words.specs.Conditions.{must, broken, judgedBy, answered}
 use Rattle.shared_words.specs.Lists.{same}
 use Rattle.shared_words.proofs.Conditions.{broken-here, broken-later}
 use Rattle.studio_figure_rules.specs.Judged.{oneOf, differ}
-use Rattle.studio_figure_rows.specs.declared.Judged.the-variants.{Good, Refused}
-use Rattle.studio_figure_rows.specs.Answered.{judgedBy, answered}
+use Rattle.shared_words.specs.declared.Judged.the-variants.{Good, Refused}
 use Rattle.studio_figure_rows.specs.Rows.{entry, sumTo, run, part, nameAt}
 use Rattle.studio_figure_names.specs.Names.{Repeated}
 use Rattle.studio_figure_rows.proofs.Runs.{run-opened, run-none, run-joined, sum-next}

@@ -7,12 +7,11 @@ use lib.Dec.{ltb}
 use lib.ListN.{length}
 use Rattle.shared_words.specs.declared.Refusal.the-variants.{SameName}
 use Rattle.shared_words.specs.Lists.{firstFault}
-use Rattle.shared_words.specs.Conditions.{Condition}
+use Rattle.shared_words.specs.Conditions.{Condition, answered}
 use Rattle.shared_name_tree.specs.Names.{nameOf, held, Holds}
 use Rattle.studio_figure_rules.specs.Judged.{noZero, isLabel, oneOf, differ}
-use Rattle.studio_figure_rows.specs.declared.Judged.{Judged}
-use Rattle.studio_figure_rows.specs.declared.Judged.the-variants.{Good, Refused}
-use Rattle.studio_figure_rows.specs.Answered.{answered}
+use Rattle.shared_words.specs.declared.Judged.{Judged}
+use Rattle.shared_words.specs.declared.Judged.the-variants.{Good, Refused}
 use Rattle.studio_figure_rows.specs.Rows.{run, nameAt}
 use Rattle.studio_figure_names.specs.declared.Told.{Told}
 

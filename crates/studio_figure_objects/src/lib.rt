@@ -1,6 +1,6 @@
 // The objects of flat rows that fit, judged one after another: their counts, floats and indices; and the size of the file.
+use shared_words::Judged;
 use shared_words::Refusal;
-use studio_figure_rows::Judged;
 use studio_figure_rows::number;
 use studio_figure_rows::sum;
 use studio_write_judge::all_below;
@@ -11,10 +11,10 @@ use studio_write_judge::whole_row;
 ghost use mathlib.Core.Path.{_≡_};
 ghost use Prim.Native.Nat.{_+_, _*_, _/_, _<_, _≤_};
 ghost use lib.ListN.{length};
+ghost use Rattle.shared_words.specs.Conditions.{answered};
 ghost use Rattle.studio_figure_rules.specs.Given.{over};
 ghost use Rattle.studio_figure_rules.specs.Judged.{noneOrEach};
 ghost use Rattle.shared_words.specs.Lists.{total};
-ghost use Rattle.studio_figure_rows.specs.Answered.{answered};
 ghost use Rattle.studio_figure_rows.specs.Rows.{entry, sumTo, run, Capped};
 ghost use Rattle.studio_figure_objects.specs.Asked.{groupCounts, counts, allFinite, floats, allBelow, groupIndices, indices};
 ghost use Rattle.studio_figure_objects.specs.Sizes.{wordsSize, objectBytes};

@@ -7,15 +7,14 @@ use mathlib.Core.List.{List, [], _∷_, _++_}
 use mathlib.Core.Option.{Option, none, some}
 use lib.ListN.{length}
 use Rattle.shared_words.specs.declared.Refusal.{Refusal}
-use Rattle.shared_words.specs.Conditions.{Condition, must, broken}
+use Rattle.shared_words.specs.Conditions.{Condition, must, broken, judgedBy, answered}
 use Rattle.shared_words.specs.Lists.{every, firstFault}
 use Rattle.shared_words.proofs.Conditions.{broken-here, broken-later}
 use Rattle.shared_words.proofs.FirstFault.{some-bad, every-good}
 use Rattle.studio_write_judge.specs.Judged.{eachMust}
 use Rattle.studio_figure_rules.specs.Given.{over}
 use Rattle.studio_figure_rules.proofs.Described.{broken-first, broken-rest}
-use Rattle.studio_figure_rows.specs.declared.Judged.the-variants.{Good, Refused}
-use Rattle.studio_figure_rows.specs.Answered.{judgedBy, answered}
+use Rattle.shared_words.specs.declared.Judged.the-variants.{Good, Refused}
 use Rattle.studio_figure_rows.specs.Rows.{run}
 use Rattle.studio_figure_rows.proofs.Runs.{run-opened, run-none}
 

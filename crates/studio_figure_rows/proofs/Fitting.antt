@@ -9,12 +9,11 @@ use lib.Dec.{eqb}
 use lib.ListN.{length, take, drop}
 use Rattle.shared_words.specs.declared.Refusal.{Refusal}
 use Rattle.shared_words.specs.declared.Refusal.the-variants.{Count}
-use Rattle.shared_words.specs.Conditions.{Condition, must, broken}
+use Rattle.shared_words.specs.Conditions.{Condition, must, broken, judgedBy, answered}
 use Rattle.shared_words.proofs.Conditions.{Met, unbroken}
 use Rattle.studio_write_judge.proofs.Judged.{broken-at}
 use Rattle.studio_figure_rules.specs.Described.{Flat, ObjectCounts, GroupCounts, objectNameBytes, materialNameBytes, groupNameBytes, longMust, fitConditions}
-use Rattle.studio_figure_rows.specs.declared.Judged.the-variants.{Good, Refused}
-use Rattle.studio_figure_rows.specs.Answered.{judgedBy, answered}
+use Rattle.shared_words.specs.declared.Judged.the-variants.{Good, Refused}
 use Rattle.studio_figure_rows.specs.Rows.{sumTo, objectCount, groupCount, namesLength}
 use Rattle.studio_figure_rows.proofs.Same.{object-total, group-total, object-names, material-names, group-names}
 

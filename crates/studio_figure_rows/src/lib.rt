@@ -1,18 +1,13 @@
 // Flat rows: what their descriptions add up to, and whether they fit it.
+use shared_words::Judged;
 use shared_words::Refusal;
 ghost use mathlib.Core.Path.{_≡_};
 ghost use Prim.Native.Nat.{_+_, _*_, _/_, _<_, _≤_};
 ghost use lib.Dec.{eqb};
 ghost use lib.ListN.{length};
-ghost use Rattle.studio_figure_rows.specs.Answered.{answered};
+ghost use Rattle.shared_words.specs.Conditions.{answered};
 ghost use Rattle.studio_figure_rows.specs.Rows.{flat, entry, sumTo, namesLength, Capped};
 ghost use Rattle.studio_figure_rules.specs.Described.{fitConditions};
-
-// What a test of rows tells: that nothing is wrong with them, or the first thing that is.
-pub enum Judged {
-    Good,
-    Refused(Refusal),
-}
 
 // Number `column` of thing i, where each has `width` numbers.
 pub fn number(row: &[u32], width: usize, column: usize, i: usize) -> usize

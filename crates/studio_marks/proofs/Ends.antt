@@ -29,7 +29,7 @@ use Rattle.shared_numbers.proofs.Slices.{word-slice, drop-slice}
 use Rattle.studio_scan.proofs.Parts.{corners-slice}
 use Rattle.studio_row.specs.Packed.{places, slotOf, rowOf}
 use Rattle.studio_row.proofs.Facts.{SlotTest, same-is}
-use Rattle.studio_marks.specs.declared.Shut.{Shut}
+use Rattle.shared_words.specs.declared.Judged.{Judged}
 use Rattle.studio_marks.specs.Marks.{tallySlot, Under, noMarks, Kept, ShutIs, RuleIs, Placed, countAt, cornersAt, pairsAt, MeshPlaced, meshBroken}
 use Rattle.studio_marks.proofs.Slots.{allSlot, tally-slot, groups-slotted}
 use Rattle.studio_marks.proofs.After.{under-of, marks-zero, Alone, marks-place}
@@ -285,12 +285,12 @@ other-needs q t a b c = rw (ne-eqb (q .id) 0x4D4D a, ne-eqb (q .id) 0xAFFF b, ne
 
 -- ---- all of it
 
-pub end-missing : (q : Parent) (o : ℕ) (t : Run) → noneMissing q t ≡ false → ShutIs (broken (endConditions q o t)) (Shut.Fault (Refusal.Missing o))
-end-missing q o t h = subst (λ (x : Option Refusal). ShutIs x (Shut.Fault (Refusal.Missing o))) (sym (broken-here _ _ _ h)) refl
+pub end-missing : (q : Parent) (o : ℕ) (t : Run) → noneMissing q t ≡ false → ShutIs (broken (endConditions q o t)) (Judged.Refused (Refusal.Missing o))
+end-missing q o t h = subst (λ (x : Option Refusal). ShutIs x (Judged.Refused (Refusal.Missing o))) (sym (broken-here _ _ _ h)) refl
 
-pub end-mesh : (q : Parent) (o : ℕ) (t : Run) (x : Option Refusal) (r : Shut) → noneMissing q t ≡ true → x ≡ broken (meshConditions q (o + (6 + length (q .own))) t) → ShutIs x r → ShutIs (broken (endConditions q o t)) r
+pub end-mesh : (q : Parent) (o : ℕ) (t : Run) (x : Option Refusal) (r : Judged) → noneMissing q t ≡ true → x ≡ broken (meshConditions q (o + (6 + length (q .own))) t) → ShutIs x r → ShutIs (broken (endConditions q o t)) r
 end-mesh q o t x r h e f = subst (λ (y : Option Refusal). ShutIs y r) (e ∙ sym (broken-later _ _ _ h)) f
 
-pub end-other : (q : Parent) (o : ℕ) (t : Run) → noneMissing q t ≡ true → (q .id ≡ 0x4100 → ⊥) → ShutIs (broken (endConditions q o t)) Shut.Fine
+pub end-other : (q : Parent) (o : ℕ) (t : Run) → noneMissing q t ≡ true → (q .id ≡ 0x4100 → ⊥) → ShutIs (broken (endConditions q o t)) Judged.Good
 end-other q o t h n =
-    end-mesh q o t none Shut.Fine h (sym (unbroken (meshConditions q (o + (6 + length (q .own))) t) (rw (ne-eqb (q .id) 0x4100 n), (rw (ne-eqb (q .id) 0x4100 n), tt)))) refl
+    end-mesh q o t none Judged.Good h (sym (unbroken (meshConditions q (o + (6 + length (q .own))) t) (rw (ne-eqb (q .id) 0x4100 n), (rw (ne-eqb (q .id) 0x4100 n), tt)))) refl

@@ -3,7 +3,7 @@ use mathlib.Core.Path.{_≡_}
 use mathlib.Core.Bool.{Bool, true, not, _||_, cond}
 use mathlib.Core.List.{List, [], _∷_}
 use mathlib.Core.Logic.{_⊎_}
-use mathlib.Core.Option.{Option, none, some}
+use mathlib.Core.Option.{Option}
 use Prim.Native.Nat.{ℕ, _+_, _*_, _≤_, min}
 use lib.Dec.{eqb, leb}
 use lib.ListN.{length, set, getD, drop, replicate}
@@ -15,10 +15,10 @@ use Rattle.studio_rules.specs.Layout.{Run, end, skip, known, size}
 use Rattle.studio_rules.specs.Rules.{Parent, allBelow, noneMissing, asManyPairs, Obeys}
 use Rattle.studio_rules.specs.Walk.{endConditions}
 use Rattle.studio_stands.specs.Stands.{Stands}
-use Rattle.shared_words.specs.Conditions.{must, broken}
+use Rattle.shared_words.specs.Conditions.{must, broken, judgedBy}
 use Rattle.shared_numbers.specs.Numbers.{wordAt}
 use Rattle.studio_row.specs.Packed.{slotOf}
-use Rattle.studio_marks.specs.declared.Shut.{Shut}
+use Rattle.shared_words.specs.declared.Judged.{Judged}
 
 -- how many chunks of a slot
 abbrev pub tallySlot : ℕ → List ℕ → ℕ
@@ -82,9 +82,8 @@ meshBroken s asMany marks =
     must (pairsAt s (getD marks 2 0) asMany (countAt s (getD marks 0 0))) (Count (getD marks 2 0)) ∷ [])
 
 -- what the conditions at a chunk's end come to
-abbrev pub ShutIs : Option Refusal → Shut → Type 0
-ShutIs none r = r ≡ Shut.Fine
-ShutIs (some x) r = r ≡ Shut.Fault x
+abbrev pub ShutIs : Option Refusal → Judged → Type 0
+ShutIs x r = r ≡ judgedBy x
 
 -- ---- a chunk of an identifier at its end, in whatever it stands: its children left these marks
 
@@ -97,7 +96,7 @@ abbrev pub RuleIs : Parent → Bool → Type 0
 RuleIs q asMany = asManyPairs (q .version) ≡ asMany
 
 -- what its conditions come to, where it stands at `at` in the file s
-abbrev pub EndIs : List ℕ → ℕ → ℕ → Bool → List ℕ → Shut → Type 0
+abbrev pub EndIs : List ℕ → ℕ → ℕ → Bool → List ℕ → Judged → Type 0
 EndIs s id at asMany marks r =
     (q : Parent) (t : Run) (stop : ℕ) → q .id ≡ id → RuleIs q asMany → Kept q t s (at + (6 + length (q .own))) stop marks →
     ShutIs (broken (endConditions q at t)) r

@@ -1,6 +1,7 @@
 // What a run of children leaves behind: for each of five slots of "at most one" the offset of the chunk that was seen there,
 // or 0; and in the sixth how many chunks of no group there were. The rules at a chunk's end are read off these marks.
 use shared_numbers::word_at;
+use shared_words::Judged;
 use shared_words::Refusal;
 ghost use mathlib.Core.Path.{_≡_};
 ghost use mathlib.Core.Bool.{cond};
@@ -34,12 +35,6 @@ pub fn note(marks: &mut [u32], row: u64, at: usize) -> bool
     }
     marks[slot] = at as u32;
     true
-}
-
-// What is found at a chunk's end.
-pub enum Shut {
-    Fault(Refusal),
-    Fine,
 }
 
 // Whether a child is missing that a chunk must have: 3D3D in 4D4D, A000 in AFFF, B010 in B002.
@@ -98,33 +93,33 @@ fn pairs_fine(file: &[u8], mark: usize, n: u32, as_many: bool) -> bool
 }
 
 // A mesh at its end.
-fn at_mesh_end(file: &[u8], as_many: bool, marks: &[u32]) -> Shut
+fn at_mesh_end(file: &[u8], as_many: bool, marks: &[u32]) -> Judged
     requires { ⌜ (length (now marks) ≡ 6) × MeshPlaced (now file) (now marks) ⌝ }
     ensures { λ r. ⌜ ShutIs (meshBroken (now (file .entry)) as_many (now (marks .entry))) r ⌝ }
 {
     let n = count_at(file, marks[0] as usize);
     let faces = marks[1] as usize;
     if !corners_fine(file, faces, n) {
-        return Shut::Fault(Refusal::Index(faces));
+        return Judged::Refused(Refusal::Index(faces));
     }
     let pairs = marks[2] as usize;
     if !pairs_fine(file, pairs, n, as_many) {
-        return Shut::Fault(Refusal::Count(pairs));
+        return Judged::Refused(Refusal::Count(pairs));
     }
-    Shut::Fine
+    Judged::Good
 }
 
 // A chunk at its end, by the marks that its children left: it stands at an offset. A mesh of the file must have as many
 // mapping pairs as vertices, or at most as many.
-pub fn at_end(file: &[u8], id: usize, at: usize, as_many: bool, marks: &[u32]) -> Shut
+pub fn at_end(file: &[u8], id: usize, at: usize, as_many: bool, marks: &[u32]) -> Judged
     requires { ⌜ (length (now marks) ≡ 6) × (id ≡ 0x4100 → MeshPlaced (now file) (now marks)) ⌝ }
     ensures { λ r. ⌜ EndIs (now (file .entry)) id at as_many (now (marks .entry)) r ⌝ }
 {
     if is_missing(id, marks) {
-        return Shut::Fault(Refusal::Missing(at));
+        return Judged::Refused(Refusal::Missing(at));
     }
     if id == 0x4100 {
         return at_mesh_end(file, as_many, marks);
     }
-    Shut::Fine
+    Judged::Good
 }

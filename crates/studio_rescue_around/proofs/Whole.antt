@@ -7,7 +7,7 @@ use lib.ListN.{drop}
 use Rattle.shared_words.specs.declared.Refusal.{Refusal}
 use Rattle.shared_words.specs.Conditions.{broken, unless}
 use Rattle.studio_rules.specs.Walk.{fileConditions, lengthField, ended, versionIn, top}
-use Rattle.studio_marks.specs.declared.Shut.{Shut}
+use Rattle.shared_words.specs.declared.Judged.{Judged}
 use Rattle.studio_marks.specs.Marks.{ShutIs}
 use Rattle.studio_walk.proofs.Chunks.{clash}
 use Rattle.studio_rescue_rules.specs.Rescue.{versionOf, mend, mended}
@@ -15,7 +15,7 @@ use Rattle.studio_rescue_around.specs.declared.Outside.{Outside}
 use Rattle.studio_rescue_around.specs.Around.{outsideOf}
 
 module _ (s : List ℕ) where
-  pub whole-refused : (y : Refusal) (r : Shut) → r ≡ Shut.Fault y → ShutIs (broken (fileConditions s (lengthField s))) r → Outside.Beyond y ≡ outsideOf s (mended s)
+  pub whole-refused : (y : Refusal) (r : Judged) → r ≡ Judged.Refused y → ShutIs (broken (fileConditions s (lengthField s))) r → Outside.Beyond y ≡ outsideOf s (mended s)
   unfolding mended
   whole-refused y r e h = go (broken (fileConditions s (lengthField s))) h
     where

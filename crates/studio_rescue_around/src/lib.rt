@@ -1,9 +1,9 @@
 // What stands around the children of 3D3D in a damaged figure: the first fault there, or where 3D3D stands.
 use shared_numbers::long_at;
 use shared_numbers::word_at;
+use shared_words::Judged;
 use shared_words::Refusal;
 use studio_lookup::FIGURE;
-use studio_marks::Shut;
 use studio_walk::Ran;
 ghost use mathlib.Core.Path.{_≡_};
 ghost use mathlib.Core.List.{[]};
@@ -108,7 +108,7 @@ pub fn around(file: &[u8]) -> Outside
     ensures { λ r. ⌜ r ≡ outsideOf (now (file .entry)) (mended (now (file .entry))) ⌝ }
 {
     match studio_check::judge_file(file) {
-        Shut::Fault(r) => Outside::Beyond(r),
-        Shut::Fine => judge_children(file, studio_version::version(file), scene_at(file)),
+        Judged::Refused(r) => Outside::Beyond(r),
+        Judged::Good => judge_children(file, studio_version::version(file), scene_at(file)),
     }
 }

@@ -26,7 +26,7 @@ use Rattle.studio_rules.proofs.Fuel.{walk-nil}
 use Rattle.studio_row.specs.Packed.{rowOf, slotOf}
 use Rattle.studio_row.proofs.Facts.{leaf-is}
 use Rattle.studio_own_data.specs.Bounds.{boundOf}
-use Rattle.studio_marks.specs.declared.Shut.{Shut}
+use Rattle.shared_words.specs.declared.Judged.{Judged}
 use Rattle.studio_marks.specs.Marks.{noted, noMarks, Kept, ShutIs}
 use Rattle.studio_head.specs.declared.Head.{Head}
 use Rattle.studio_walk.specs.declared.Ran.{Ran}
@@ -40,11 +40,11 @@ clash z = omega arith
 
 -- ---- at its end
 
-pub closed-fault : (past n k : ℕ) (x : Option Refusal) (y : Refusal) → ShutIs x (Shut.Fault y) → Ran.Refused y ≡ closedTo past n k x
+pub closed-fault : (past n k : ℕ) (x : Option Refusal) (y : Refusal) → ShutIs x (Judged.Refused y) → Ran.Refused y ≡ closedTo past n k x
 closed-fault past n k (some z) y h = cc
 closed-fault past n k none y h = absurd (clash (cc))
 
-pub closed-fine : (past n k : ℕ) (x : Option Refusal) → ShutIs x Shut.Fine → Ran.Done past (n + 1) k ≡ closedTo past n k x
+pub closed-fine : (past n k : ℕ) (x : Option Refusal) → ShutIs x Judged.Good → Ran.Done past (n + 1) k ≡ closedTo past n k x
 closed-fine past n k (some z) h = absurd (clash (cc))
 closed-fine past n k none h = refl
 

@@ -1,9 +1,9 @@
 // The strict reading of chunks. A chunk holds a run of children and a run is made of chunks: `chunk` and `run` call each
 // other, and the first fault met in file order is answered. The tests at a chunk's start are in crate studio_head, those at its end
 // in crate studio_marks.
+use shared_words::Judged;
 use shared_words::Refusal;
 use studio_head::Head;
-use studio_marks::Shut;
 ghost use mathlib.Core.Path.{_≡_};
 ghost use mathlib.Core.List.{List};
 ghost use Prim.Native.Nat.{ℕ, _≤_, _<_};
@@ -42,8 +42,8 @@ fn close(
     ensures counts { λ r. ⌜ ClosesWith stop records skipped r ⌝ }
 {
     match studio_marks::at_end(file, id, at, as_many, marks) {
-        Shut::Fault(r) => Ran::Refused(r),
-        Shut::Fine => Ran::Done {
+        Judged::Refused(r) => Ran::Refused(r),
+        Judged::Good => Ran::Done {
             next: stop,
             records: records + 1,
             skipped,

@@ -4,8 +4,8 @@ use Prim.Native.Nat.{ℕ}
 use native.Mathlib.Omega.{arith}
 use mathlib.Core.List.{[]}
 use lib.ListN.{length}
+use Rattle.shared_words.specs.Conditions.{answered}
 use Rattle.studio_figure_rules.specs.Judged.{differ}
-use Rattle.studio_figure_rows.specs.Answered.{answered}
 use Rattle.studio_figure_rows.proofs.Answers.{front-refused, front-passed}
 use Rattle.studio_figure_rows.proofs.Runs.{capped-under}
 use Rattle.studio_figure_names.specs.Names.{namesIn}

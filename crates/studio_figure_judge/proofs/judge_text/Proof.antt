@@ -3,8 +3,8 @@ use mathlib.Core.Path.{_≡_, sym, ap, _∙_}
 use Prim.Native.Nat.{ℕ}
 use native.Mathlib.Omega.{arith}
 use lib.ListN.{length}
+use Rattle.shared_words.specs.Conditions.{answered}
 use Rattle.studio_figure_rules.specs.Given.{over}
-use Rattle.studio_figure_rows.specs.Answered.{answered}
 use Rattle.studio_figure_rows.proofs.Answers.{front-refused, front-passed}
 use Rattle.studio_figure_rows.proofs.Runs.{capped-under}
 use Rattle.studio_figure_names.specs.Names.{nameAsked, namesIn}

@@ -6,7 +6,7 @@ use mathlib.Core.List.{[]}
 use lib.Dec.{leb}
 use borrow.Author.Tests.{le-leb, lt-leb}
 use Rattle.shared_words.specs.declared.Refusal.the-variants.{Count}
-use Rattle.studio_figure_rows.specs.declared.Judged.the-variants.{Refused}
+use Rattle.shared_words.specs.declared.Judged.the-variants.{Refused}
 use Rattle.studio_figure_rows.specs.Rows.{entry}
 use Rattle.studio_figure_rows.proofs.Answers.{Left, left-all, none-broken, here, later, left-on, left-out, left-none}
 use Rattle.studio_figure_objects.specs.Asked.{from, groupCount}

@@ -3,7 +3,7 @@ use mathlib.Core.Path.{_≡_, sym, ap, _∙_}
 use Prim.Native.Nat.{ℕ, _+_, _-_, _≤_}
 use native.Mathlib.Omega.{arith}
 use mathlib.Core.List.{List}
-use Rattle.studio_figure_rows.specs.Answered.{answered}
+use Rattle.shared_words.specs.Conditions.{answered}
 use Rattle.studio_figure_rows.specs.Rows.{sumTo}
 use Rattle.studio_figure_rows.proofs.Answers.{Left, left-all, left-on, left-out, left-none}
 use Rattle.studio_figure_rows.proofs.Runs.{sum-next, sum-inside, part-is}

@@ -5,11 +5,10 @@ use native.Mathlib.Omega.{arith}
 use mathlib.Core.List.{List, _∷_}
 use borrow.Author.Tests.{not-true, not-false}
 use Rattle.shared_words.specs.declared.Refusal.the-variants.{Count}
-use Rattle.studio_figure_rows.specs.declared.Judged.the-variants.{Refused}
-use Rattle.shared_words.specs.Conditions.{Condition, must}
+use Rattle.shared_words.specs.declared.Judged.the-variants.{Refused}
+use Rattle.shared_words.specs.Conditions.{Condition, must, answered}
 use Rattle.studio_write_judge.specs.Judged.{wholeRow}
 use Rattle.studio_figure_rules.specs.Judged.{noneOrEach}
-use Rattle.studio_figure_rows.specs.Answered.{answered}
 use Rattle.studio_figure_rows.specs.Rows.{entry, sumTo}
 use Rattle.studio_figure_rows.proofs.Answers.{here, later}
 use Rattle.studio_figure_objects.specs.Asked.{groupCounts}

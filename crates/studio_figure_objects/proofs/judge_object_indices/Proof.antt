@@ -3,8 +3,7 @@ use mathlib.Core.Path.{_≡_, sym, ap, _∙_}
 use Prim.Native.Nat.{ℕ, _+_, _-_, _/_}
 use native.Mathlib.Omega.{arith}
 use mathlib.Core.List.{List}
-use Rattle.shared_words.specs.Conditions.{Condition}
-use Rattle.studio_figure_rows.specs.Answered.{answered}
+use Rattle.shared_words.specs.Conditions.{Condition, answered}
 use Rattle.studio_figure_rows.specs.Rows.{entry, sumTo, part}
 use Rattle.studio_figure_rows.proofs.Answers.{front-refused, front-passed}
 use Rattle.studio_figure_rows.proofs.Runs.{part-is}

@@ -6,7 +6,7 @@ use Prim.Native.Nat.{ℕ}
 use borrow.Author.Tests.{not-true, not-false}
 use Rattle.shared_words.specs.declared.Refusal.{Refusal}
 use Rattle.shared_words.proofs.Conditions.{broken-here, broken-later, unbroken}
-use Rattle.studio_marks.specs.declared.Shut.{Shut}
+use Rattle.shared_words.specs.declared.Judged.{Judged}
 use Rattle.studio_marks.specs.Marks.{ShutIs, cornersAt, pairsAt}
 use lib.ListN.{getD}
 use borrow.Author.Needs.{needs}
@@ -36,7 +36,7 @@ returns c =
     let x = c .before .before .before .before .before .before .before in
     let n = c .before .before .before .count-at .ensures .0 in
     let e = ap (λ (m : ℕ). cornersAt (x .args .file .now) (getD (x .args .marks .now) 1 0) m) (sym n) ∙ sym (c .before .corners-fine .ensures) ∙ not-true _ (c .if1 .taken) in
-    subst (λ (y : Option Refusal). ShutIs y (Shut.Fault (Refusal.Index (getD (x .args .marks .now) 1 0)))) (sym (broken-here _ _ _ e)) refl
+    subst (λ (y : Option Refusal). ShutIs y (Judged.Refused (Refusal.Index (getD (x .args .marks .now) 1 0)))) (sym (broken-here _ _ _ e)) refl
 
 shared-slice-read-pairs : tie.Need-shared-slice-read-pairs
 shared-slice-read-pairs c = search needs
@@ -53,7 +53,7 @@ returns-2 c =
     let n = c .before .before .before .before .before .before .count-at .ensures .0 in
     let e = ap (λ (m : ℕ). cornersAt (x .args .file .now) (getD (x .args .marks .now) 1 0) m) (sym n) ∙ sym (c .before .before .before .before .corners-fine .ensures) ∙ not-false _ (c .before .before .before .if1 .left) in
     let f = ap (λ (m : ℕ). pairsAt (x .args .file .now) (getD (x .args .marks .now) 2 0) (x .args .as-many) m) (sym n) ∙ sym (c .before .pairs-fine .ensures) ∙ not-true _ (c .if2 .taken) in
-    subst (λ (y : Option Refusal). ShutIs y (Shut.Fault (Refusal.Count (getD (x .args .marks .now) 2 0)))) (sym (broken-later _ _ _ e ∙ broken-here _ _ _ f)) refl
+    subst (λ (y : Option Refusal). ShutIs y (Judged.Refused (Refusal.Count (getD (x .args .marks .now) 2 0)))) (sym (broken-later _ _ _ e ∙ broken-here _ _ _ f)) refl
 
 returns-3 : tie.Need-returns-3
 returns-3 c =
@@ -61,7 +61,7 @@ returns-3 c =
     let n = c .before .before .before .before .before .before .count-at .ensures .0 in
     let e = ap (λ (m : ℕ). cornersAt (x .args .file .now) (getD (x .args .marks .now) 1 0) m) (sym n) ∙ sym (c .before .before .before .before .corners-fine .ensures) ∙ not-false _ (c .before .before .before .if1 .left) in
     let f = ap (λ (m : ℕ). pairsAt (x .args .file .now) (getD (x .args .marks .now) 2 0) (x .args .as-many) m) (sym n) ∙ sym (c .before .pairs-fine .ensures) ∙ not-false _ (c .if2 .left) in
-    subst (λ (y : Option Refusal). ShutIs y Shut.Fine) (sym (unbroken _ (e, (f, tt)))) refl
+    subst (λ (y : Option Refusal). ShutIs y Judged.Good) (sym (unbroken _ (e, (f, tt)))) refl
 
 pub at-mesh-end-spec : {M : Type 1} → statement M
 at-mesh-end-spec =
