@@ -79,7 +79,7 @@ extern "C" {
  * lent may be filled in another way than it was built for. (Version 1 had six numbers a record, and
  * no tds_version.) CHANGELOG.md says what came with each.
  */
-#define TDS_VERSION (65536 * 2 + 256 * 7 + 0)
+#define TDS_VERSION (65536 * 2 + 256 * 8 + 0)
 uint64_t tds_version(void);
 
 /* No file longer than this is a figure. One byte more is enough to hand to tds_check to be told. */
@@ -120,7 +120,14 @@ enum tds_refusal {
     TDS_COMBINATION = 27,  /* an object of none of the nine kinds, or a repeat (its T_END) */
     TDS_MATERIAL = 28,     /* a texture whose material does not exist */
     TDS_SAME_NAME = 29,    /* two objects, or two materials, of one name (place: the later) */
-    TDS_NO_MATERIAL = 30   /* a face group that names no material (place: its number) */
+    TDS_NO_MATERIAL = 30,  /* a face group that names no material (place: its number) */
+    TDS_UNCHECKED = 31,    /* of a stick: not looked at, or not whole (place: the item) */
+    TDS_BAD_FIGURE = 32,   /* of a stick: a figure that its reader refused (place: the item) */
+    TDS_UNEXPECTED = 33,   /* of a stick: more than the slip has (place: the item) */
+    TDS_ABSENT = 34,       /* of a stick: a file of the slip is not there (place: its number) */
+    TDS_INCOMPLETE = 35,   /* of a stick: not all names that were listed are items (place 0) */
+    TDS_NO_FIGURE = 36,    /* of a stick: there is no figure (place 0) */
+    TDS_CHANGED = 37       /* of a stick: another length or other sums (place: the item) */
 };
 
 /*
@@ -653,6 +660,77 @@ uint64_t tds_slip_write(const uint8_t *names, size_t names_len, const uint8_t *e
                         size_t entries_len, uint8_t *out, size_t out_len);
 
 /*
+ * A GOOD STICK. Walk the folder of the stick and hand over what was met: one item for the folder
+ * itself, which is item 0, and one for each name that was listed in it and in the folders below.
+ * tds_stick_judge holds all of it against the slip, and answers 1 where the stick is good.
+ *
+ * Of each item: zero its TDS_ITEM_BYTES first, set where its path stands in `names`, and leave the
+ * rest zero where anything fails, for a zeroed item never passes. Of a folder set its kind and,
+ * once all of its names were listed, its size. Of a file call tds_stick_file, and tds_stick_more
+ * with each further part, to its end: they set all the rest. Never leave an item out.
+ *
+ * Seven numbers an item, eight bytes each, little-endian.
+ */
+#define TDS_ITEM_NUMBERS 7
+#define TDS_ITEM_BYTES 56
+enum tds_item {
+    TDS_ITEM_NAME = 0,        /* where its path begins in `names`: the path below the stick's
+                                 folder, with '/'; empty for that folder itself */
+    TDS_ITEM_NAME_LENGTH = 1, /* how long the path is */
+    TDS_ITEM_KIND = 2,        /* an enum tds_item_kind */
+    TDS_ITEM_SIZE = 3,        /* of a file its length, as the system tells it; of a folder 1 + the
+                                 names listed in it, without . and .., or 0 */
+    TDS_ITEM_SUM = 4,         /* of a file: tds_sum_add over all its bytes */
+    TDS_ITEM_READER = 5,      /* of a file: which reader had its bytes, by the ending of its path
+                                 (0 none, 1 .3ds, 2 .cob, 3 .c4d) */
+    TDS_ITEM_ANSWER = 6       /* and what that answered */
+};
+enum tds_item_kind {
+    TDS_ITEM_UNKNOWN = 0, /* anything else too: not checked */
+    TDS_ITEM_FILE = 1,
+    TDS_ITEM_FOLDER = 2
+};
+
+/*
+ * The judge of a stick. What must be there is the slip's own file (stick.slip, of the length and
+ * sums of these very bytes), number 0, and the slip's entries, numbered from 1. Names are compared
+ * with ASCII letters of either case alike.
+ *
+ * Answers 1 where the stick is good, and 1 is nothing else; or the first problem, in this order:
+ *   18, 24  of the slip, with the place of tds_slip_read
+ *   31  items_len is no multiple of TDS_ITEM_BYTES (place: the whole items)
+ *   item 0 (place 0): 31 it is no folder; 33 its path is not empty; 31 it was not listed
+ *   each other item in turn (place: its number; where its path is not within `names`: 31)
+ *     a file: 33 its path is empty, not on the slip, or that of an earlier file; 37 its size is not
+ *       the entry's; 31 it was not read whole; 31 its reader is not that of its ending; 37 other
+ *       sums; 32 its reader refused it
+ *     any other: 31 it is no folder; 33 its path is empty, over 63 bytes, is the name of a file on
+ *       the slip, leads to none, or came before; 31 it was not listed
+ *   35  the items are not as many as 1 + the names listed (place 0)
+ *   34  a file of the slip is not there (place: its number)
+ *   36  there is no figure (place 0)
+ *
+ * It needs 80 kilobytes of stack.
+ */
+uint64_t tds_stick_judge(const uint8_t *slip, size_t slip_len, const uint8_t *names,
+                         size_t names_len, const uint8_t *items, size_t items_len);
+
+/*
+ * The evidence for a file: fills kind, size, sum, reader and answer of its item, from its path, its
+ * length as the system tells it, and its bytes: all of them, or the first part. A figure of up to
+ * TDS_LONGEST_FILE bytes must come in one part. Leaves the two numbers of its name. Answers 0, or
+ * 15 with 56 where item_len is not TDS_ITEM_BYTES, and then changes nothing.
+ */
+uint64_t tds_stick_file(const uint8_t *path, size_t path_len, uint64_t size, const uint8_t *bytes,
+                        size_t bytes_len, uint8_t *item, size_t item_len);
+
+/*
+ * Goes on with a further part of the file: the sum grows, and a figure of which there is more is
+ * refused as TOO LONG. Answers as tds_stick_file does.
+ */
+uint64_t tds_stick_more(const uint8_t *part, size_t part_len, uint8_t *item, size_t item_len);
+
+/*
  * CINEMA 4D FIGURES (.c4d). Of these the structure alone is read, as strictly: the sizes of all
  * chunks and sub-chunks; PLTF as the very first chunk or not at all, MAT4 before OBJ5, each at most
  * once; materials up to MAT_END; objects from T_OBJECT to T_END, each with the sub-chunks of one of
@@ -724,6 +802,20 @@ TDS_INLINE float tds_get_float(const uint8_t *at) {
 /* One number of one entry of a slip. */
 TDS_INLINE uint32_t tds_get_entry(const uint8_t *entries, size_t entry, enum tds_entry number) {
     return tds_get4(entries + entry * TDS_ENTRY_BYTES + 4 * (size_t)number);
+}
+
+/* One number of one item of a stick: read, and set. */
+TDS_INLINE uint64_t tds_get_item(const uint8_t *items, size_t item, enum tds_item number) {
+    const uint8_t *at = items + item * TDS_ITEM_BYTES + 8 * (size_t)number;
+    return tds_get4(at) | (uint64_t)tds_get4(at + 4) << 32;
+}
+
+TDS_INLINE void tds_set_item(uint8_t *items, size_t item, enum tds_item number, uint64_t value) {
+    uint8_t *at = items + item * TDS_ITEM_BYTES + 8 * (size_t)number;
+    int i;
+    for (i = 0; i < 8; i++) {
+        at[i] = (uint8_t)(value >> (8 * i) & 255);
+    }
 }
 
 /* One number of one mesh. */

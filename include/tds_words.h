@@ -14,7 +14,7 @@
 #include "tds.h"
 
 /* All numbers from 1 up to this are refusals. */
-#define TDS_LAST_REFUSAL 30
+#define TDS_LAST_REFUSAL 37
 
 #ifdef __cplusplus
 extern "C" {
@@ -54,6 +54,13 @@ TDS_INLINE const char *const *tds_refusal_texts(int refusal) {
         /* 28 */ {"MATERIAL", "a texture names a material that does not exist"},
         /* 29 */ {"SAME NAME", "two objects, or two materials, have the same name"},
         /* 30 */ {"NO MATERIAL", "a group of faces names a material that is not there"},
+        /* 31 */ {"UNCHECKED", "something on the stick was not looked at, or not whole"},
+        /* 32 */ {"BAD FIGURE", "a figure on the stick is refused by its reader"},
+        /* 33 */ {"UNEXPECTED", "something is on the stick that the slip does not have"},
+        /* 34 */ {"ABSENT", "a file of the slip is not on the stick"},
+        /* 35 */ {"INCOMPLETE", "not everything that the stick listed was looked at"},
+        /* 36 */ {"NO FIGURE", "there is no figure on the stick"},
+        /* 37 */ {"CHANGED", "a file on the stick is not the one of the slip"},
     };
     return texts[refusal >= 1 && refusal <= TDS_LAST_REFUSAL ? refusal : 0];
 }

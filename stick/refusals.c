@@ -19,6 +19,10 @@
 #define WRITER_ADVICE                                                                              \
     "The program that wanted the figure written made the mistake. Tell whoever\n"                  \
     "looks after it. Checking a stick never ends with this refusal.\n"
+#define STICK "see the other lines of the check"
+#define STICK_ADVICE                                                                               \
+    "This is what the library says of a whole stick. The check has a line for each\n"              \
+    "problem, with what to do about it: do that, and check again.\n"
 
 static const struct refusal table[] = {
     {TDS_TOO_LONG,
@@ -180,6 +184,31 @@ static const struct refusal table[] = {
      "that it did not give. The place is the number of the group in the figure, from\n"
      "0.\n",
      PROGRAM, WRITER_ADVICE},
+    {31,
+     "Something on the stick could not be looked at, or a file could not be read to\n"
+     "its end. The place is the number of the item, as the check met them.\n",
+     STICK, STICK_ADVICE},
+    {32,
+     "A figure on the stick is refused by the reader of its format; a line of its own\n"
+     "says with which number. The place is the number of the item.\n",
+     STICK, STICK_ADVICE},
+    {33,
+     "There is a file or a folder on the stick that the slip does not have, or the\n"
+     "same one twice. The place is the number of the item.\n",
+     STICK, STICK_ADVICE},
+    {34,
+     "A file that the slip has is not on the stick. The place is its number on the\n"
+     "slip, from 1; 0 is the slip itself.\n",
+     STICK, STICK_ADVICE},
+    {35,
+     "The stick listed names that were then not looked at: the check broke off, or\n"
+     "the stick changed while it was read.\n",
+     STICK, STICK_ADVICE},
+    {36, "There is no figure on the stick at all.\n", STICK, STICK_ADVICE},
+    {37,
+     "A file on the stick has another length than the slip says, or other sums. The\n"
+     "place is the number of the item.\n",
+     STICK, STICK_ADVICE},
 };
 
 _Static_assert(sizeof table / sizeof table[0] == TDS_LAST_REFUSAL, "a refusal has no row");

@@ -83,7 +83,7 @@ END
 if "$CC" -Iinclude -c "$T/names.c" -o "$T/names.o" >"$T/out" 2>"$T/err"
 then pass; else fail 'they are not those of docs/FORMAT.md'; fi
 
-try 'the words of the refusals: all from 1 to 30, by the names that the header has for the numbers'
+try 'the words of the refusals: all from 1 to 37, by the names that the header has for the numbers'
 {
     cat <<'END'
 #include <stdio.h>
@@ -91,7 +91,8 @@ try 'the words of the refusals: all from 1 to 30, by the names that the header h
 static const char *const names[TDS_LAST_REFUSAL + 1] = {
     "UNKNOWN", "TOO LONG", "NOT A FIGURE", "TRAILING", "SHORT", "OVERRUN", "STRAY", "MISPLACED", "TWICE", "NAME", "LENGTH",
     "NUMBER", "INDEX", "COUNT", "MISSING", "NO ROOM", "NO SUCH MESH", "EMPTY", "SLIP", "DIFFERS", "HEADER", "OWNER", "SIZE",
-    "FATHER", "TEXT", "FORM", "ORDER", "COMBINATION", "MATERIAL", "SAME NAME", "NO MATERIAL"};
+    "FATHER", "TEXT", "FORM", "ORDER", "COMBINATION", "MATERIAL", "SAME NAME", "NO MATERIAL",
+    "UNCHECKED", "BAD FIGURE", "UNEXPECTED", "ABSENT", "INCOMPLETE", "NO FIGURE", "CHANGED"};
 static int bad;
 static void is(int number, const char *name) {
     if (strcmp(tds_refusal_name(number), name) != 0) {

@@ -5,4 +5,4 @@ abbrev pub versionCode : ℕ → ℕ → ℕ → ℕ
 versionCode major minor patch = 65_536 * major + 256 * minor + patch
 
 abbrev pub version : ℕ
-version = versionCode 2 7 0
+version = versionCode 2 8 0

@@ -24,6 +24,9 @@ ghost use Rattle.cob_rules.specs.Calls.{checkCall as cobCheckCall, listCall as 
 ghost use Rattle.cob_rules.specs.Calls.{tablesCall as cobTablesCall, recordBytes as cobRecords};
 ghost use Rattle.cob_tables.specs.Rows.{rows as cobRows};
 ghost use Rattle.c_slip.specs.Codes.{entriesOr};
+ghost use Rattle.c_stick.specs.Codes.{oneOr};
+ghost use Rattle.stick_rules.specs.Rows.{judgeCall};
+ghost use Rattle.stick_evidence.specs.Evidence.{fileCall, moreCall};
 ghost use Rattle.c_counted.specs.Codes.{countedOr};
 ghost use Rattle.studio_rescue_rules.specs.Call.{cutBytes, rescueCall};
 ghost use Rattle.studio_rescue.specs.Parts.{rescueRows};
@@ -309,4 +312,32 @@ pub extern "C" fn tds_cob_tables(
         cobTablesCall (numberBytes 4) (now (file .entry)) mesh (cobRows (now (vertices .entry)) (now (corners .entry))) .rows ⌝ }
 {
     c_cob::answered_code(cob_tables::tables(file, mesh, vertices, corners))
+}
+
+// ---- a stick
+
+// 1 where nothing is wrong with a stick, or the first problem.
+#[no_mangle]
+pub extern "C" fn tds_stick_judge(slip: &[u8], names: &[u8], items: &[u8]) -> u64
+    ensures { λ n. ⌜ n ≡ oneOr (judgeCall (now (slip .entry)) (now (names .entry)) (now (items .entry))) ⌝ }
+{
+    c_stick::judged_code(stick_judge::judge(slip, names, items))
+}
+
+// Fills the row of a file behind the place of its name; 0, or a refusal.
+#[no_mangle]
+pub extern "C" fn tds_stick_file(path: &[u8], size: u64, bytes: &[u8], item: &mut [u8]) -> u64
+    ensures answer { λ n. ⌜ n ≡ fileCall (now (path .entry)) size (now (bytes .entry)) (now (item .entry)) .answer ⌝ }
+    ensures row { λ _. ⌜ now (item .exit) ≡ fileCall (now (path .entry)) size (now (bytes .entry)) (now (item .entry)) .rows ⌝ }
+{
+    stick_evidence::file(path, size, bytes, item)
+}
+
+// Goes on in the row of a file with a further part of its bytes; 0, or a refusal.
+#[no_mangle]
+pub extern "C" fn tds_stick_more(part: &[u8], item: &mut [u8]) -> u64
+    ensures answer { λ n. ⌜ n ≡ moreCall (now (part .entry)) (now (item .entry)) .answer ⌝ }
+    ensures row { λ _. ⌜ now (item .exit) ≡ moreCall (now (part .entry)) (now (item .entry)) .rows ⌝ }
+{
+    stick_evidence::more(part, item)
 }

@@ -1,0 +1,4 @@
+pub mod Finding
+pub mod Marking
+pub mod Going
+pub mod Whole

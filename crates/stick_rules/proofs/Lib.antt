@@ -1,0 +1,9 @@
+pub mod Answers
+pub mod Places
+pub mod Exact
+pub mod Alike
+pub mod Apart
+pub mod Plain
+pub mod Samples
+pub mod Distinct
+pub mod Lost
