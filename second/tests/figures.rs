@@ -48,7 +48,7 @@ fn rows(objects: &[Object], materials: &[&str]) -> Rows {
     for (number, name) in materials.iter().enumerate() {
         rows.materials.push(name.len() as u32);
         rows.colours
-            .extend((0..9).map(|part| 10 * number as u8 + part));
+            .extend((0..9).map(|part| (10 * number + part) as u8));
     }
     rows
 }

@@ -27,6 +27,10 @@ while IFS= read -r line; do
     esac
 done <"$T/shown"
 
+try 'the line for the second reader without the kit is one that the gate runs'
+line=$(grep -o 'cargo test [^`]*' README.md)
+if [ -n "$line" ] && grep -qE "^	([A-Z_]+=[a-z0-9]+ )*$line\$" Makefile; then pass; else fail "not in Makefile: $line"; fi
+
 try 'what the pages point to'
 for page in README.md CONTRIBUTING.md docs/*.md docs/landings/*.md samples/README.md second/README.md; do
     # shellcheck disable=SC2016
