@@ -20,7 +20,7 @@ struct batch {
     unsigned long of;
     unsigned long passed;
     struct names failed;
-    int status; /* the worst so far */
+    struct result result; /* the worst so far */
     struct log log;
     struct stat stick; /* the one that is in */
 };
@@ -66,13 +66,13 @@ static void say(const struct batch *batch, const char *words) {
 
 static void work_on_stick(struct batch *batch) {
     struct text lines = {0}, number = {0};
-    int status;
-    status = session_work(batch->session, &batch->folder, 1, &lines);
+    struct result result = session_work(batch->session, &batch->folder, 1, &lines);
+    bool first = batch->passed + batch->failed.count == 0;
     log_add(&batch->log, batch->number, batch->of,
-            lines.length == 0 ? verdict_word(status == 0) : lines.bytes);
-    batch->status = status > batch->status ? status : batch->status;
-    batch->passed += status == 0;
-    if (status != 0) {
+            lines.length == 0 ? verdict_word(result.verdict) : lines.bytes);
+    batch->result = first ? result : worse(batch->result, result);
+    batch->passed += result.verdict == PASS;
+    if (result.verdict != PASS) {
         text_format(&number, "%lu", batch->number);
         names_add(&batch->failed, number.bytes, true);
     }
@@ -110,12 +110,13 @@ static bool is_finished(const struct batch *batch) {
     return batch->passed + batch->failed.count == batch->of;
 }
 
-static int status_of(const struct batch *batch) {
-    return is_finished(batch) && !batch->log.failed ? batch->status : 2;
+static struct result result_of(const struct batch *batch) {
+    const struct result bad = {DO_NOT_SEAL, 2};
+    return is_finished(batch) && !batch->log.failed ? batch->result : bad;
 }
 
 static void add_plain_end(const struct batch *batch, struct text *line) {
-    add_verdict_word(line, status_of(batch) == 0);
+    add_verdict_word(line, result_of(batch).verdict);
     text_format(line, ": %s%lu of %lu sticks passed",
                 is_finished(batch) ? "" : "not finished: ", batch->passed, batch->of);
     if (batch->failed.count > 0) {
@@ -127,7 +128,7 @@ static void add_plain_end(const struct batch *batch, struct text *line) {
 
 static void add_json_end(const struct batch *batch, struct text *line) {
     json_begin(line);
-    json_string(line, "verdict", verdict_word(status_of(batch) == 0));
+    json_string(line, "verdict", verdict_word(result_of(batch).verdict));
     json_number(line, "sticks", batch->of);
     json_number(line, "passed", batch->passed);
     json_string(line, "not_these", batch->failed.list.bytes);
@@ -155,7 +156,7 @@ static void say_end(struct batch *batch) {
     fputs(line.bytes, stdout);
     text_free(&line);
     if (!output_is_whole()) {
-        batch->status = 2;
+        batch->result = (struct result){DO_NOT_SEAL, 2};
     }
 }
 
@@ -170,7 +171,7 @@ int batch_run(struct session *session, char *folder) {
         next_stick(&batch);
     }
     say_end(&batch);
-    status = status_of(&batch);
+    status = result_of(&batch).status;
     names_free(&batch.failed);
     return status;
 }

@@ -62,7 +62,8 @@ static void collect(struct check *check, const struct subject *subject) {
 }
 
 static void check_file(struct check *check, struct subject *subject) {
-    struct row row = {check->root, CHECKING, check->figures, check->report->count[FOUND_REFUSED]};
+    struct row row = {check->root, CHECKING, check->figures,
+                      check->report->grounds.count[FOUND_REFUSED]};
     struct trouble trouble;
     screen_row(check->report->screen, check->report->job, &row);
     if (!subject_read(subject, &check->checker, &trouble)) {
@@ -70,7 +71,7 @@ static void check_file(struct check *check, struct subject *subject) {
         return;
     }
     check->in_a_row = 0;
-    check->report->from_memory = check->report->from_memory || !subject->settled;
+    check->report->grounds.unread += !subject->settled;
     if (stopped()) {
         return; /* it may not have been read to its end */
     }
@@ -292,7 +293,11 @@ static void at_end(struct check *check) {
     if (stopped()) {
         check->report->unfinished = true;
     }
-    if (check->report->unfinished || !check->in_folder || !check->readable) {
+    if (check->report->unfinished || !check->readable) {
+        return;
+    }
+    check->report->grounds.whole = true;
+    if (!check->in_folder) {
         return;
     }
     if (!walk_root_stands(&check->walk, check->root)) {
@@ -312,7 +317,7 @@ static void at_end(struct check *check) {
 static void take_slip(struct check *check) {
     struct slip *slip = &check->slip;
     slip_read(slip, check->root);
-    check->report->from_memory = check->report->from_memory || !slip->settled;
+    check->report->grounds.unread += !slip->settled;
     if (slip->state == SLIP_UNREADABLE) {
         could_not(check, slip->path, &slip->trouble);
     } else if (slip->state == SLIP_BROKEN) {
@@ -340,7 +345,8 @@ void check_stick(const char *root, const struct against *against, struct manifes
         check.in_folder = check.in_folder || entry.kind == ENTRY_FOLDER;
         look_at(&check, &entry);
     }
-    report->single = !check.in_folder;
+    report->grounds.alone = !check.in_folder;
+    report->grounds.compared = check.on_slip.manifest != NULL || check.in_master.manifest != NULL;
     at_end(&check);
     walk_free(&check.walk);
     checker_free(&check.checker);

@@ -20,7 +20,7 @@ static int work(const struct options *options) {
     if (status == 0) {
         status = options->batch > 0
                      ? batch_run(&session, options->arguments[0])
-                     : session_work(&session, options->arguments, options->count, NULL);
+                     : session_work(&session, options->arguments, options->count, NULL).status;
     }
     session_end(&session);
     return status;

@@ -97,10 +97,10 @@ const struct expected *presence_meet(struct presence *presence, const char *name
 }
 
 /* What the walk met that is no file: all but folders is a problem. */
-static void not_a_file(struct report *report, const struct entry *entry) {
+static bool is_folder(struct report *report, const struct entry *entry) {
     struct trouble trouble;
     if (entry->kind == ENTRY_FOLDER) {
-        return;
+        return true;
     }
     if (entry->kind == ENTRY_ERROR) {
         trouble_of_system(&trouble, entry->error);
@@ -108,11 +108,13 @@ static void not_a_file(struct report *report, const struct entry *entry) {
         trouble_of_words(&trouble, "it is neither a file nor a folder", "take it out of there");
     }
     report_trouble(report, entry->path, NULL, &trouble);
+    return false;
 }
 
-void manifest_of_folder(struct manifest *manifest, const char *folder, struct report *report) {
+bool manifest_of_folder(struct manifest *manifest, const char *folder, struct report *report) {
     struct entry entry;
     struct walk walk;
+    bool good = true;
     walk_start(&walk, folder);
     while (walk_next(&walk, &entry)) {
         if (*entry.below != '\0' && kind_of(entry.path) == KIND_LEFT_BEHIND) {
@@ -120,9 +122,10 @@ void manifest_of_folder(struct manifest *manifest, const char *folder, struct re
         } else if (entry.kind == ENTRY_FILE) {
             manifest_add(manifest, entry.below, strlen(entry.below), 0, 0);
         } else {
-            not_a_file(report, &entry);
+            good = is_folder(report, &entry) && good;
         }
     }
     walk_free(&walk);
     manifest_sort(manifest);
+    return good;
 }

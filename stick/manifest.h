@@ -24,8 +24,9 @@ void manifest_add(struct manifest *manifest, const char *name, size_t name_lengt
 void manifest_sort(struct manifest *manifest);
 void manifest_free(struct manifest *manifest);
 
-/* All files below a folder, but for what other computers leave. What cannot be read is reported. */
-void manifest_of_folder(struct manifest *manifest, const char *folder, struct report *report);
+/* All files below a folder, but for what other computers leave. Answers whether all could be read;
+ * what cannot is reported. */
+bool manifest_of_folder(struct manifest *manifest, const char *folder, struct report *report);
 
 /* Which of the files in a manifest were met. */
 struct presence {

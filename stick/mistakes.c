@@ -34,7 +34,8 @@ static bool has_style(const struct style *style) {
 /* A rescue is of one figure, and nothing else is done with it. */
 static void judge_rescue(struct options *options) {
     if (options->against != NULL || options->edition != NULL || options->write_slip ||
-        options->batch > 0 || options->log != NULL || has_style(&options->style)) {
+        options->structure || options->batch > 0 || options->log != NULL ||
+        has_style(&options->style)) {
         mistake(options, "one figure is mended, and nothing else done: leave all but ", "--rescue",
                 " away");
     } else if (options->count > 1) {
@@ -131,6 +132,8 @@ static void judge_work(struct options *options) {
     } else if (options->write_slip && (options->against != NULL || options->edition != NULL)) {
         mistake(options, "a slip is written for the edition itself: leave ",
                 options->edition != NULL ? "--copy" : "--against", " away");
+    } else if (options->structure && (options->against != NULL || options->edition != NULL)) {
+        mistake(options, "there is a master to compare with: leave ", "--structure", " away");
     } else if (options->batch > 0 && options->count > 1) {
         mistake(options, "a batch has one folder: leave ", options->arguments[1], " away");
     } else if (options->batch == 0 && options->log != NULL) {

@@ -20,6 +20,7 @@ enum {
     OPTION_BATCH,
     OPTION_LOG,
     OPTION_WRITE_SLIP,
+    OPTION_STRUCTURE,
     OPTION_RESCUE
 };
 
@@ -36,6 +37,7 @@ static const struct option names[] = {
     {"batch", required_argument, NULL, OPTION_BATCH},
     {"log", required_argument, NULL, OPTION_LOG},
     {"write-slip", no_argument, NULL, OPTION_WRITE_SLIP},
+    {"structure", no_argument, NULL, OPTION_STRUCTURE},
     {"rescue", required_argument, NULL, OPTION_RESCUE},
     {NULL, 0, NULL, 0},
 };
@@ -46,20 +48,21 @@ void print_help(void) {
            "       stick --rescue DAMAGED MENDED\n"
            "Checks every figure (.3ds, .cob, .c4d) in each FOLDER and below it, and says in\n"
            "plain words which are damaged, where, and what to do. The last line begins with\n"
-           "PASS or DO NOT SEAL. Several FOLDERs are worked on at once; one may also be a\n"
-           "file.\n"
+           "PASS, STRUCTURE ONLY (there was nothing to compare with) or DO NOT SEAL.\n"
+           "Several FOLDERs are worked on at once; one may also be a file.\n"
            "\n"
            "      --against MASTER  compare every file with the one in the folder MASTER too\n"
            "      --copy EDITION    first copy what is in EDITION and not in a FOLDER yet,\n"
            "                        then check and compare; nothing there is changed\n"
            "      --write-slip      where all is well, write a slip that says what is there\n"
+           "      --structure       no slip is needed: STRUCTURE ONLY is good too\n"
            "      --rescue DAMAGED  write what is left of a damaged figure (.3ds) to the new\n"
            "                        file MENDED, and say what was cut\n"
            "      --batch N         N sticks one after another at the same FOLDER\n"
            "      --log FILE        where the batch is logged (stick-batch-DATE.log)\n"
            "  -v, --verbose         a line for each good file too\n"
            "  -l, --list            the meshes, vertices and faces of each good figure\n"
-           "  -q, --quiet           only the problems: no progress, no last line\n"
+           "  -q, --quiet           only the problems: no progress, and no PASS\n"
            "      --json            one JSON object a line, for programs\n"
            "  -e, --explain N       explain refusal N (1 to %d, or its name) at length\n"
            "  -h, --help            this help\n"
@@ -67,7 +70,7 @@ void print_help(void) {
            "\n"
            "Exit status: 0 all is well; 1 something is refused, differs, is missing or does\n"
            "not belong there; 2 something could not be checked (the rest was), there was no\n"
-           "figure, the work was stopped, or the command was wrong.\n",
+           "slip or no figure, the work was stopped, or the command was wrong.\n",
            TDS_LAST_REFUSAL);
 }
 
@@ -144,6 +147,9 @@ static void take(struct options *options, int option) {
         break;
     case OPTION_WRITE_SLIP:
         options->write_slip = true;
+        break;
+    case OPTION_STRUCTURE:
+        options->structure = true;
         break;
     case 'h':
         options->task = TASK_HELP;

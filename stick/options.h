@@ -17,6 +17,7 @@ struct options {
     const char *against;           /* the master to compare with, or NULL */
     const char *edition;           /* what is to be copied first, or NULL */
     bool write_slip;               /* for each folder in which all is well */
+    bool structure;                /* that there is nothing to compare with is as it was meant */
     unsigned long batch;           /* how many sticks one after another; 0 without --batch */
     const char *rescue;            /* a damaged figure that is to be mended, or NULL */
     const char *log;               /* of the batch, or NULL for the usual name */

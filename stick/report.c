@@ -13,8 +13,17 @@
 
 /* What each outcome is called in a line. */
 static const char *const labels[OUTCOMES] = {
-    "OK",          "refused",    "differs", "missing", "not expected", "left by another computer",
-    "broken slip", "not checked"};
+    [FOUND_NOTHING] = "not checked",
+    [FOUND_OK] = "OK",
+    [FOUND_REFUSED] = "refused",
+    [FOUND_DIFFERENT] = "differs",
+    [FOUND_MISSING] = "missing",
+    [FOUND_EXTRA] = "not expected",
+    [FOUND_LEFT_BEHIND] = "left by another computer",
+    [FOUND_BROKEN_SLIP] = "broken slip",
+    [FOUND_NEAR] = "not checked",
+    [FOUND_UNCHECKED] = "not checked",
+};
 
 void report_start(struct report *report, const struct style *style, struct screen *screen,
                   size_t job) {
@@ -105,7 +114,7 @@ static bool is_said(const struct report *report, const struct finding *finding) 
 }
 
 void report_add(struct report *report, const struct finding *finding) {
-    report->count[finding->outcome]++;
+    report->grounds.count[finding->outcome]++;
     if (!is_said(report, finding)) {
         return;
     }
@@ -134,7 +143,7 @@ void report_trouble(struct report *report, const char *path, const char *label,
 }
 
 void report_near(struct report *report, const char *path) {
-    struct finding finding = {.outcome = FOUND_UNCHECKED,
+    struct finding finding = {.outcome = FOUND_NEAR,
                               .path = path,
                               .words = "it is almost named as a figure",
                               .remedy = NEAR_REMEDY};
@@ -143,6 +152,7 @@ void report_near(struct report *report, const char *path) {
                      "it is half a slip, whose writing was broken off", "delete it");
         return;
     }
+    report->grounds.count[FOUND_NEAR]++;
     names_add(&report->near, path, report->style->verbose);
     if (report->style->json) {
         say_as_json(report, &finding);
@@ -150,7 +160,7 @@ void report_near(struct report *report, const char *path) {
 }
 
 void report_unknown(struct report *report, const char *path) {
-    struct finding finding = {.outcome = FOUND_UNCHECKED,
+    struct finding finding = {.outcome = FOUND_NOTHING,
                               .path = path,
                               .label = "not looked at",
                               .words = "of no known kind"};
@@ -160,30 +170,31 @@ void report_unknown(struct report *report, const char *path) {
     }
 }
 
+void report_end(struct report *report) {
+    report->files = report->grounds.alone;
+    report->result = decide(&report->grounds);
+}
+
 void report_join(struct report *sum, const struct report *report) {
     for (int i = 0; i < OUTCOMES; i++) {
-        sum->count[i] += report->count[i];
+        sum->grounds.count[i] += report->grounds.count[i];
     }
+    sum->result = sum->folders == 0 ? report->result : worse(sum->result, report->result);
+    sum->grounds.unread += report->grounds.unread;
     sum->figures += report->figures;
     sum->folders += report->folders;
-    sum->unwell += report_status(report) != 0;
+    sum->files += report->files;
+    sum->unwell += report->result.verdict == DO_NOT_SEAL;
     sum->bare += report->bare;
-    sum->single = report->single;
     sum->uncompared += report->uncompared;
     sum->slips += report->slips;
     sum->slip_files += report->slip_files;
-    sum->from_memory = sum->from_memory || report->from_memory;
     sum->unfinished = sum->unfinished || report->unfinished;
     names_join(&sum->near, &report->near);
     names_join(&sum->unknown, &report->unknown);
 }
 
-int report_status(const struct report *report) {
-    unsigned long wrong = report->count[FOUND_REFUSED] + report->count[FOUND_DIFFERENT] +
-                          report->count[FOUND_MISSING] + report->count[FOUND_EXTRA] +
-                          report->count[FOUND_LEFT_BEHIND] + report->count[FOUND_BROKEN_SLIP];
-    if (report->count[FOUND_UNCHECKED] > 0 || report->near.count > 0 || report->unfinished) {
-        return 2;
-    }
-    return wrong > 0 ? 1 : 0;
+unsigned long report_unchecked(const struct report *report) {
+    const unsigned long *count = report->grounds.count;
+    return count[FOUND_NOTHING] + count[FOUND_NEAR] + count[FOUND_UNCHECKED];
 }

@@ -5,6 +5,7 @@
 #include <stdbool.h>
 #include <stdint.h>
 
+#include "decide.h"
 #include "names.h"
 #include "screen.h"
 #include "trouble.h"
@@ -18,18 +19,6 @@ struct style {
     bool list;    /* what is in each good figure */
     bool verbose; /* a line for each good file too */
     bool json;    /* one object a line, for programs */
-};
-
-enum outcome {
-    FOUND_OK,
-    FOUND_REFUSED,
-    FOUND_DIFFERENT, /* from the slip or the master */
-    FOUND_MISSING,   /* on the slip or in the master, and not here */
-    FOUND_EXTRA,     /* here, and not on the slip or in the master */
-    FOUND_LEFT_BEHIND,
-    FOUND_BROKEN_SLIP,
-    FOUND_UNCHECKED,
-    OUTCOMES
 };
 
 /* What --list says of an accepted figure: how many there are of some things, as "3 meshes". */
@@ -58,18 +47,18 @@ struct report {
     const struct style *style;
     struct screen *screen;
     size_t job;
-    unsigned long count[OUTCOMES];
+    struct grounds grounds;   /* of a sum: the counts only */
+    struct result result;     /* once it has ended; of a sum: the worst */
     unsigned long figures;    /* those that the reader accepted or refused */
     struct names near;        /* files that are almost named as figures */
     struct names unknown;     /* files of no known kind that nothing was said about */
     unsigned long folders;    /* 1; the sum of several reports has more */
+    unsigned long files;      /* of these, how many are files that were named one by one */
     unsigned long unwell;     /* of a sum: those in which not all is well */
     unsigned long bare;       /* folders with nothing to compare with: structure only */
-    bool single;              /* a file was named, not a folder */
     unsigned long uncompared; /* folders not compared with the master, which could not be read */
     unsigned long slips;      /* that were written */
     unsigned long slip_files; /* on them */
-    bool from_memory;         /* some file could not be read from the stick itself */
     bool unfinished;
 };
 
@@ -93,10 +82,13 @@ void report_trouble(struct report *report, const char *path, const char *label,
 void report_near(struct report *report, const char *path);
 void report_unknown(struct report *report, const char *path);
 
-/* Adds what is in one report to another. */
+/* All has been found out: the verdict is decided. */
+void report_end(struct report *report);
+
+/* Adds what is in a report that has ended to another. */
 void report_join(struct report *sum, const struct report *report);
 
-/* 0 all is well; 1 something is wrong; 2 something could not be checked. */
-int report_status(const struct report *report);
+/* How many things could not be checked. */
+unsigned long report_unchecked(const struct report *report);
 
 #endif

@@ -48,14 +48,14 @@ static int check_edition(const struct options *options) {
     struct against nothing = {0};
     struct report report;
     struct screen screen;
-    int status;
+    int status = 0;
     single_start(&screen, &report, options);
     check_stick(options->edition, &nothing, NULL, &report);
-    status = report_status(&report);
-    if (status != 0) {
+    if (decide(&report.grounds).verdict == DO_NOT_SEAL) {
         say_not_done(&report, options->edition, "not copied", "the edition itself is not well",
                      "see the other lines; nothing was copied");
-        status = verdict_of_all(&report, 0);
+        report_end(&report);
+        status = verdict_of_all(&report, 0).status;
     }
     screen_end(&screen);
     report_free(&report);
@@ -67,8 +67,7 @@ static void read_master(struct session *session, const char *folder) {
     struct report report;
     struct screen screen;
     single_start(&screen, &report, session->options);
-    manifest_of_folder(&session->manifest, folder, &report);
-    session->unread = report_status(&report) != 0;
+    session->unread = !manifest_of_folder(&session->manifest, folder, &report);
     session->against =
         (struct against){session->unread ? NULL : folder, &session->manifest, "copy it again"};
     screen_end(&screen);
@@ -107,12 +106,13 @@ static void check_and_write_slip(const struct session *session, const char *fold
     struct manifest files = {0};
     check_stick(folder, &session->against, &files, report);
     manifest_sort(&files);
-    if (report_status(report) != 0) {
+    if (decide(&report->grounds).verdict == DO_NOT_SEAL) {
         say_not_done(report, folder, label, "not all is well in it", "see the other lines");
     } else if (report->bare == 0) {
         say_not_done(report, folder, label, "there is one already, and it is left alone",
                      "delete it first");
     } else if (slip_write(folder, &files, report)) {
+        report->grounds.asked = true; /* there was nothing to compare with, as it must be */
         report->bare = 0;
         report->slips = 1;
         report->slip_files = files.count;
@@ -167,6 +167,7 @@ static void work_on(struct round *round, size_t job) {
     struct report *report = &round->reports[job];
     struct trouble trouble;
     bool good = !is_unfit(round, job, &trouble);
+    report->grounds.asked = session->options->structure;
     if (!good) {
         report_trouble(report, folder, NULL, &trouble);
     }
@@ -181,6 +182,7 @@ static void work_on(struct round *round, size_t job) {
     if (good && session->unread) {
         say_not_compared(folder, report);
     }
+    report_end(report);
     if (round->count > 1 && *folder != '\0' && !is_file(folder)) {
         verdict_of_folder(report, folder); /* also where it is not there any more */
     }
@@ -228,11 +230,12 @@ static void add_up(struct round *round, struct report *sum) {
     }
 }
 
-int session_work(struct session *session, char **folders, size_t count, struct text *log) {
+struct result session_work(struct session *session, char **folders, size_t count,
+                           struct text *log) {
     struct round round = {.session = session, .folders = folders, .count = count};
     struct timespec start, end;
+    struct result result;
     struct report sum;
-    int status;
     clock_gettime(CLOCK_MONOTONIC, &start);
     screen_start(&round.screen, folders, count, session->options->style.quiet);
     round.screen.log = log;
@@ -243,9 +246,9 @@ int session_work(struct session *session, char **folders, size_t count, struct t
     read_all(&round);
     add_up(&round, &sum);
     clock_gettime(CLOCK_MONOTONIC, &end);
-    status = verdict_of_all(&sum, seconds_between(&start, &end));
+    result = verdict_of_all(&sum, seconds_between(&start, &end));
     screen_end(&round.screen);
     report_free(&sum);
     free(round.reports);
-    return status;
+    return result;
 }

@@ -19,10 +19,10 @@ struct session {
 int session_start(struct session *session, const struct options *options);
 
 /*
- * Works on the folders, several at once, and says the last lines. Answers the exit status. The
- * lines go to the log too, if it is not NULL.
+ * Works on the folders, several at once, and says the last lines. Answers the verdict on all of
+ * them and the exit status. The lines go to the log too, if it is not NULL.
  */
-int session_work(struct session *session, char **folders, size_t count, struct text *log);
+struct result session_work(struct session *session, char **folders, size_t count, struct text *log);
 
 void session_end(struct session *session);
 

@@ -49,6 +49,7 @@ static void tell_good(struct report *report, const struct subject *subject) {
 
 void tell_of(struct report *report, const struct subject *subject, const char *again) {
     report->figures += subject->kind == KIND_FIGURE;
+    report->grounds.accepted += subject->kind == KIND_FIGURE && !TDS_REFUSED(subject->answer);
     if (TDS_REFUSED(subject->answer)) {
         tell_refused(report, subject);
     } else if (subject->comparison.different) {

@@ -1,6 +1,6 @@
 /*
- * The last lines: PASS or DO NOT SEAL stands first, so that it can be read from two metres; then
- * how many, and what was not covered.
+ * The last lines: PASS, STRUCTURE ONLY or DO NOT SEAL stands first, so that it can be read from two
+ * metres; then how many, and what was not covered.
  */
 #include "verdict.h"
 
@@ -15,6 +15,7 @@
 
 #define RED_GROUND "\033[1;97;41m"
 #define GREEN_GROUND "\033[1;97;42m"
+#define YELLOW_GROUND "\033[1;30;43m"
 #define PLAIN "\033[0m"
 
 /* Colour on a terminal only, and not where it is not wanted. */
@@ -24,21 +25,23 @@ static bool in_colour(void) {
            strcmp(terminal, "dumb") != 0;
 }
 
-const char *verdict_word(bool pass) {
-    return pass ? "PASS" : "DO NOT SEAL";
+const char *verdict_word(enum verdict verdict) {
+    return verdict == PASS ? "PASS" : verdict == STRUCTURE_ONLY ? "STRUCTURE ONLY" : "DO NOT SEAL";
 }
 
-void add_verdict_word(struct text *line, bool pass) {
+void add_verdict_word(struct text *line, enum verdict verdict) {
+    const char *ground = verdict == PASS             ? GREEN_GROUND
+                         : verdict == STRUCTURE_ONLY ? YELLOW_GROUND
+                                                     : RED_GROUND;
     if (in_colour()) {
-        text_format(line, "%s  %s  %s", pass ? GREEN_GROUND : RED_GROUND, verdict_word(pass),
-                    PLAIN);
+        text_format(line, "%s  %s  %s", ground, verdict_word(verdict), PLAIN);
     } else {
-        text_add(line, verdict_word(pass));
+        text_add(line, verdict_word(verdict));
     }
 }
 
 static void add_word(struct text *line, const struct report *report) {
-    add_verdict_word(line, report_status(report) == 0);
+    add_verdict_word(line, report->result.verdict);
     text_add(line, report->unfinished ? ": not finished: " : ": ");
 }
 
@@ -48,12 +51,13 @@ static void add_counts(struct text *line, const struct report *report) {
         [FOUND_EXTRA] = "not expected here", [FOUND_LEFT_BEHIND] = "left by another computer",
         [FOUND_BROKEN_SLIP] = "broken slip",
     };
-    unsigned long unchecked = report->count[FOUND_UNCHECKED] + report->near.count;
+    const unsigned long *count = report->grounds.count;
+    unsigned long unchecked = report_unchecked(report);
     text_format(line, "%lu figure%s checked, %lu refused", report->figures,
-                report->figures == 1 ? "" : "s", report->count[FOUND_REFUSED]);
+                report->figures == 1 ? "" : "s", count[FOUND_REFUSED]);
     for (int i = 0; i < OUTCOMES; i++) {
-        if (words[i] != NULL && report->count[i] > 0) {
-            text_format(line, ", %lu %s", report->count[i], words[i]);
+        if (words[i] != NULL && count[i] > 0) {
+            text_format(line, ", %lu %s", count[i], words[i]);
         }
     }
     if (unchecked > 0) {
@@ -63,21 +67,32 @@ static void add_counts(struct text *line, const struct report *report) {
 
 /* Why there was nothing to compare with. */
 static const char *bare_words(const struct report *report) {
-    if (report->folders > 1) {
-        return "no slip on these sticks";
+    if (report->files > 0) {
+        return report->files == 1 ? "one file alone is not compared with a slip"
+                                  : "files named one by one are not compared with a slip";
     }
-    return report->single ? "one file alone is not compared with a slip" : "no slip on this stick";
+    return report->folders > 1 ? "no slip on these sticks" : "no slip on this stick";
 }
 
-/* What a PASS does not speak of. */
-static void add_uncovered(struct text *line, const struct report *report) {
+/* That there was nothing to compare with, where the verdict does not say so itself. */
+static void add_bare(struct text *line, const struct report *report) {
     bool all = report->bare == report->folders;
-    if (report->bare > 0 && report->figures > 0 && all) {
-        text_format(line, "; structure only: %s", bare_words(report));
-    } else if (report->bare > 0 && report->figures > 0) {
+    if (report->bare == 0 || report->figures == 0) {
+        return;
+    }
+    if (all && (report->files == 0 || report->files == report->folders)) {
+        text_format(
+            line, "; %s%s",
+            report->result.verdict == STRUCTURE_ONLY ? "" : "structure only: ", bare_words(report));
+    } else {
         text_format(line, "; structure only on %lu of %lu: no slip there", report->bare,
                     report->folders);
     }
+}
+
+/* What the verdict does not speak of. */
+static void add_uncovered(struct text *line, const struct report *report) {
+    add_bare(line, report);
     if (report->uncompared > 0) {
         text_add(line, "; not compared with the master, which could not be read");
     }
@@ -91,7 +106,7 @@ static void add_uncovered(struct text *line, const struct report *report) {
     if (report->unknown.count > 0) {
         text_format(line, "; %lu of no known kind not looked at", report->unknown.count);
     }
-    if (report->from_memory) {
+    if (report->grounds.unread > 0) {
         text_add(line, "; read from this computer's memory, not from the stick: take the stick "
                        "out, put it in again, check again");
     }
@@ -128,47 +143,54 @@ static void add_names(struct text *lines, const struct report *sum) {
     }
 }
 
+/* All that is not PASS is said, also where only the problems are wanted. */
+static bool is_said(const struct report *sum) {
+    return !sum->style->quiet || sum->result.verdict != PASS;
+}
+
 static void add_plain(struct text *lines, const struct report *sum, double seconds) {
+    bool bad = sum->result.verdict == DO_NOT_SEAL;
     add_names(lines, sum);
-    if (sum->style->quiet && !sum->unfinished) {
+    if (!is_said(sum)) {
         return;
     }
     add_word(lines, sum);
-    if (sum->folders > 1 && sum->unwell > 0) {
+    if (sum->folders > 1 && bad) {
         text_format(lines, "%lu of ", sum->unwell);
     }
     if (sum->folders > 1) {
-        text_format(lines, "%lu folders, ", sum->folders);
+        text_format(lines, "%lu %s, ", sum->folders,
+                    sum->files == sum->folders ? "files" : "folders");
     }
     add_counts(lines, sum);
-    text_format(lines, ", in %.1f seconds%s", seconds,
-                report_status(sum) == 0 ? "" : ": see above");
+    text_format(lines, ", in %.1f seconds%s", seconds, bad ? ": see above" : "");
     add_uncovered(lines, sum);
     text_add(lines, "\n");
 }
 
 static void add_json(struct text *lines, const struct report *sum, double seconds) {
-    if (sum->style->quiet && !sum->unfinished) {
+    const unsigned long *count = sum->grounds.count;
+    if (!is_said(sum)) {
         return;
     }
     json_begin(lines);
-    json_string(lines, "verdict", verdict_word(report_status(sum) == 0));
-    json_number(lines, "status", (unsigned long)report_status(sum));
+    json_string(lines, "verdict", verdict_word(sum->result.verdict));
+    json_number(lines, "status", (unsigned long)sum->result.status);
     json_number(lines, "folders", sum->folders);
     json_number(lines, "unwell", sum->unwell);
     json_number(lines, "figures", sum->figures);
-    json_number(lines, "refused", sum->count[FOUND_REFUSED]);
-    json_number(lines, "differ", sum->count[FOUND_DIFFERENT]);
-    json_number(lines, "missing", sum->count[FOUND_MISSING]);
-    json_number(lines, "not_expected", sum->count[FOUND_EXTRA]);
-    json_number(lines, "left_behind", sum->count[FOUND_LEFT_BEHIND]);
-    json_number(lines, "broken_slips", sum->count[FOUND_BROKEN_SLIP]);
-    json_number(lines, "not_checked", sum->count[FOUND_UNCHECKED] + sum->near.count);
+    json_number(lines, "refused", count[FOUND_REFUSED]);
+    json_number(lines, "differ", count[FOUND_DIFFERENT]);
+    json_number(lines, "missing", count[FOUND_MISSING]);
+    json_number(lines, "not_expected", count[FOUND_EXTRA]);
+    json_number(lines, "left_behind", count[FOUND_LEFT_BEHIND]);
+    json_number(lines, "broken_slips", count[FOUND_BROKEN_SLIP]);
+    json_number(lines, "not_checked", report_unchecked(sum));
     json_number(lines, "of_no_known_kind", sum->unknown.count);
     json_number(lines, "structure_only", sum->bare);
     json_number(lines, "not_compared", sum->uncompared);
     json_number(lines, "slips_written", sum->slips);
-    json_number(lines, "from_memory", sum->from_memory);
+    json_number(lines, "from_memory", sum->grounds.unread);
     json_number(lines, "not_finished", sum->unfinished);
     json_number(lines, "milliseconds", (unsigned long)(seconds * 1000));
     json_end(lines);
@@ -184,7 +206,8 @@ bool output_is_whole(void) {
     return whole;
 }
 
-int verdict_of_all(struct report *sum, double seconds) {
+struct result verdict_of_all(struct report *sum, double seconds) {
+    const struct result lost = {DO_NOT_SEAL, 2};
     struct text lines = {0};
     if (sum->style->json) {
         add_json(&lines, sum, seconds);
@@ -195,5 +218,5 @@ int verdict_of_all(struct report *sum, double seconds) {
         screen_line(sum->screen, 0, TO_OUTPUT, lines.bytes);
     }
     text_free(&lines);
-    return output_is_whole() ? report_status(sum) : 2;
+    return output_is_whole() ? sum->result : lost;
 }

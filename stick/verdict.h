@@ -1,18 +1,18 @@
-/* The last lines: PASS or DO NOT SEAL, how many, and what was not covered. */
+/* The last lines: PASS, STRUCTURE ONLY or DO NOT SEAL, how many, and what was not covered. */
 #ifndef STICK_VERDICT_H
 #define STICK_VERDICT_H
 
 #include "report.h"
 
-/* The word itself, PASS or DO NOT SEAL; as it is added to a line it has its colour. */
-const char *verdict_word(bool pass);
-void add_verdict_word(struct text *line, bool pass);
+/* The word itself; as it is added to a line it has its colour. */
+const char *verdict_word(enum verdict verdict);
+void add_verdict_word(struct text *line, enum verdict verdict);
 
 /* The verdict on one of several folders, as a line of its job. */
 void verdict_of_folder(struct report *report, const char *folder);
 
-/* The last lines of all. Answers the exit status. */
-int verdict_of_all(struct report *sum, double seconds);
+/* The last lines of all. Answers the verdict and the exit status. */
+struct result verdict_of_all(struct report *sum, double seconds);
 
 /* Whether all lines went out; else that is said. */
 bool output_is_whole(void);

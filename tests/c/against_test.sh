@@ -37,16 +37,16 @@ done
 # shellcheck disable=SC2086
 stick $many
 status_is 0
-passes 60
+structure 60
 lines out 1
 
 try 'one bad stick among good ones'
 edition good
 edition bad
 turn "$F/adze.3ds" 2
-stick "$T/good" "$T/bad"
+stick --structure "$T/good" "$T/bad"
 status_is 1
-matches out "$T/good: PASS: 6 figures checked, 0 refused; .*"
+matches out "$T/good: STRUCTURE ONLY: 6 figures checked, 0 refused; no slip on this stick"
 matches out "$T/bad: DO NOT SEAL: 6 figures checked, 1 refused; .*"
 last "DO NOT SEAL: 1 of 2 folders, 12 figures checked, 1 refused, $seconds: see above; structure only: no slip on these sticks"
 
@@ -58,8 +58,10 @@ last "DO NOT SEAL: 1 of 2 folders, 6 figures checked, .*"
 
 # --- against a master
 
+edition bare_master
+M=$F
 try 'a stick that is as the master'
-stick --against samples/edition "$T/good"
+stick --against "$M" "$T/good"
 status_is 0
 last "PASS: 6 figures checked, 0 refused, $seconds"
 
@@ -70,7 +72,7 @@ cp "$F/saw.3ds" "$F/plane.3ds"
 triangle >"$F/new.3ds"
 printf x >>"$F/chisel.3ds"
 turn "$F/mallet.3ds" 200
-stick --against samples/edition "$F"
+stick --against "$M" "$F"
 status_is 1
 matches out "$F/vice.3ds: missing: copy it again"
 matches out "$F/plane.3ds: differs from the master, at byte [0-9]+: copy it again"
@@ -79,7 +81,7 @@ matches out "$F/chisel.3ds: refused: TRAILING .*"
 matches out "$F/mallet.3ds: (differs from the master, at byte 200|refused: .*): copy .* again"
 last "DO NOT SEAL: 5 figures checked, [12] refused, [12] differ, 1 missing, 1 not expected here, $seconds: see above"
 lines err 0
-stick --against samples/edition/ "$F/"
+stick --against "$M/" "$F/"
 matches out "$F/vice.3ds: missing: copy it again"
 matches out "$F/plane.3ds: differs from the master, .*"
 stick "$F" # without the master most of this is not seen
@@ -146,13 +148,13 @@ try 'a link in the place of a file of the master is one problem'
 edition linked_stick
 rm "$F/adze.3ds"
 ln -s saw.3ds "$F/adze.3ds"
-stick --against samples/edition "$F"
+stick --against "$M" "$F"
 status_is 2
 has err "$F/adze.3ds: not checked: it is a link"
 lacks out missing
 
 try 'one file against the master'
-stick --against samples/edition "$T/good/adze.3ds"
+stick --against "$M" "$T/good/adze.3ds"
 status_is 0
 lines out 1
 
@@ -161,7 +163,7 @@ stick --against "$T/nowhere" "$T/good"
 status_is 2
 has err "stick: there is no folder $T/nowhere"
 lines out 0
-faulty "read:$EIO:samples/edition/chisel" --against samples/edition "$T/good"
+faulty "read:$EIO:bare_master/chisel" --against "$M" "$T/good"
 status_is 2
 matches err "stick: $T/good/chisel.3ds: not checked: the master's file of this name cannot be read: check the master \(Input/output error\)"
 mkdir "$T/linked"
@@ -182,13 +184,13 @@ lacks out 'not in the master'
 stick --quiet --against "$T/linked" "$T/good"
 status_is 2
 lines err 2
-lines out 0
+lines out 1
 stick --json --against "$T/linked" "$T/good"
 status_is 2
 lines err 0
 has out "{\"path\":\"$T/good\",\"result\":\"not compared\",\"words\":\"the master could not be read whole\","
 last '\{"verdict":"DO NOT SEAL","status":2,"folders":1,"unwell":1,"figures":6,.*,"not_compared":1,.*\}'
-stick --json --against samples/edition "$T/good"
+stick --json --against "$M" "$T/good"
 last '\{"verdict":"PASS","status":0,.*,"not_compared":0,.*\}'
 
 # --- for programs

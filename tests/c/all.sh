@@ -19,6 +19,8 @@ one sh tests/c/header_test.sh
 # RUN is a command with its arguments, so it is split.
 # shellcheck disable=SC2086
 one ${RUN:-} "$BUILD/c-test/boundary_test"
+# shellcheck disable=SC2086
+one ${RUN:-} "$BUILD/c-test/decide_test"
 one sh tests/c/samples_test.sh
 one sh tests/c/viewer_test.sh
 one sh tests/c/install_test.sh

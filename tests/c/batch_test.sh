@@ -3,7 +3,7 @@
 # shellcheck source=tests/c/stick_common.sh
 . tests/c/stick_common.sh
 
-for name in one two three; do edition "$name"; done
+for name in one two three; do sample "$name"; done
 turn "$T/two/adze.3ds" 2
 P=$T/place
 
@@ -45,7 +45,7 @@ lines log 5
 mv "$P" "$T/three"
 
 try 'a stick that is exchanged without the place being empty in between'
-edition four
+sample four
 start --batch 2 --log "$T/log" "$P"
 mv "$T/one" "$P"
 await "$T/out" 'stick 1 of 2: take it out'
@@ -63,8 +63,12 @@ await "$T/out" 'stick 1 of 1: put it in'
 cp samples/edition/adze.3ds "$T/adze"
 mv "$T/adze" "$P/adze.3ds"
 ended
+status_is 2
+try 'a batch counts PASS alone'
+last 'STRUCTURE ONLY: 0 of 1 sticks passed; not these: 1'
+stick --structure --batch 1 --log "$T/log" "$P"
 status_is 0
-last 'PASS: 1 of 1 sticks passed'
+last 'STRUCTURE ONLY: 0 of 1 sticks passed; not these: 1'
 rm -r "$P"
 
 try 'copied and checked, one after another'
@@ -94,6 +98,11 @@ stick --json --batch 1 --log "$T/log" "$P"
 status_is 0
 last '\{"verdict":"PASS","sticks":1,"passed":1,"not_finished":0\}'
 lines out 8
+cp -R "$P" "$T/without"
+rm "$T/without/stick.slip"
+stick --json --batch 1 --log "$T/log" "$T/without"
+status_is 2
+last '\{"verdict":"STRUCTURE ONLY","sticks":1,"passed":0,"not_these":"1","not_finished":0\}'
 
 try 'the log has a name of the day where none is given'
 cd "$T" || exit 2

@@ -16,7 +16,7 @@ done_with() {
 }
 
 try 'what is in memory is written out and dropped before a file is read'
-edition settled
+sample settled
 done_with "$F/adze.3ds" 'write out,drop,read,' "$F"
 
 try 'a file of which nothing is in memory is read at once'
@@ -28,11 +28,18 @@ else
     skip "$(head -n 1 "$T/err")"
 fi
 
-try 'where memory cannot be dropped the last line says so'
+try 'where memory cannot be dropped it does not pass, and the last line says what to do'
 faulty "fadvise:$EINVAL:settled/adze" "$F"
-status_is 0
-last "PASS: 6 figures checked, .*; read from this computer's memory, not from the stick: take the stick out, put it in again, check again"
+status_is 2
+last "DO NOT SEAL: 6 figures checked, 0 refused, $seconds: see above; read from this computer's memory, not from the stick: take the stick out, put it in again, check again"
+faulty "fadvise:$EINVAL:settled/adze" -q "$F"
+status_is 2
+lines out 1
+faulty "fadvise:$EINVAL:settled/stick.slip" "$F"
+status_is 2
+has out "read from this computer's memory, not from the stick"
 faulty "fdatasync:$ENOSPC:settled/adze" "$F"
+status_is 2
 has out "read from this computer's memory, not from the stick"
 stick "$F"
 lacks out memory
@@ -67,15 +74,15 @@ else
     # Its page is known in part, and not every question finds that.
     try 'a small file just copied is written out too where blocks are smaller than pages'
     triangle >"$T/mount/triangle.3ds"
-    done_with "$T/mount/triangle.3ds" 'write out,drop,read,' "$T/mount"
+    done_with "$T/mount/triangle.3ds" 'write out,drop,read,' --structure "$T/mount"
     rm "$T/mount/triangle.3ds"
 
     try 'a bit turned on a mounted stick is seen at once'
     cp samples/edition/adze.3ds "$T/mount"
     sync
-    stick "$T/mount"
+    stick --structure "$T/mount"
     status_is 0
-    passes 1
+    structure 1
     # These words are in the first block of the adze; its length stands at its third byte.
     place=$(LC_ALL=C grep -abo 'made by another house' "$T/image" | head -n 1 | cut -d : -f 1)
     turn "$T/image" $((place / 1024 * 1024 + 2))
@@ -86,11 +93,12 @@ else
     # Another program has the good figure in use, so that it stays in memory whatever is dropped.
     try 'a bit turned on a mounted stick while another program holds the figure is not passed in silence'
     turn "$T/image" $((place / 1024 * 1024 + 2))
-    stick "$T/mount"
+    stick --structure "$T/mount"
     status_is 0
     hold "$T/mount/adze.3ds"
     turn "$T/image" $((place / 1024 * 1024 + 2))
-    stick "$T/mount"
+    stick --structure "$T/mount"
+    status_is 2
     has out "; read from this computer's memory, not from the stick: take the stick out, put it in again, check again"
     let_go
     stick "$T/mount"

@@ -20,7 +20,7 @@ chmod +x "$T/kit/rt"
 touch -d '2001-01-01' "$T/kit/rt" "$tree/crates/tds/src" "$tree/crates/tds" "$tree/crates"
 : >"$T/asked"
 mkdir "$T/my stick" "$T/it's"
-for name in 'my stick' "it's"; do triangle >"$T/$name/t.3ds"; done
+for name in 'my stick' "it's"; do cp samples/edition/* "$T/$name"; done
 
 # The places for commands without the kit that may be on this machine.
 without=$(echo "$PATH" | tr ':' '\n' | while read -r place; do [ -x "$place/rt" ] || printf '%s:' "$place"; done)
@@ -63,10 +63,10 @@ asked 1
 try 'the folder is one word'
 make_run "$T/kit" "STICK=$T/my stick"
 status_is 0
-has out 'PASS: 1 figure checked'
+has out 'PASS: 6 figures checked'
 make_run "$T/kit" "STICK=$T/it's"
 status_is 0
-has out 'PASS: 1 figure checked'
+has out 'PASS: 6 figures checked'
 make_run "$T/kit" 'STICK=x; echo hi'
 status_is 2
 has err 'stick: x; echo hi: not checked: there is no such file or folder'

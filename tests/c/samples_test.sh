@@ -8,6 +8,8 @@ try 'the generator makes what is kept'
 mkdir "$T/again"
 run "$BUILD/make_samples" "$T/again"
 status_is 0
+run "$BUILD/stick" --write-slip "$T/again/edition"
+status_is 0
 for folder in edition old damaged caligari c4d; do
     (cd samples/$folder && ls) >"$T/kept"
     (cd "$T/again/$folder" && ls) >"$T/made"
@@ -17,12 +19,13 @@ for folder in edition old damaged caligari c4d; do
     done <"$T/kept"
 done
 
-try 'the edition is accepted'
+try 'the edition is accepted, and as its slip says'
 run "$BUILD/stick" samples/edition
 status_is 0
+has out 'PASS: 6 figures checked'
 
 try 'the older figure is accepted, and refused where it says that it is of version 3'
-run "$BUILD/stick" samples/old
+run "$BUILD/stick" --structure samples/old
 status_is 0
 mkdir "$T/newer"
 { head -c 12 samples/old/gouge.3ds; printf '\003'; tail -c +14 samples/old/gouge.3ds; } >"$T/newer/gouge.3ds"
@@ -69,7 +72,7 @@ try 'the generator where it cannot write'
 run "$BUILD/make_samples" "$T/nowhere"
 status_is 1
 try 'every call keeps to the stack that tds.h says it needs'
-run "$BUILD/c-test/small_stack" samples/edition/* samples/damaged/*.3ds samples/caligari/*.cob samples/c4d/*.c4d samples/old/*.3ds
+run "$BUILD/c-test/small_stack" samples/edition/*.3ds samples/damaged/*.3ds samples/caligari/*.cob samples/c4d/*.c4d samples/old/*.3ds
 status_is 0
 matches out '[0-9]{3,} calls'
 finish samples_test

@@ -44,8 +44,8 @@ last "DO NOT SEAL: 6 figures checked, 0 refused, 4 differ, 2 missing, 2 not expe
 try 'without the slip none of it is seen'
 rm "$F/stick.slip"
 stick "$F"
-status_is 0
-has out 'structure only: no slip on this stick'
+status_is 2
+last "STRUCTURE ONLY: 7 figures checked, 0 refused, $seconds; no slip on this stick; .*"
 
 try 'each file is read once'
 fresh once
@@ -236,7 +236,7 @@ lacks out 'structure only'
 try 'one file of a stick is not compared with its slip, and that is said'
 stick "$T/copied/adze.3ds"
 status_is 0
-last "PASS: 1 figure checked, 0 refused, $seconds; structure only: one file alone is not compared with a slip"
+last "STRUCTURE ONLY: 1 figure checked, 0 refused, $seconds; one file alone is not compared with a slip"
 try 'against a master, the slip of the stick is compared too'
 stick --against "$E" "$T/copied"
 status_is 0
@@ -284,8 +284,13 @@ same 'the slip, which is left alone,' "$E/stick.slip" "$F/stick.slip"
 
 try 'several sticks, some with a slip'
 cp "$E/stick.slip" "$T/copied"
+edition no_slip
+stick "$T/copied" "$F"
+status_is 2
+matches out "$T/copied: PASS: 7 figures checked, 0 refused"
+last "STRUCTURE ONLY: 2 folders, 13 figures checked, 0 refused, $seconds; structure only on 1 of 2: no slip there"
 stick "$T/copied" samples/edition
 status_is 0
-last "PASS: 2 folders, 13 figures checked, 0 refused, $seconds; structure only on 1 of 2: no slip there"
+last "PASS: 2 folders, 13 figures checked, 0 refused, $seconds"
 
 finish slip_test

@@ -9,7 +9,7 @@ E=$F
 try 'a slip is written for an edition in which all is well'
 stick --write-slip "$E"
 status_is 0
-last "PASS: 7 figures checked, 0 refused, $seconds; a slip was written, with 10 files"
+last "STRUCTURE ONLY: 7 figures checked, 0 refused, $seconds; a slip was written, with 10 files"
 if [ -s "$E/stick.slip" ]; then pass; else fail 'there is none'; fi
 lines err 0
 
@@ -27,8 +27,8 @@ for name in one two; do
 done
 stick --write-slip "$T/one" "$T/two"
 status_is 0
-matches out "$T/two: PASS: 1 figure checked, 0 refused; a slip was written, with 2 files"
-last "PASS: 2 folders, 2 figures checked, 0 refused, $seconds; 2 slips were written, with 4 files"
+matches out "$T/two: STRUCTURE ONLY: 1 figure checked, 0 refused; a slip was written, with 2 files"
+last "STRUCTURE ONLY: 2 folders, 2 figures checked, 0 refused, $seconds; 2 slips were written, with 4 files"
 rm "$T/one/stick.slip"
 stick --json --write-slip "$T/one"
 has out '"slips_written":1,'

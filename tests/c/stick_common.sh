@@ -38,13 +38,16 @@ faulty() {
 # shellcheck disable=SC2034
 EIO=5 ENODEV=19 EINVAL=22 ENOSPC=28 # Linux's numbers
 
-# passes FIGURES and unsealed FIGURES REFUSED UNCHECKED: the last line.
+# passes FIGURES, structure FIGURES and unsealed FIGURES REFUSED UNCHECKED: the last line.
 passes() {
     last "PASS: ([0-9]+ folders, )?$1 figures? checked, 0 refused, $seconds(; .*)?"
 }
+structure() {
+    last "STRUCTURE ONLY: ([0-9]+ (folders|files), )?$1 figures? checked, 0 refused, $seconds(; .*)?"
+}
 unsealed() {
     if [ "$3" -eq 0 ]; then more=; else more="$3 could not be checked, "; fi
-    last "DO NOT SEAL: ([0-9]+ of [0-9]+ folders, )?$1 figures? checked, $2 refused, $more$seconds: see above(; .*)?"
+    last "DO NOT SEAL: ([0-9]+ of [0-9]+ (folders|files), )?$1 figures? checked, $2 refused, $more$seconds: see above(; .*)?"
 }
 last() {
     if tail -n 1 "$T/out" | grep -qxE -e "$1"; then pass; else fail "the last line is not: $1"; fi
@@ -56,10 +59,16 @@ folder() {
     mkdir "$F"
 }
 
-# edition NAME: a copy of the sample edition, in $F.
+# edition NAME: the figures of the sample edition without its slip, in $F.
 edition() {
     folder "$1"
     cp samples/edition/*.3ds "$F"
+}
+
+# sample NAME: a copy of the sample edition with its slip, in $F.
+sample() {
+    edition "$1"
+    cp samples/edition/stick.slip "$F"
 }
 
 # full_edition NAME: the sample edition with other files beside it, a long one and an empty one too: 7 figures of 10 files. Byte

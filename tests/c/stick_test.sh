@@ -32,9 +32,9 @@ folder case
 mkdir -p "$F/deep/er"
 for name in a.3ds B.3DS c.3Ds deep/d.3dS deep/er/e.3ds .3ds; do triangle >"$F/$name"; done
 for name in f.txt g3ds i.3d; do echo 'no figure' >"$F/$name"; done
-stick "$F"
+stick --structure "$F"
 status_is 0
-passes 6
+structure 6
 matches out "not looked at: 3 files of no known kind: $F/f.txt, $F/g3ds, $F/i.3d"
 has out '; 3 of no known kind not looked at'
 lines out 2
@@ -44,7 +44,7 @@ folder unknown
 triangle >"$F/t.3ds"
 for name in a b c d e f g h i j; do echo 'no figure' >"$F/$name.txt"; done
 stick "$F"
-status_is 0
+status_is 2
 matches out "not looked at: 10 files of no known kind: $F/a.txt, .*, $F/h.txt and 2 more"
 stick --verbose "$F"
 matches out "not looked at: 10 files of no known kind: $F/a.txt, .*, $F/i.txt, $F/j.txt"
@@ -60,13 +60,14 @@ unsealed 1 0 4
 lines err 0
 stick --quiet "$F"
 status_is 2
-lines out 1
+unsealed 1 0 4
+lines out 2
 
 try 'an ending with a letter behind it is part of another word'
 folder words
 triangle >"$F/t.3ds"
 for name in notes.cobalt.txt .3dsmax a.c4dx; do echo 'no figure' >"$F/$name"; done
-stick "$F"
+stick --structure "$F"
 status_is 0
 matches out "not looked at: 3 files of no known kind: $F/.3dsmax, $F/a.c4dx, $F/notes.cobalt.txt"
 for name in 'a.3ds (1)' b.cob2 c.C4D_old x.cobalt.cob.part; do echo 'a figure?' >"$F/$name"; done
@@ -78,10 +79,10 @@ try 'Caligari figures'
 folder caligari
 triangle >"$F/t.3ds"
 caligari >"$F/a.COB"
-stick --list "$F"
+stick --structure --list "$F"
 status_is 0
 matches out "$F/a.COB: accepted: 1 chunk"
-passes 2
+structure 2
 turn "$F/a.COB" 0
 stick "$F"
 status_is 1
@@ -95,10 +96,10 @@ try 'Cinema 4D figures'
 folder cinema
 triangle >"$F/t.3ds"
 cinema >"$F/b.C4D"
-stick --list "$F"
+stick --structure --list "$F"
 status_is 0
 matches out "$F/b.C4D: accepted: 0 objects"
-passes 2
+structure 2
 printf x >>"$F/b.C4D"
 stick "$F"
 status_is 1
@@ -140,17 +141,17 @@ try 'a file as argument, whatever its name'
 triangle >"$T/no-ending"
 stick "$T/no-ending"
 status_is 0
-passes 1
+structure 1
 
 try 'a name that begins with a dash'
 folder dash
 triangle >"$F/-x.3ds"
 (cd "$F" && mkdir -- -d && cp ./-x.3ds ./-d)
 cd "$F" || exit 2
-stick -- -d -x.3ds
+stick --structure -- -d -x.3ds
 cd "$OLDPWD" || exit 2
 status_is 0
-passes 2
+structure 2
 
 # --- length
 
@@ -159,7 +160,7 @@ try 'the longest figure there may be'
 { printf 'MM\0\0\020\0==\006\0\0\0\043\201\364\377\017\0' && head -c 1048558 /dev/zero; } >"$T/longest.3ds"
 stick "$T/longest.3ds"
 status_is 0
-passes 1
+structure 1
 
 try 'one byte more'
 { printf 'MM\001\0\020\0==\006\0\0\0\043\201\365\377\017\0' && head -c 1048559 /dev/zero; } >"$T/over.3ds"
@@ -286,9 +287,9 @@ unsealed 2 0 36
 try 'a link named on the command line: to a folder it is followed, to a file it is not'
 ln -s "$T/elsewhere" "$T/to-folder"
 ln -s "$T/elsewhere/t.3ds" "$T/to-file.3ds"
-stick "$T/to-folder"
+stick --structure "$T/to-folder"
 status_is 0
-passes 1
+structure 1
 stick "$T/to-file.3ds"
 status_is 2
 has err "$T/to-file.3ds: not checked: it is a link"
@@ -310,11 +311,11 @@ for error in $EIO $ENODEV; do
     unsealed 5 0 1
 done
 try 'nothing more is tried on a stick that stays away'
-faulty "read:$EIO:edition/:2" samples/edition
+faulty "read:$EIO:edition/:4" samples/edition
 status_is 2
 lines err 3
 has err 'samples/edition/chisel.3ds: not checked: the stick stopped answering: warm it in the hand, plug it in again'
-last "DO NOT SEAL: not finished: 1 figure checked, 0 refused, 3 could not be checked, $seconds: see above; .*"
+last "DO NOT SEAL: not finished: 1 figure checked, 0 refused, 3 could not be checked, $seconds: see above"
 
 try 'a stick that is drawn out'
 edition drawn
@@ -531,11 +532,11 @@ while [ "$level" -lt 60 ]; do
 done
 # Every shell that is a /bin/sh has ulimit -n.
 # shellcheck disable=SC2086,SC3045
-(ulimit -n 30 && exec $RUN "$S" "$F") >"$T/out" 2>"$T/err"
+(ulimit -n 30 && exec $RUN "$S" --structure "$F") >"$T/out" 2>"$T/err"
 status=$?
 if [ -n "$RUN" ]; then skip "$RUN needs files of its own"; else
     status_is 0
-    passes 1
+    structure 1
 fi
 
 # --- options
@@ -545,12 +546,23 @@ stick --quiet samples/edition
 status_is 0
 lines out 0
 lines err 0
-try '--quiet when something is wrong'
+try '--quiet when something is wrong: the problems and the last line'
 stick -q samples/edition samples/damaged/short-length-of-five.3ds "$T/nowhere"
 status_is 2
-lines out 1
+lines out 2
 lines err 1
 has out 'SHORT (4)'
+last "DO NOT SEAL: 2 of 3 folders, 7 figures checked, 1 refused, 1 could not be checked, $seconds: see above; .*"
+try '--quiet where there was nothing to compare with: nobody takes silence for a PASS'
+edition quiet
+stick -q "$F"
+status_is 2
+lines out 1
+last "STRUCTURE ONLY: 6 figures checked, 0 refused, $seconds; no slip on this stick"
+stick -q --structure "$F"
+status_is 0
+lines out 1
+structure 6
 
 try 'on a shell that allows little stack, which Caligari figures need much of'
 mkdir "$T/square"
@@ -558,9 +570,9 @@ cp samples/caligari/try-square.cob "$T/square"
 mkdir "$T/square-too"
 # shellcheck disable=SC2016
 little='ulimit -s 256 && exec "$0" "$@"'
-run sh -c "$little" "$S" "$T/square" "$T/square" samples/edition
+run sh -c "$little" "$S" --structure "$T/square" "$T/square" samples/edition
 status_is 0
-has out 'PASS: 3 folders, 8 figures checked'
+has out 'STRUCTURE ONLY: 3 folders, 8 figures checked'
 run sh -c "$little" "$S" --copy "$T/square" "$T/square-too"
 status_is 0
 has out 'PASS: 1 figure checked'
@@ -581,7 +593,7 @@ try '--list behind the folder, and --quiet'
 stick "$T/no-ending" --list --quiet
 status_is 0
 matches out "$T/no-ending: accepted: 1 mesh, 3 vertices, 1 face"
-lines out 1
+lines out 2
 try '--list of a figure without meshes'
 printf 'MM\014\0\0\0==\006\0\0\0' >"$T/bare.3ds"
 stick -l "$T/bare.3ds"
@@ -660,7 +672,7 @@ try '--help'
 stick --help
 status_is 0
 lines err 0
-for option in --help --version --quiet --list --explain --verbose --json --against --copy --write-slip --batch --log FOLDER; do has out "$option"; done
+for option in --help --version --quiet --list --explain --verbose --json --against --copy --write-slip --structure --batch --log FOLDER; do has out "$option"; done
 widest=$(awk '{ if (length($0) > most) most = length($0) } END { print most }' "$T/out")
 if [ "$widest" -le 80 ]; then pass; else fail "a line of $widest characters"; fi
 try '--version'

@@ -5,6 +5,7 @@
 export TERM=xterm
 green=$(printf '\033[1;97;42m')
 red=$(printf '\033[1;97;41m')
+yellow=$(printf '\033[1;30;43m')
 plain=$(printf '\033[0m')
 
 # terminal both|error ARGUMENTS...: what the terminal was sent, in $T/terminal.
@@ -91,7 +92,7 @@ try 'several folders: a line of progress for each, cut at its start'
 long=$T/a-rather-long-name-of-a-folder-that-does-not-fit-in
 mkdir "$long"
 triangle >"$long/t.3ds"
-WIDTH=70 HEIGHT=10 terminal error samples/edition "$long" samples/damaged
+WIDTH=70 HEIGHT=10 terminal error --structure samples/edition "$long" samples/damaged
 status_is 1
 has terminal 'samples/edition: '
 has terminal '-folder-that-does-not-fit-in: '
@@ -108,9 +109,11 @@ status_is 0
 has terminal checking
 lacks terminal "$(printf '\033')"
 
-try 'the last line is green or red on a terminal'
+try 'the last line is green, yellow or red on a terminal'
 terminal both samples/edition
 has terminal "$green  PASS  $plain: 6 figures checked"
+terminal both samples/old
+has terminal "$yellow  STRUCTURE ONLY  $plain: 1 figure checked"
 terminal both samples/damaged
 has terminal "$red  DO NOT SEAL  $plain: 20 figures checked"
 try 'no colour where it is not wanted'

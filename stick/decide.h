@@ -1,0 +1,46 @@
+/* The one place that decides: PASS, STRUCTURE ONLY or DO NOT SEAL. */
+#ifndef STICK_DECIDE_H
+#define STICK_DECIDE_H
+
+#include <stdbool.h>
+
+/* From bad to good, so that what nobody decided is not good. */
+enum verdict { DO_NOT_SEAL, STRUCTURE_ONLY, PASS };
+
+/* What was found of one thing. */
+enum outcome {
+    FOUND_NOTHING, /* it was not looked at */
+    FOUND_OK,
+    FOUND_REFUSED,
+    FOUND_DIFFERENT, /* from the slip or the master */
+    FOUND_MISSING,   /* on the slip or in the master, and not here */
+    FOUND_EXTRA,     /* here, and not on the slip or in the master */
+    FOUND_LEFT_BEHIND,
+    FOUND_BROKEN_SLIP,
+    FOUND_NEAR, /* almost named as a figure */
+    FOUND_UNCHECKED,
+    OUTCOMES
+};
+
+/* What a verdict rests on. Zero everywhere is: nothing was looked at. */
+struct grounds {
+    unsigned long count[OUTCOMES]; /* of all that was met */
+    unsigned long accepted;        /* figures that their readers accepted */
+    unsigned long unread;          /* files that were perhaps not read from the stick itself */
+    bool whole;                    /* the walk came to its end */
+    bool compared;                 /* every file, with a slip or a master */
+    bool alone;                    /* a file was named, not a folder: no word on a stick */
+    bool asked;                    /* to look at the structure only */
+};
+
+struct result {
+    enum verdict verdict;
+    int status; /* of the program: 0 good, 1 something is wrong, 2 something was not checked */
+};
+
+struct result decide(const struct grounds *grounds);
+
+/* The worse of two verdicts, and of two statuses. */
+struct result worse(struct result one, struct result other);
+
+#endif
