@@ -4,16 +4,20 @@
 #include <errno.h>
 #include <stdlib.h>
 #include <string.h>
+#include <strings.h>
 
 #include "longpath.h"
 #include "reading.h"
+#include "slip.h"
 #include "stop.h"
+#include "target.h"
 #include "writing.h"
 
 struct copying {
-    const char *edition;
+    const struct edition *edition;
     const char *stick;
     struct report *report;
+    struct target target;
     struct text from;
     struct text to;
     uint8_t *block;
@@ -22,7 +26,7 @@ struct copying {
 
 /* Sets the paths of one file in the edition and on the stick. */
 static void set_paths(struct copying *copying, const char *name) {
-    text_path(&copying->from, copying->edition, name);
+    text_path(&copying->from, copying->edition->folder, name);
     text_path(&copying->to, copying->stick, name);
 }
 
@@ -95,7 +99,8 @@ static bool copy_file(struct copying *copying, struct trouble *trouble) {
     }
     good = writing_open(&writing, copying->to.bytes, trouble);
     if (good) {
-        good = carry(copying, &reading, &writing, trouble);
+        good =
+            carry(copying, &reading, &writing, trouble) && target_stands(&copying->target, trouble);
         good = writing_close(&writing, good, good ? trouble : &later) && good;
     }
     if (!reading_close(&reading, &later) && good) {
@@ -106,56 +111,64 @@ static bool copy_file(struct copying *copying, struct trouble *trouble) {
     return good;
 }
 
-/* Whether something of this name stands on the stick; it is then left alone. */
-static bool stands(const char *path) {
+/*
+ * Whether two names of the edition, which stand side by side, are one file on the stick: FAT does
+ * not tell letters of either case apart.
+ */
+static bool are_one(struct copying *copying, size_t file, const struct stat *there) {
+    const struct expected *entries = copying->edition->manifest->entries;
+    struct text other = {0};
     struct stat status;
-    return long_stat(path, 1, &status) == 0;
+    bool one = false;
+    if (file > 0 && strcasecmp(entries[file - 1].name, entries[file].name) == 0) {
+        text_path(&other, copying->stick, entries[file - 1].name);
+        one = long_stat(other.bytes, 1, &status) == 0 && status.st_dev == there->st_dev &&
+              status.st_ino == there->st_ino;
+    }
+    text_free(&other);
+    return one;
 }
 
-/* What is written to one of the two would be in the other, if one lay inside the other. */
-static bool are_apart(const struct copying *copying, struct trouble *trouble) {
-    if (long_same_folder(copying->stick, copying->edition)) {
-        trouble_of_words(trouble, "it is the edition itself", "give the folder of the stick");
-    } else if (long_lies_in(copying->stick, copying->edition)) {
-        trouble_of_words(trouble, "it lies inside the edition", "give the folder of the stick");
-    } else if (long_lies_in(copying->edition, copying->stick)) {
-        trouble_of_words(trouble, "the edition lies inside it", "put the edition elsewhere");
-    } else {
-        return true;
-    }
-    return false;
-}
-
-/* The stick must be there, be a folder, and have nothing to do with the edition. */
-static bool fit_to_copy_to(const struct copying *copying, struct trouble *trouble) {
-    struct stat edition, stick;
-    if (long_stat(copying->stick, 0, &stick) != 0 ||
-        long_stat(copying->edition, 0, &edition) != 0) {
-        trouble_of_system(trouble, errno);
+/* What is on the stick already is left alone. */
+static bool copy_or_leave(struct copying *copying, size_t file, struct trouble *trouble) {
+    struct row row = {copying->stick, COPYING, file + 1, 0};
+    struct stat there;
+    set_paths(copying, copying->edition->manifest->entries[file].name);
+    screen_row(copying->report->screen, copying->report->job, &row);
+    if (!target_stands(&copying->target, trouble)) {
         return false;
     }
-    if (!S_ISDIR(stick.st_mode)) {
-        trouble_of_words(trouble, "it is not a folder", "give the folder of the stick");
+    if (long_stat(copying->to.bytes, 1, &there) != 0) {
+        bool good = copy_file(copying, trouble);
+        copying->report->copied += good;
+        return good;
+    }
+    if (are_one(copying, file, &there)) {
+        trouble_of_words(trouble, "its name and another are one on this stick",
+                         "rename one of them in the edition");
         return false;
     }
-    return are_apart(copying, trouble);
-}
-
-static bool copy_all(struct copying *copying, const struct manifest *manifest,
-                     struct trouble *trouble) {
-    if (!fit_to_copy_to(copying, trouble)) {
-        text_add(&copying->to, copying->stick);
-        return false;
-    }
-    for (size_t i = 0; i < manifest->count; i++) {
-        struct row row = {copying->stick, COPYING, i + 1, 0};
-        set_paths(copying, manifest->entries[i].name);
-        screen_row(copying->report->screen, copying->report->job, &row);
-        if (!stands(copying->to.bytes) && !copy_file(copying, trouble)) {
-            return false;
-        }
-    }
+    copying->report->there++;
     return true;
+}
+
+/* The slip of the edition, or the number of its files where it has none. */
+static size_t slip_of(const struct manifest *manifest) {
+    size_t slip = 0;
+    while (slip < manifest->count && !is_slip(manifest->entries[slip].name)) {
+        slip++;
+    }
+    return slip;
+}
+
+static bool copy_all(struct copying *copying, struct trouble *trouble) {
+    const struct manifest *manifest = copying->edition->manifest;
+    size_t slip = slip_of(manifest);
+    bool good = slip == manifest->count || copy_or_leave(copying, slip, trouble);
+    for (size_t i = 0; good && i < manifest->count; i++) {
+        good = i == slip || copy_or_leave(copying, i, trouble);
+    }
+    return good;
 }
 
 /* Says what failed: a file of the edition, or one on the stick, if that is still there. */
@@ -172,13 +185,17 @@ static void say_not_copied(const struct copying *copying, struct trouble *troubl
                    "not copied", trouble);
 }
 
-bool copy_edition(const char *edition, const struct manifest *manifest, const char *stick,
-                  struct report *report) {
+bool copy_edition(const struct edition *edition, const char *stick, struct report *report) {
     struct copying copying = {.edition = edition, .stick = stick, .report = report};
     struct trouble trouble;
     bool good;
-    copying.block = need_memory(NULL, MOST_READ);
-    good = copy_all(&copying, manifest, &trouble);
+    text_add(&copying.to, stick);
+    good = target_open(&copying.target, stick, edition->folder, edition->any_folder, &trouble);
+    if (good) {
+        copying.block = need_memory(NULL, MOST_READ);
+        good = copy_all(&copying, &trouble);
+        target_close(&copying.target);
+    }
     if (!good) {
         say_not_copied(&copying, &trouble);
     }

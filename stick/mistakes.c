@@ -34,8 +34,8 @@ static bool has_style(const struct style *style) {
 /* A rescue is of one figure, and nothing else is done with it. */
 static void judge_rescue(struct options *options) {
     if (options->against != NULL || options->edition != NULL || options->write_slip ||
-        options->structure || options->batch > 0 || options->log != NULL ||
-        has_style(&options->style)) {
+        options->structure || options->no_slip || options->any_folder || options->batch > 0 ||
+        options->log != NULL || has_style(&options->style)) {
         mistake(options, "one figure is mended, and nothing else done: leave all but ", "--rescue",
                 " away");
     } else if (options->count > 1) {
@@ -122,6 +122,20 @@ static void judge_batch(struct options *options) {
     }
 }
 
+/* An option that would do nothing was meant for something else. Answers whether there is none. */
+static bool judge_idle(struct options *options) {
+    if (options->no_slip && options->edition == NULL) {
+        mistake(options, "only a copy can go without a slip: give --copy too, or leave ",
+                "--no-slip", " away");
+    } else if (options->any_folder && options->edition == NULL && !options->write_slip &&
+               options->batch == 0) {
+        mistake(options, "any folder can be checked: leave ", "--any-folder", " away");
+    } else if (options->batch == 0 && options->log != NULL) {
+        mistake(options, "only a batch is logged: give --batch N too, or leave ", "--log", " away");
+    }
+    return options->task == TASK_WORK;
+}
+
 static void judge_work(struct options *options) {
     if (options->count == 0) {
         fprintf(stderr, "stick: which folder is to be checked? For example: stick /media/stick\n"
@@ -136,8 +150,8 @@ static void judge_work(struct options *options) {
         mistake(options, "there is a master to compare with: leave ", "--structure", " away");
     } else if (options->batch > 0 && options->count > 1) {
         mistake(options, "a batch has one folder: leave ", options->arguments[1], " away");
-    } else if (options->batch == 0 && options->log != NULL) {
-        mistake(options, "only a batch is logged: give --batch N too, or leave ", "--log", " away");
+    } else if (!judge_idle(options)) {
+        return;
     } else if (options->batch > 0) {
         judge_batch(options);
     } else if (options->edition != NULL || options->write_slip) {

@@ -21,6 +21,8 @@ enum {
     OPTION_LOG,
     OPTION_WRITE_SLIP,
     OPTION_STRUCTURE,
+    OPTION_NO_SLIP,
+    OPTION_ANY_FOLDER,
     OPTION_RESCUE
 };
 
@@ -38,6 +40,8 @@ static const struct option names[] = {
     {"log", required_argument, NULL, OPTION_LOG},
     {"write-slip", no_argument, NULL, OPTION_WRITE_SLIP},
     {"structure", no_argument, NULL, OPTION_STRUCTURE},
+    {"no-slip", no_argument, NULL, OPTION_NO_SLIP},
+    {"any-folder", no_argument, NULL, OPTION_ANY_FOLDER},
     {"rescue", required_argument, NULL, OPTION_RESCUE},
     {NULL, 0, NULL, 0},
 };
@@ -54,6 +58,8 @@ void print_help(void) {
            "      --against MASTER  compare every file with the one in the folder MASTER too\n"
            "      --copy EDITION    first copy what is in EDITION and not in a FOLDER yet,\n"
            "                        then check and compare; nothing there is changed\n"
+           "      --no-slip         copy an EDITION that has no slip, too\n"
+           "      --any-folder      copy to a FOLDER that is on no stick, too\n"
            "      --write-slip      where all is well, write a slip that says what is there\n"
            "      --structure       no slip is needed: STRUCTURE ONLY is good too\n"
            "      --rescue DAMAGED  write what is left of a damaged figure (.3ds) to the new\n"
@@ -150,6 +156,12 @@ static void take(struct options *options, int option) {
         break;
     case OPTION_STRUCTURE:
         options->structure = true;
+        break;
+    case OPTION_NO_SLIP:
+        options->no_slip = true;
+        break;
+    case OPTION_ANY_FOLDER:
+        options->any_folder = true;
         break;
     case 'h':
         options->task = TASK_HELP;

@@ -18,6 +18,8 @@ struct options {
     const char *edition;           /* what is to be copied first, or NULL */
     bool write_slip;               /* for each folder in which all is well */
     bool structure;                /* that there is nothing to compare with is as it was meant */
+    bool no_slip;                  /* an edition without a slip is copied too */
+    bool any_folder;               /* what is written to need not be a stick, or may be one */
     unsigned long batch;           /* how many sticks one after another; 0 without --batch */
     const char *rescue;            /* a damaged figure that is to be mended, or NULL */
     const char *log;               /* of the batch, or NULL for the usual name */

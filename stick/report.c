@@ -189,6 +189,8 @@ void report_join(struct report *sum, const struct report *report) {
     sum->uncompared += report->uncompared;
     sum->slips += report->slips;
     sum->slip_files += report->slip_files;
+    sum->copied += report->copied;
+    sum->there += report->there;
     sum->unfinished = sum->unfinished || report->unfinished;
     names_join(&sum->near, &report->near);
     names_join(&sum->unknown, &report->unknown);

@@ -59,6 +59,8 @@ struct report {
     unsigned long uncompared; /* folders not compared with the master, which could not be read */
     unsigned long slips;      /* that were written */
     unsigned long slip_files; /* on them */
+    unsigned long copied;     /* files that were copied, */
+    unsigned long there;      /* and those that were there already */
     bool unfinished;
 };
 

@@ -12,6 +12,7 @@
 #include "slip.h"
 #include "stop.h"
 #include "verdict.h"
+#include "volume.h"
 
 enum { MOST_READERS = 40 }; /* a batch */
 
@@ -48,12 +49,20 @@ static int check_edition(const struct options *options) {
     struct against nothing = {0};
     struct report report;
     struct screen screen;
+    enum verdict verdict;
     int status = 0;
     single_start(&screen, &report, options);
     check_stick(options->edition, &nothing, NULL, &report);
-    if (decide(&report.grounds).verdict == DO_NOT_SEAL) {
+    verdict = decide(&report.grounds).verdict;
+    if (verdict == DO_NOT_SEAL) {
         say_not_done(&report, options->edition, "not copied", "the edition itself is not well",
                      "see the other lines; nothing was copied");
+    } else if (verdict != PASS && !options->no_slip) {
+        say_not_done(&report, options->edition, "not copied",
+                     "the edition has no slip, by which a copy that breaks off is told",
+                     "write it with --write-slip, or copy with --no-slip");
+    }
+    if (verdict != PASS && !(verdict == STRUCTURE_ONLY && options->no_slip)) {
         report_end(&report);
         status = verdict_of_all(&report, 0).status;
     }
@@ -85,7 +94,7 @@ int session_start(struct session *session, const struct options *options) {
         read_master(session, folder);
     }
     if (options->edition != NULL) {
-        session->against.again = "it was there before and is left alone: delete it, copy again";
+        session->against.again = "delete it there, then copy again";
     }
     return status;
 }
@@ -99,11 +108,19 @@ static bool is_file(const char *path) {
     return long_stat(path, 0, &status) == 0 && S_ISREG(status.st_mode);
 }
 
-/* A slip is written only for a folder in which all is well, and that has none yet. */
+/*
+ * A slip is written only for a folder in which all is well, and that has none yet. On a stick a
+ * copy may have broken off, and its slip would say that nothing is missing.
+ */
 static void check_and_write_slip(const struct session *session, const char *folder,
                                  struct report *report) {
     const char *label = "no slip was written";
     struct manifest files = {0};
+    if (!session->options->any_folder && volume_of(folder, NULL) == VOLUME_STICK) {
+        say_not_done(report, folder, label, "it is on a stick, and a slip is for the edition",
+                     "write it there, then copy (--any-folder writes it anywhere)");
+        return;
+    }
     check_stick(folder, &session->against, &files, report);
     manifest_sort(&files);
     if (decide(&report->grounds).verdict == DO_NOT_SEAL) {
@@ -172,7 +189,9 @@ static void work_on(struct round *round, size_t job) {
         report_trouble(report, folder, NULL, &trouble);
     }
     if (good && session->options->edition != NULL) {
-        good = copy_edition(session->options->edition, &session->manifest, folder, report);
+        const struct edition edition = {session->options->edition, &session->manifest,
+                                        session->options->any_folder};
+        good = copy_edition(&edition, folder, report);
     }
     if (good && session->options->write_slip) {
         check_and_write_slip(session, folder, report);

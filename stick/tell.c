@@ -5,10 +5,13 @@
 #include "tds.h"
 
 /* Where the file is just what it should be, copying it again is no remedy. */
-static const char *remedy_of(const struct subject *subject) {
+static const char *remedy_of(const struct subject *subject, const char *again) {
     const struct refusal *refusal = refusal_of(TDS_REFUSAL(subject->answer));
     if (subject->comparison.wanted && !subject->comparison.different) {
         return "the master is damaged in the same way: tell whoever made the figure";
+    }
+    if (subject->comparison.wanted) {
+        return again;
     }
     if (subject->entry != NULL && subject->as_entry == 0) {
         return "the slip has it so too: tell whoever made the figure";
@@ -16,11 +19,11 @@ static const char *remedy_of(const struct subject *subject) {
     return refusal == NULL ? NULL : refusal->remedy;
 }
 
-static void tell_refused(struct report *report, const struct subject *subject) {
+static void tell_refused(struct report *report, const struct subject *subject, const char *again) {
     struct finding finding = {.outcome = FOUND_REFUSED,
                               .path = subject->path,
                               .answer = subject->answer,
-                              .remedy = remedy_of(subject)};
+                              .remedy = remedy_of(subject, again)};
     report_add(report, &finding);
 }
 
@@ -51,7 +54,7 @@ void tell_of(struct report *report, const struct subject *subject, const char *a
     report->figures += subject->kind == KIND_FIGURE;
     report->grounds.accepted += subject->kind == KIND_FIGURE && !TDS_REFUSED(subject->answer);
     if (TDS_REFUSED(subject->answer)) {
-        tell_refused(report, subject);
+        tell_refused(report, subject, again);
     } else if (subject->comparison.different) {
         tell_different(report, subject, again);
     } else if (subject->as_entry != 0) {

@@ -30,6 +30,8 @@ static const struct row {
     {EPERM, false, "this is not permitted", "ask whoever looks after this computer"},
     {ENAMETOOLONG, false, "its name is too long", "give it a shorter name"},
     {EINVAL, false, "the stick cannot do this, or have this name", "give it a plainer name"},
+    {EILSEQ, false, "its name has characters that the stick cannot have",
+     "give it a plainer name in the edition"},
     {ENOSPC, false, "the stick is full", "take a larger stick, or make room on it"},
     {EDQUOT, false, "the stick is full", "take a larger stick, or make room on it"},
     {EFBIG, false, "the file is too big for the stick", "take another stick"},

@@ -74,7 +74,7 @@ rm -r "$P"
 try 'copied and checked, one after another'
 mkdir "$T/empty"
 echo 'No. 1' >"$T/empty/label.txt"
-start --batch 1 --log "$T/log" --copy samples/edition "$P"
+start --batch 1 --log "$T/log" --any-folder --no-slip --copy samples/edition "$P"
 mv "$T/empty" "$P"
 ended
 status_is 1

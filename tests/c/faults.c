@@ -3,10 +3,10 @@
  *
  *     FAULT=CALL:ERROR:PATH[:COUNT]
  *
- * CALL (read, write, readdir, fdatasync, fsync, fadvise) fails with the error of this number on
- * every file whose path holds PATH, after COUNT calls that go well; where COUNT is below 0, so many
- * calls fail, and the others go well. So a stick can be drawn out, or be full, at a moment that no
- * luck is needed for. For the CALL "come", and any number but 0, a file comes to
+ * CALL (create, read, write, readdir, fdatasync, fsync, fadvise) fails with the error of this
+ * number on every file whose path holds PATH, after COUNT calls that go well; where COUNT is below
+ * 0, so many calls fail, and the others go well. So a stick can be drawn out, or be full, at a
+ * moment that no luck is needed for. For the CALL "come", and any number but 0, a file comes to
  * stand there just before another is given its name. For the CALL "stop" the program gets the
  * signal of this number just before it writes.
  */
@@ -16,6 +16,7 @@
 #include <fcntl.h>
 #include <limits.h>
 #include <signal.h>
+#include <stdarg.h>
 #include <stdatomic.h>
 #include <stdio.h>
 #include <stdlib.h>
@@ -63,6 +64,25 @@ static int fault(const char *call, int file) {
         void *found = dlsym(RTLD_NEXT, name);                                                      \
         memcpy(&real, &found, sizeof real);                                                        \
     }
+
+/* Only the making of a new file can fail. */
+int openat(int folder, const char *path, int flags, ...) {
+    typedef int (*function)(int, const char *, int, ...);
+    int error = (flags & O_CREAT) == 0 ? 0 : fault_at("create", path);
+    mode_t mode = 0;
+    REAL("openat64", function)
+    if (error != 0) {
+        errno = error;
+        return -1;
+    }
+    if ((flags & O_CREAT) != 0) {
+        va_list more;
+        va_start(more, flags);
+        mode = va_arg(more, mode_t);
+        va_end(more);
+    }
+    return real(folder, path, flags, mode);
+}
 
 ssize_t read(int file, void *bytes, size_t size) {
     typedef ssize_t (*function)(int, void *, size_t);

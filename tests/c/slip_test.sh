@@ -226,7 +226,7 @@ matches out "$T/wrong/t.3ds: refused: .*: the slip has it so too: tell whoever m
 
 try 'an edition with a slip is copied with it'
 mkdir "$T/copied"
-stick --copy "$E" "$T/copied"
+stick --any-folder --copy "$E" "$T/copied"
 status_is 0
 last "PASS: 7 figures checked, 0 refused, $seconds"
 same 'the slip' "$E/stick.slip" "$T/copied/stick.slip"
@@ -254,9 +254,10 @@ cp "$T/slip" "$F/stick.slip"
 cp "$F/stick.slip" "$T/master/stick.slip"
 rm "$F/extra.3ds"
 words="$F/extra.3ds: missing here and in the master, though it is on the slip: see that it is the right master, and the slip no old one"
-for option in --against --copy; do
-    [ "$option" = --copy ] && rm "$T/master/stick.slip" # an edition that is not as its own slip says is not copied
-    stick "$option" "$T/master" "$F"
+for option in '--against' '--any-folder --no-slip --copy'; do
+    [ "$option" = --against ] || rm "$T/master/stick.slip" # an edition that is not as its own slip says is not copied
+    # shellcheck disable=SC2086
+    stick $option "$T/master" "$F"
     status_is 1
     matches out "$words"
     has out ', 1 missing, '
@@ -274,8 +275,9 @@ lines out 3
 try 'a slip that the master has not'
 full_edition bare
 fresh unexpected
-for option in --against --copy; do
-    stick "$option" "$T/bare" "$F"
+for option in '--against' '--any-folder --no-slip --copy'; do
+    # shellcheck disable=SC2086
+    stick $option "$T/bare" "$F"
     status_is 1
     matches out "$F/stick.slip: not in the master: delete it, or see that it is the right master"
     last "DO NOT SEAL: 7 figures checked, 0 refused, 1 not expected here, $seconds: see above"

@@ -36,7 +36,7 @@ faulty() {
     status=$?
 }
 # shellcheck disable=SC2034
-EIO=5 ENODEV=19 EINVAL=22 ENOSPC=28 # Linux's numbers
+EIO=5 ENODEV=19 EINVAL=22 ENOSPC=28 EILSEQ=84 # Linux's numbers
 
 # passes FIGURES, structure FIGURES and unsealed FIGURES REFUSED UNCHECKED: the last line.
 passes() {

@@ -573,7 +573,7 @@ little='ulimit -s 256 && exec "$0" "$@"'
 run sh -c "$little" "$S" --structure "$T/square" "$T/square" samples/edition
 status_is 0
 has out 'STRUCTURE ONLY: 3 folders, 8 figures checked'
-run sh -c "$little" "$S" --copy "$T/square" "$T/square-too"
+run sh -c "$little" "$S" --any-folder --no-slip --copy "$T/square" "$T/square-too"
 status_is 0
 has out 'PASS: 1 figure checked'
 try '--list'
@@ -672,7 +672,7 @@ try '--help'
 stick --help
 status_is 0
 lines err 0
-for option in --help --version --quiet --list --explain --verbose --json --against --copy --write-slip --structure --batch --log FOLDER; do has out "$option"; done
+for option in --help --version --quiet --list --explain --verbose --json --against --copy --no-slip --any-folder --write-slip --structure --batch --log FOLDER; do has out "$option"; done
 widest=$(awk '{ if (length($0) > most) most = length($0) } END { print most }' "$T/out")
 if [ "$widest" -le 80 ]; then pass; else fail "a line of $widest characters"; fi
 try '--version'
