@@ -12,9 +12,14 @@ ln -s "$PWD/Makefile" "$PWD/stick" "$PWD/include" "$PWD/samples" "$tree"
 cat >"$T/kit/rt" <<END
 #!/bin/sh
 echo "\$*" >>'$T/asked'
-mkdir -p target/staticlib
-cp '$lib' target/staticlib/libtds.a
-echo 'rt: tds proved'
+case \$1 in
+check) echo 'rt: c_version proved (unchanged since it was last proved)'; echo 'rt: tds proved' ;;
+staticlib)
+    echo 'rt: tds proved (unchanged since it was last proved)'
+    mkdir -p target/staticlib
+    cp '$lib' target/staticlib/libtds.a
+    ;;
+esac
 END
 chmod +x "$T/kit/rt"
 touch -d '2001-01-01' "$T/kit/rt" "$tree/crates/tds/src" "$tree/crates/tds" "$tree/crates"
@@ -41,13 +46,20 @@ lines out 0
 lines err 1
 has err 'The library must be built, and the Rattle kit is not here: install it so that "rt version" answers, then make again'
 
-try 'the first time the kit is asked'
+try 'the first time the kit is asked: to prove side by side, then to compile; a short line for each command'
 make_run "$T/kit"
 status_is 0
-has out 'rt: tds proved'
+matches out 'rt: tds proved'
+lacks out unchanged
+has out 'some seven minutes on two cores the first time'
 has out 'PASS: 6 figures checked'
+printf 'check tds\nstaticlib tds\n' >"$T/order"
+same 'what the kit was asked' "$T/order" "$T/asked"
+matches out 'compile stick/main\.c'
+matches out 'link build/stick'
+if [ "$(awk 'length > 120' "$T/out" | wc -l)" -eq 0 ]; then pass; else fail 'a long line'; fi
 asked() {
-    seen=$(wc -l <"$T/asked")
+    seen=$(grep -c '^staticlib' "$T/asked")
     if [ "$seen" -eq "$1" ]; then pass; else fail "the kit was asked $seen times instead of $1"; fi
 }
 asked 1
@@ -59,6 +71,13 @@ lines out 1
 lines err 0
 has out 'PASS: 6 figures checked'
 asked 1
+
+try 'V=1 shows the whole commands'
+rm "$tree/build/stick"
+make_run "$T/kit" V=1
+status_is 0
+has out ' -o build/stick'
+lacks out 'link build/stick'
 
 try 'the folder is one word'
 make_run "$T/kit" "STICK=$T/my stick"
