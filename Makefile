@@ -49,9 +49,10 @@ rust-test: differ
 fuzz: differ
 	second/target/release/differ --count $(COUNT) --seed $(SEED) $(if $(KIND),--only $(KIND))
 
+real: export FOLDER_TO_READ = $(value FOLDER)
 real: differ
-	@test -n '$(FOLDER)' || { echo 'make real FOLDER=folder-of-3ds-files (docs/REAL_FILES.md says where some are)'; exit 2; }
-	second/target/release/differ --real $(FOLDER)
+	@test -n "$$FOLDER_TO_READ" || { echo 'make real FOLDER=folder-of-3ds-files (docs/REAL_FILES.md says where some are)'; exit 2; }
+	second/target/release/differ --real "$$FOLDER_TO_READ"
 
 # what structure alone finds of turned bits, and that a slip finds all of them
 turned: differ samples
@@ -66,9 +67,10 @@ bench: target/staticlib/libtds.a
 bench-build: target/staticlib/libtds.a
 	cargo build $(CARGO_FLAGS) bench/Cargo.toml
 
-# ---- the C side: run, c-test, c-memcheck, samples, install
+# ---- the C side: run, c-test, c-memcheck, samples; install, uninstall
 
 include stick/Makefile.inc
+include package/Makefile.inc
 
 # under valgrind too, where it is on the machine
 c-check: c-test

@@ -61,6 +61,8 @@
  *
  * LANGUAGE. C89 and later, and C++. <stdint.h> came only with C99, but is there with every compiler
  * this library is built for, in C89 mode too, and is the one thing beyond C89 that is used here.
+ *
+ * Copyright (c) 2026 the Tlapezume developers. SPDX-License-Identifier: MIT (see LICENSE)
  */
 #ifndef TDS_H
 #define TDS_H

@@ -7,6 +7,8 @@
  *
  *     fprintf(stderr, "not shown: %s, at byte %lu\n", tds_refusal_words(TDS_REFUSAL(answer)),
  *             (unsigned long)TDS_PLACE(answer));
+ *
+ * Copyright (c) 2026 the Tlapezume developers. SPDX-License-Identifier: MIT (see LICENSE)
  */
 #ifndef TDS_WORDS_H
 #define TDS_WORDS_H

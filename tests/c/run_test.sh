@@ -8,7 +8,7 @@ lib=$(cd "$(dirname "$TDS_LIB")" && pwd)/$(basename "$TDS_LIB")
 tree=$T/tree
 mkdir -p "$tree/crates/tds/src" "$T/kit"
 touch -d '2001-01-01' "$tree/crates/tds/src/lib.rt" "$tree/crates.txt"
-ln -s "$PWD/Makefile" "$PWD/stick" "$PWD/include" "$PWD/samples" "$tree"
+ln -s "$PWD/Makefile" "$PWD/stick" "$PWD/package" "$PWD/include" "$PWD/samples" "$tree"
 cat >"$T/kit/rt" <<END
 #!/bin/sh
 echo "\$*" >>'$T/asked'
@@ -97,6 +97,38 @@ if [ -e "$T/ran" ]; then fail 'a name was run'; else pass; fi
 make_run "$T/kit" STICK=--help
 status_is 2
 has err 'stick: --help: not checked'
+
+try 'a library in a folder with a space in its name'
+mkdir "$T/my libraries"
+cp "$lib" "$T/my libraries/libtds.a"
+make_run /nowhere TDS_LIB="$T/my libraries/libtds.a"
+status_is 0
+has out 'link build/stick'
+has out 'PASS: 6 figures checked'
+touch -d '2001-01-01' "$T/my libraries/libtds.a"
+make_run /nowhere TDS_LIB="$T/my libraries/libtds.a"
+lines out 1
+
+try 'a warning of the compiler ends the gate, and nothing else'
+rm "$tree/build/c/stick/text.o"
+make_run "$T/kit" CFLAGS='-O0 -Wtraditional'
+status_is 0
+has err 'warning: '
+rm "$tree/build/c/stick/text.o"
+make_run "$T/kit" CFLAGS='-O0 -Wtraditional' C_WERROR=-Werror
+status_is 2
+has err 'error: '
+make_run "$T/kit"
+if grep -q 'C_WERROR=-Werror' tests/gate; then pass; else fail 'the gate lets warnings pass'; fi
+
+try 'real figures: the folder is one word'
+mkdir -p "$tree/second/target/release"
+# shellcheck disable=SC2016
+printf '#!/bin/sh\necho "$#: $2"\n' >"$tree/second/target/release/differ"
+chmod +x "$tree/second/target/release/differ"
+(cd "$tree" && unset MAKEFLAGS MFLAGS MAKEOVERRIDES && PATH=$T/kit:$without && make --no-print-directory -o differ real FOLDER="$T/my stick") \
+    >"$T/out" 2>"$T/err"
+has out "2: $T/my stick"
 
 try 'a source has changed'
 touch "$tree/crates/tds/src/lib.rt"
