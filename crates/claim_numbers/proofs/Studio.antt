@@ -1,6 +1,7 @@
 -- What C is told of 3D Studio figures: the bounds on what is accepted make an answer proper, and those on places let a refusal be
 -- read off.
 use mathlib.Core.Path.{_≡_, refl, sym, subst}
+use mathlib.Core.Bool.{Bool, true, false, cond}
 use mathlib.Core.Logic.{inl, inr}
 use mathlib.Core.List.{List, [], _∷_, _++_, map}
 use mathlib.Core.Option.{Option, none, some}
@@ -9,13 +10,13 @@ use native.Mathlib.Omega.{arith}
 use lib.Dec.{eqb, leb}
 use lib.Ieee.{Float, binary32, toBits}
 use lib.ListN.{length, getElem?}
-use borrow.Author.Tests.{leb-true}
+use borrow.Author.Tests.{leb-true, leb-false}
 use Rattle.shared_words.specs.declared.Refusal.{Refusal}
 use Rattle.shared_words.specs.declared.Refusal.the-variants.{NoRoom, NoSuchMesh, Empty}
 use Rattle.shared_words.specs.Refusals.{limit, placeOf}
-use Rattle.shared_words.specs.Bytes.{Bytes}
+use Rattle.shared_words.specs.Bytes.{Bytes, packed}
 use Rattle.shared_words.specs.Conditions.{Answer, refused, accepted, broken}
-use Rattle.shared_words.specs.Effects.{Effect, leaving}
+use Rattle.shared_words.specs.Effects.{Effect, leaving, filled}
 use Rattle.shared_words.specs.Encodings.{Encoding}
 use Rattle.shared_words.specs.Picked.{pickMesh}
 use Rattle.shared_words.proofs.Conditions.{met}
@@ -41,14 +42,14 @@ use Rattle.studio_figure_rules.specs.Described.{Flat, fitConditions, described,
 use Rattle.studio_figure_rules.proofs.Ready.{met-append, each}
 use Rattle.studio_write.specs.Write.{writing, writeCall}
 use Rattle.c_codes.specs.Codes.{refusalCode, recordsOr, sizesOr, numbersOr, sizeOr}
-use Rattle.c_answers.specs.Given.{given, nine, countsGiven, nameGiven, boxGiven}
+use Rattle.c_answers.specs.Given.{untouched, given, nine, countsGiven, nameGiven, boxGiven}
 use Rattle.c_counted.specs.Codes.{countedOr}
 use Rattle.studio_rescue_rules.specs.declared.Mended.{Mended}
 use Rattle.studio_rescue_rules.specs.Rescue.{Cut, Rescued, beyond, saved, rescue}
 use Rattle.studio_rescue_rules.specs.Call.{Lent, callOf, rescueCall}
 use Rattle.c_rescue.specs.Codes.{cutsOr}
 use Rattle.claim_numbers.specs.Tells.{Proper}
-use Rattle.claim_numbers.specs.Studio.{CheckTold, TablesTold, CountedTold, RescueTold, WriteTold, Gives, CountsTold, NameTold, BoxTold, StudioTold}
+use Rattle.claim_numbers.specs.Studio.{CheckTold, TablesTold, CountedTold, RescueTold, WriteTold, GivenOn, CountsTold, NameTold, BoxTold, StudioTold}
 use Rattle.claim_numbers.proofs.Tells.{capped, tells}
 use Rattle.claim_numbers.proofs.Picked.{picked}
 use Rattle.claim_numbers.proofs.StudioPlaces.{Within, verdict-within}
@@ -124,19 +125,22 @@ tables-told {A} {B} {C} t rows code same m h proper =
 
 -- ---- a few numbers given out
 
-few-told : (out ns : List ℕ) → length ns ≤ 9 → Gives (length ns) (given out ns .answer)
-few-told out ns h =
-    by-test (λ (x : Effect ℕ (List ℕ)). Gives (length ns) (x .answer)) (leb (length ns) (length out / 4)) (inl refl) (inr (tells (NoRoom (length ns)) (omega arith)))
+few-told : (out ns : List ℕ) → length ns ≤ 9 → GivenOn out ns (given out ns)
+few-told out ns h = go (leb (length ns) (length out / 4)) refl
+  where
+    go : (x : Bool) → leb (length ns) (length out / 4) ≡ x → GivenOn out ns (cond x (leaving (length ns) (filled (packed 4 ns) out)) (untouched out (NoRoom (length ns))))
+    go true e = inl (leb-true _ _ e, refl)
+    go false e = inr (leb-false _ _ e, (tells (NoRoom (length ns)) (omega arith), refl))
 
-counts-told : (out : List ℕ) (a : Answer Run) → Within a → CountsTold (checkOf a) (countsGiven out (checkOf a) .answer)
-counts-told out (refused r) h = tells r h
+counts-told : (out : List ℕ) (a : Answer Run) → Within a → CountsTold out (checkOf a) (countsGiven out (checkOf a))
+counts-told out (refused r) h = (tells r h, refl)
 counts-told out (accepted kids) h =
     few-told out (headers (figure kids) ∷ owned (figure kids) ∷ skipped (figure kids) ∷ []) (omega arith)
 
-box-told : (out : List ℕ) (m : Mesh) → BoxTold (aroundOf m) (boxGiven out (aroundOf m) .answer)
+box-told : (out : List ℕ) (m : Mesh) → BoxTold out (aroundOf m) (boxGiven out (aroundOf m))
 box-told out m =
     let b = boxOf (m .vertexCount) (m .vertices) in
-    by-test (λ (x : Boxed). BoxTold x (boxGiven out x .answer)) (eqb (m .vertexCount) 0) (tells Empty (omega arith))
+    by-test (λ (x : Boxed). BoxTold out x (boxGiven out x)) (eqb (m .vertexCount) 0) (tells Empty (omega arith), refl)
     (few-told out (map (toBits binary32) (nine (b .low) (b .high) (centreOf b))) (omega arith))
 
 -- ---- the writer
@@ -180,10 +184,10 @@ studio-told = record {
       (λ kids v m g. let h = small-mesh s b mesh kids v m g in tables-told t rows numbersOr (λ r. refl) m h (omega (arith, h .pairs)));
   counts = λ s out. counts-told out (verdict s) (verdict-within s);
   name = λ s mesh out.
-      mesh-told (λ (x : Named). NameTold x (nameGiven out x .answer)) Named.Refused nameOf tells mesh (verdict s) (verdict-within s)
+      mesh-told (λ (x : Named). NameTold out x (nameGiven out x)) Named.Refused nameOf (λ r h. (tells r h, refl)) mesh (verdict s) (verdict-within s)
       (λ kids v m g. few-told out (m .nameAt ∷ m .nameLength ∷ []) (omega arith));
   box = λ s mesh out.
-      mesh-told (λ (x : Boxed). BoxTold x (boxGiven out x .answer)) Boxed.Refused aroundOf tells mesh (verdict s) (verdict-within s)
+      mesh-told (λ (x : Boxed). BoxTold out x (boxGiven out x)) Boxed.Refused aroundOf (λ r h. (tells r h, refl)) mesh (verdict s) (verdict-within s)
       (λ kids v m g. box-told out m);
   parts = λ {A} e s row.
       subst (λ (x : Effect Counted (List A)). CountedTold (x .answer) (countedOr (x .answer))) (sym (all-parts e s row)) (all-told parts e row (λ kids. omega (arith, parts-few kids, count-small (figure kids))) (verdict s) (verdict-within s));

@@ -1,12 +1,15 @@
--- What C is told of 3D Studio figures. Nothing is asked of the file, but for the tables and the rescue that it is bytes. Only the
+-- What C is told of 3D Studio figures, and what stands in the slices of those calls that give out a few numbers. Nothing is asked of the file, but for the tables and the rescue that it is bytes. Only the
 -- writers can have a place of more than 32 bits, which is told as the largest.
 use mathlib.Core.Path.{_≡_}
 use mathlib.Core.Logic.{_⊎_}
-use mathlib.Core.List.{List}
-use Prim.Native.Nat.{ℕ}
-use lib.Ieee.{Float}
+use mathlib.Core.List.{List, [], _∷_, map}
+use Prim.Native.Nat.{ℕ, _/_, _≤_, _<_}
+use lib.Ieee.{Float, binary32, toBits}
+use lib.ListN.{length}
+use Rattle.shared_words.specs.declared.Refusal.{Refusal}
 use Rattle.shared_words.specs.declared.Refusal.the-variants.{NoRoom}
-use Rattle.shared_words.specs.Bytes.{Bytes}
+use Rattle.shared_words.specs.Bytes.{Bytes, packed}
+use Rattle.shared_words.specs.Effects.{Effect, leaving, filled}
 use Rattle.shared_words.specs.Encodings.{Encoding}
 use Rattle.studio_rules.specs.declared.Record.{Record}
 use Rattle.studio_rules.specs.declared.Checked.{Checked}
@@ -22,7 +25,7 @@ use Rattle.shared_words.specs.declared.Written.{Written}
 use Rattle.studio_figure_rules.specs.Described.{Flat, writeFlat}
 use Rattle.studio_write.specs.Write.{writeCall}
 use Rattle.c_codes.specs.Codes.{recordsOr, sizesOr, numbersOr, sizeOr}
-use Rattle.c_answers.specs.Given.{countsGiven, nameGiven, boxGiven}
+use Rattle.c_answers.specs.Given.{nine, countsGiven, nameGiven, boxGiven}
 use Rattle.c_counted.specs.Codes.{countedOr}
 use Rattle.studio_rescue_rules.specs.declared.Mended.{Mended}
 use Rattle.studio_rescue_rules.specs.Rescue.{Cut}
@@ -52,21 +55,29 @@ abbrev pub RescueTold : Mended → ℕ → Type 0
 RescueTold (Mended.Written cuts size) n = Proper n
 RescueTold (Mended.Refused r) n = Tells r n
 
--- k numbers are given out, which is the answer, or there is no room for k
-abbrev pub Gives : ℕ → ℕ → Type 0
-Gives k n = (n ≡ k) ⊎ Tells (NoRoom k) n
+-- ---- by the answer of the call, where numbers go into a slice `out` of its own; e is what C gets, and what then stands in the slice
 
-abbrev pub CountsTold : Checked → ℕ → Type 0
-CountsTold (Checked.Accepted c) n = Gives 3 n
-CountsTold (Checked.Refused r) n = Tells r n
+-- the refusal is told, and the slice is as it was
+abbrev pub ToldOn : List ℕ → Refusal → Effect ℕ (List ℕ) → Type 0
+ToldOn out r e = Tells r (e .answer) × (e .rows ≡ out)
 
-abbrev pub NameTold : Named → ℕ → Type 0
-NameTold (Named.At span) n = Gives 2 n
-NameTold (Named.Refused r) n = Tells r n
+-- where there is room, all of the numbers stand in the slice's front and their count is the answer; else 15 is told
+abbrev pub GivenOn : List ℕ → List ℕ → Effect ℕ (List ℕ) → Type 0
+GivenOn out ns e =
+    ((length ns ≤ length out / 4) × (e ≡ leaving (length ns) (filled (packed 4 ns) out))) ⊎
+    ((length out / 4 < length ns) × ToldOn out (NoRoom (length ns)) e)
 
-abbrev pub BoxTold : Boxed → ℕ → Type 0
-BoxTold (Boxed.Around box centre) n = Gives 9 n
-BoxTold (Boxed.Refused r) n = Tells r n
+abbrev pub CountsTold : List ℕ → Checked → Effect ℕ (List ℕ) → Type 0
+CountsTold out (Checked.Accepted c) e = GivenOn out (c .headers ∷ c .own ∷ c .skipped ∷ []) e
+CountsTold out (Checked.Refused r) e = ToldOn out r e
+
+abbrev pub NameTold : List ℕ → Named → Effect ℕ (List ℕ) → Type 0
+NameTold out (Named.At span) e = GivenOn out (span .offset ∷ span .size ∷ []) e
+NameTold out (Named.Refused r) e = ToldOn out r e
+
+abbrev pub BoxTold : List ℕ → Boxed → Effect ℕ (List ℕ) → Type 0
+BoxTold out (Boxed.Around box centre) e = GivenOn out (map (toBits binary32) (nine (box .low) (box .high) centre)) e
+BoxTold out (Boxed.Refused r) e = ToldOn out r e
 
 -- ---- every call
 
@@ -78,9 +89,10 @@ pub record StudioTold : Type 1 where
       TablesTold (tablesCall t s mesh rows .answer) (sizesOr (tablesCall t s mesh rows .answer))
   pub mapping : {A B C : Type 0} (t : Tables A B C) (s : List ℕ) → Bytes s → (mesh : ℕ) (rows : Rows A B C) →
       TablesTold (tablesCall t s mesh rows .answer) (numbersOr (tablesCall t s mesh rows .answer))
-  pub counts : (s out : List ℕ) → CountsTold (checkCall s) (countsGiven out (checkCall s) .answer)
-  pub name : (s : List ℕ) (mesh : ℕ) (out : List ℕ) → NameTold (nameCall s mesh) (nameGiven out (nameCall s mesh) .answer)
-  pub box : (s : List ℕ) (mesh : ℕ) (out : List ℕ) → BoxTold (boxCall s mesh) (boxGiven out (boxCall s mesh) .answer)
+  -- the slices too
+  pub counts : (s out : List ℕ) → CountsTold out (checkCall s) (countsGiven out (checkCall s))
+  pub name : (s : List ℕ) (mesh : ℕ) (out : List ℕ) → NameTold out (nameCall s mesh) (nameGiven out (nameCall s mesh))
+  pub box : (s : List ℕ) (mesh : ℕ) (out : List ℕ) → BoxTold out (boxCall s mesh) (boxGiven out (boxCall s mesh))
   pub parts : {A : Type 0} (e : Encoding Part A) (s : List ℕ) (row : List A) → CountedTold (partsCall e s row .answer) (countedOr (partsCall e s row .answer))
   pub meshes : {A : Type 0} (e : Encoding Standing A) (s : List ℕ) (row : List A) →
       CountedTold (meshesCall e s row .answer) (countedOr (meshesCall e s row .answer))
