@@ -116,12 +116,13 @@ module _ (s : List ℕ) (kids : Run) (f : MendedFile s kids) where
       sift-says v (w .at + 6) (w .body) (w .body-bytes) .back (before len ++ h) after l ∙
       append-assoc (before len) h (w .body ++ after)
 
-  cuts-failed : All (Failed v s) cuts
+  cuts-failed : All (Failed v s (w .at + lengthField (drop (w .at) s))) cuts
   cuts-failed =
       let h : List ℕ = header 0x3D3D (6 + length (w .body)) in
       let l : length (before (length s) ++ h) ≡ w .at + 6 = omega (arith, before-length (length s), length-append (before (length s)) h) in
       let q : s ≡ (before (length s) ++ h) ++ (w .body ++ after) = damaged ∙ sym (append-assoc (before (length s)) h (w .body ++ after)) in
-      subst (λ (z : List ℕ). All (Failed v z) cuts) (sym q) (sift-says v (w .at + 6) (w .body) (w .body-bytes) .fail (before (length s) ++ h) after l)
+      let z : w .at + 6 + length (w .body) ≡ w .at + lengthField (drop (w .at) s) = omega (arith, old-length) in
+      subst (λ (y : List ℕ). All (Failed v y (w .at + lengthField (drop (w .at) s))) cuts) (sym q) (rw z at (sift-says v (w .at + 6) (w .body) (w .body-bytes) .fail (before (length s) ++ h) after l))
 
   put-back : putBack (w .at) (length s) (6 + length (w .body)) cuts (bytes (figure kids)) ≡ s
   put-back =
@@ -137,7 +138,7 @@ module _ (s : List ℕ) (kids : Run) (f : MendedFile s kids) where
     scene-lowered = omega (arith, new-length, old-length, sizes);
   }
 
-  pub all-failed : All (Failed v s) (siftedAt (offsetOf 0x3D3D 6 kids) s .cuts)
+  pub all-failed : All (Failed v s (offsetOf 0x3D3D 6 kids + lengthField (drop (offsetOf 0x3D3D 6 kids) s))) (siftedAt (offsetOf 0x3D3D 6 kids) s .cuts)
   all-failed = rw (w .place, sifted-is) cuts-failed
 
   pub restored : Restored s (bytes (figure kids)) (siftedAt (offsetOf 0x3D3D 6 kids) s .cuts) (offsetOf 0x3D3D 6 kids)

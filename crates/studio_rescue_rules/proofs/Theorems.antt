@@ -4,12 +4,13 @@ use mathlib.Core.Logic.{_⊎_, inl, inr}
 use Prim.Native.Nat.{ℕ, _+_}
 use native.Mathlib.Omega.{arith}
 use mathlib.Core.List.{List, [], _∷_, map, append-nil}
-use lib.ListN.{length}
+use lib.ListN.{length, drop}
 use Rattle.shared_words.specs.Bytes.{Bytes}
+use Rattle.shared_words.specs.Lists.{All}
 use Rattle.studio_rules.specs.Layout.{Run, known, figure, bytes, identifiers, offsetOf}
 use Rattle.studio_rules.specs.Rules.{tally, Obeys, version}
 use Rattle.shared_words.specs.Conditions.{Answer, refused, accepted}
-use Rattle.studio_rules.specs.Walk.{top, verdict}
+use Rattle.studio_rules.specs.Walk.{lengthField, top, verdict}
 use Rattle.studio_rules.specs.Gives.{meshes}
 use Rattle.studio_rules.proofs.Once.{tally-append, at-most-one, one-scene}
 use Rattle.studio_rules.proofs.Verdict.{accepted-exactly, verdict-good, version-agrees}
@@ -19,7 +20,7 @@ use Rattle.studio_scene.specs.Scene.{holding}
 use Rattle.studio_scene.proofs.Then.{identifiers-then, obeys-parts}
 use Rattle.studio_scene.proofs.Contents.{contents-holding}
 use Rattle.studio_rescue_rules.specs.Rescue.{versionOf, Cut, Sifted, sift, mended, siftedAt, saved, rescueOf, rescue, gone}
-use Rattle.studio_rescue_rules.specs.Theorems.{ResultAccepted, AcceptedUnchanged, Restored, CutsRestore, CutsFew, FewCuts, CutsFail, MeshesKept, SameAround, AroundKept, VersionKept, FaultInScene}
+use Rattle.studio_rescue_rules.specs.Theorems.{ResultAccepted, AcceptedUnchanged, Restored, CutsRestore, CutsFew, FewCuts, Failed, CutsFail, MeshesKept, SameAround, AroundKept, VersionKept, FaultInScene}
 use Rattle.studio_rescue_rules.proofs.Sift.{sift-says}
 use Rattle.studio_rescue_rules.proofs.File.{MendedFile, file-mended}
 use Rattle.studio_rescue_rules.proofs.Back.{sifted-is, restored, all-failed}
@@ -70,8 +71,15 @@ pub few-cuts : FewCuts
 few-cuts s b s′ cuts e = let g = saved-is s s′ cuts b e in rw (g .cuts-are) (few-as s (g .kids) (g .file))
 
 -- NOTHING IS CUT THAT DOES NOT FAIL
+failed-as : (s : List ℕ) (cuts : List Cut) (t kids : Run) → MendedFile s t → cuts ≡ siftedAt (offsetOf 0x3D3D 6 t) s .cuts → kids ≡ t →
+    All (Failed (versionOf s) s (offsetOf 0x3D3D 6 kids + lengthField (drop (offsetOf 0x3D3D 6 kids) s))) cuts
+failed-as s cuts t kids f c k = rw (k, c) (all-failed s t f)
+
 pub cuts-fail : CutsFail
-cuts-fail s b s′ cuts e = let g = saved-is s s′ cuts b e in rw (g .cuts-are) (all-failed s (g .kids) (g .file))
+cuts-fail s b s′ cuts e kids v =
+    let g = saved-is s s′ cuts b e in
+    let r = reads s s′ cuts g in
+    failed-as s cuts (g .kids) kids (g .file) (g .cuts-are) (cc)
 
 mended-good : (s : List ℕ) (kids : Run) → verdict s ≡ accepted kids → (mended s ≡ verdict s) ⊎ FaultInScene s → mended s ≡ accepted kids
 mended-good s kids v (inl e) = e ∙ v

@@ -1,8 +1,9 @@
 -- What is proved of the rescue.
 use mathlib.Core.Path.{_≡_}
 use mathlib.Core.Logic.{_⊎_}
-use Prim.Native.Nat.{ℕ, _+_, _≤_}
+use Prim.Native.Nat.{ℕ, _+_, _≤_, _<_}
 use mathlib.Core.List.{List, [], _∷_, _++_, map}
+use mathlib.Core.Option.{some}
 use lib.ListN.{length, take, drop}
 use Rattle.shared_words.specs.declared.Refusal.{Refusal}
 use Rattle.shared_words.specs.Refusals.{limit, numberOf}
@@ -10,8 +11,8 @@ use Rattle.shared_words.specs.Lists.{All}
 use Rattle.shared_words.specs.Bytes.{Bytes}
 use Rattle.studio_rules.specs.Layout.{Run, header, size, bytes, offsetOf}
 use Rattle.studio_rules.specs.Rules.{Obeys}
-use Rattle.studio_rules.specs.Walk.{walk, top, verdict, lengthField}
-use Rattle.shared_words.specs.Conditions.{refused, accepted}
+use Rattle.studio_rules.specs.Walk.{headerConditions, walk, top, verdict, lengthField}
+use Rattle.shared_words.specs.Conditions.{broken, refused, accepted}
 use Rattle.studio_rules.specs.Gives.{meshes}
 use Rattle.studio_scene.specs.Contents.{unplaced, contents}
 use Rattle.studio_scene.specs.Passed.{passed}
@@ -47,17 +48,30 @@ pub record CutsFew (s : List ℕ) (cuts : List Cut) : Type 0 where
 abbrev pub FewCuts : Type 0
 FewCuts = (s : List ℕ) → Bytes s → (s′ : List ℕ) (cuts : List Cut) → rescue s ≡ saved s′ cuts → CutsFew s cuts
 
--- a cut of the damaged file s of version v: its bytes stand there, and walked alone as children of 3D3D they are refused with
--- its number (the rest of 3D3D too, where all of it went)
-pub record Failed (v : ℕ) (s : List ℕ) (c : Cut) : Type 0 where
+-- a cut is one whole child: as long as its own length field says, which is a header at least
+pub record WholeChild (c : Cut) : Type 0 where
+  pub header-long : 6 ≤ length (c .piece)
+  pub field-is : lengthField (c .piece) ≡ length (c .piece)
+
+-- a cut is all that is left of 3D3D, which ends at z: its header is bad, so that nothing tells where a child would end
+pub record RestOfScene (z : ℕ) (fault : Refusal) (c : Cut) : Type 0 where
+  pub not-empty : 0 < length (c .piece)
+  pub reaches-end : c .at + length (c .piece) ≡ z
+  pub header-bad : broken (headerConditions (c .at) (c .piece) (lengthField (c .piece))) ≡ some fault
+
+-- a cut of the damaged file s of version v, whose 3D3D ends at z: its bytes stand there; walked alone as children of 3D3D they are
+-- refused with its number; and no more is cut than must be
+pub record Failed (v : ℕ) (s : List ℕ) (z : ℕ) (c : Cut) : Type 0 where
   pub stands : take (length (c .piece)) (drop (c .at) s) ≡ c .piece
   pub fault : Refusal
   pub fails : walk (scene v) [] (c .at) (c .piece) ≡ refused fault
   pub number-is : c .number ≡ numberOf fault
+  pub extent : WholeChild c ⊎ RestOfScene z fault c
 
--- NOTHING IS CUT THAT DOES NOT FAIL
+-- NOTHING IS CUT THAT DOES NOT FAIL, and no cut is empty
 abbrev pub CutsFail : Type 0
-CutsFail = (s : List ℕ) → Bytes s → (s′ : List ℕ) (cuts : List Cut) → rescue s ≡ saved s′ cuts → All (Failed (versionOf s) s) cuts
+CutsFail = (s : List ℕ) → Bytes s → (s′ : List ℕ) (cuts : List Cut) → rescue s ≡ saved s′ cuts → (kids : Run) → verdict s′ ≡ accepted kids →
+    All (Failed (versionOf s) s (offsetOf 0x3D3D 6 kids + lengthField (drop (offsetOf 0x3D3D 6 kids) s))) cuts
 
 -- THE MESHES KEPT hold what they held: those of the result are those of the children kept, each as its own walk gives it, in
 -- their order. (There are no others: no mesh stands outside 3D3D.)
