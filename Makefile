@@ -70,7 +70,7 @@ bench-build: target/staticlib/libtds.a
 # ---- the C side: run, c-test, c-memcheck, samples; install, uninstall
 
 include stick/Makefile.inc
-include package/Makefile.inc
+include packaging/Makefile.inc
 
 # under valgrind too, where it is on the machine
 c-check: c-test

@@ -8,7 +8,7 @@ lib=$(cd "$(dirname "$TDS_LIB")" && pwd)/$(basename "$TDS_LIB")
 tree=$T/tree
 mkdir -p "$tree/crates/tds/src" "$T/kit"
 touch -d '2001-01-01' "$tree/crates/tds/src/lib.rt" "$tree/crates.txt"
-ln -s "$PWD/Makefile" "$PWD/stick" "$PWD/package" "$PWD/include" "$PWD/samples" "$tree"
+ln -s "$PWD/Makefile" "$PWD/stick" "$PWD/packaging" "$PWD/include" "$PWD/samples" "$tree"
 cat >"$T/kit/rt" <<END
 #!/bin/sh
 echo "\$*" >>'$T/asked'

@@ -83,11 +83,11 @@ as() {
     printf '%s\n' "$1" | sed 's/[\\&|]/\\&/g'
 }
 
-# filled NAME: package/NAME.in with its gaps filled.
+# filled NAME: packaging/NAME.in with its gaps filled.
 filled() {
     sed -e "s|@PREFIX@|$(as "$PC_PREFIX")|" -e "s|@LIBDIR@|$(as "$(below "$LIBDIR")")|" \
         -e "s|@INCLUDEDIR@|$(as "$(below "$INCLUDEDIR")")|" -e "s|@VERSION@|$VERSION|" -e "s|@MAJOR@|${VERSION%%.*}|" \
-        -e "s|@INCLUDE_FROM_LIB@|$(as "$(relative "$INCLUDEDIR" "$LIBDIR")")|" "package/$1.in" >"$made/$1"
+        -e "s|@INCLUDE_FROM_LIB@|$(as "$(relative "$INCLUDEDIR" "$LIBDIR")")|" "packaging/$1.in" >"$made/$1"
 }
 
 # there FILE WORDS...: or these words, and the end.
