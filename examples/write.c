@@ -18,12 +18,13 @@ int main(int count, char **words) {
     static const uint8_t colours[] = {40, 40, 44, 150, 150, 160, 255, 255, 255,
                                       60, 40, 20, 200, 160, 90,  90,  90,  80};
     static uint8_t out[1024];
-    uint64_t size = tds_write_figure(names, sizeof names - 1, objects, 10, vertices, 15, corners, 3,
-                                     smoothing, 1, groups, 2, faces, 1, materials, 2, colours,
-                                     sizeof colours, out, sizeof out);
+    uint64_t size =
+        tds_write_figure(names, sizeof names - 1, TDS_ROW(objects), TDS_ROW(vertices),
+                         TDS_ROW(corners), TDS_ROW(smoothing), TDS_ROW(groups), TDS_ROW(faces),
+                         TDS_ROW(materials), colours, sizeof colours, out, sizeof out);
     FILE *file;
-    if (TDS_REFUSED(size)) {
-        fprintf(stderr, "refused: %s, at %u\n", tds_refusal_words(TDS_REFUSAL(size)),
+    if (TDS_REFUSED(size)) { /* tds_write_row tells which row, if it is 13 */
+        fprintf(stderr, "refused: %s, at %u\n", tds_write_words(TDS_REFUSAL(size)),
                 (unsigned)TDS_PLACE(size));
         return 1;
     }

@@ -17,10 +17,12 @@
  *
  * You need check nothing beforehand: any bytes of any length have an answer.
  *
- * SLICES. Each pointer is followed by the length of what it points to. It may have any alignment
- * where it points to bytes, and (NULL, 0) is an empty slice. NULL with a length above 0 is not: as
- * with any pointer to less memory than its length says, nothing looks for it, and the program will
- * mostly end there. The slices of a call must not overlap:
+ * SLICES. Each pointer is followed by the length of what it points to: `..._len` is in BYTES,
+ * `..._count` is in ELEMENTS, as tds_records, tds_write and tds_write_figure take them. (`sizeof
+ * row` for a count hands over the memory behind the row: TDS_ROW has both right.) A pointer to
+ * bytes may have any alignment, and (NULL, 0) is an empty slice. NULL with a length above 0, or any
+ * pointer to less memory than its length says, is undefined behaviour, usually a crash: no call can
+ * look for it. The slices of a call must not overlap:
  * neither two slices lent to be filled, nor one of them and the file (or, for the calls that write,
  * what is to be written). The slices that are only read may overlap one another.
  *
@@ -202,16 +204,25 @@ struct tds_chunk {
 /*
  * The same list as a table of structs, for a caller who would rather have those than bytes.
  *
- * Takes a row of numbers to work in beside the table, since nothing is allocated. Here row_len and
- * table_len are in elements, and both are the machine's own numbers, aligned as the language wants
- * them; file_len is bytes. Room is what both have room for: the smaller of row_len /
- * TDS_RECORD_NUMBERS and table_len records. Answers the count of records and fills as many from the
- * start of the table, and the same numbers, seven a record, from the start of the row; what is
- * behind keeps its contents. Or refuses with a fault of the file, or 15 with the records needed
- * (place), and changes neither.
+ * Takes a row of numbers to work in beside the table, since nothing is allocated. CAREFUL:
+ * row_count and table_count are in elements, not bytes (TDS_ROW), and both are the machine's own
+ * numbers, aligned as the language wants them. Room is what both have room for: the smaller of
+ * row_count / TDS_RECORD_NUMBERS and table_count records. Answers the count of records and fills as
+ * many from the start of the table, and the same numbers, seven a record, from the start of the
+ * row; what is behind keeps its contents. Or refuses with a fault of the file, or 15 with the
+ * records needed (place), and changes neither.
  */
-uint64_t tds_records(const uint8_t *file, size_t file_len, uint32_t *row, size_t row_len,
-                     struct tds_chunk *table, size_t table_len);
+uint64_t tds_records(const uint8_t *file, size_t file_len, uint32_t *row, size_t row_count,
+                     struct tds_chunk *table, size_t table_count);
+
+/*
+ * A row and its count, as two arguments of a call that counts elements:
+ *
+ *     tds_write((const uint8_t *)"A", 1, TDS_ROW(vertices), TDS_ROW(corners), out, sizeof out)
+ *
+ * for an array, and never for a pointer: of that no compiler knows how long it is (-Wall warns).
+ */
+#define TDS_ROW(array) (array), (sizeof(array) / sizeof *(array))
 
 /*
  * The identifiers that lead to a mesh, for reading the list. A mesh is a 4100; meshes are numbered
@@ -385,18 +396,20 @@ enum tds_cut {
 /*
  * Writes a bare figure: one object with one mesh.
  *
- * Takes a name without its zero, x, y, z of each vertex, and three corners of each face. Here the
- * lengths of the rows are in numbers, and the rows are the machine's own floats and 16-bit numbers,
- * aligned as the language wants them; name_len and out_len are bytes. Fills the file from the start
- * of the slice `out` and answers its size in bytes, 41 + name_len + 4 * vertices_len +
- * 8 * (corners_len / 3); the bytes behind keep their contents. Or it refuses, changing nothing,
- * with the first of these that holds, the place being the first fault of its kind:
+ * Takes a name without its zero, x, y, z of each vertex, and three corners of each face. CAREFUL:
+ * vertices_count and corners_count are in numbers, not bytes (TDS_ROW): `sizeof vertices` would
+ * write the memory behind the row into the figure. The rows are the machine's own floats and 16-bit
+ * numbers, aligned as the language wants them; name_len and out_len are bytes. Fills the file from
+ * the start of the slice `out` and answers its size in bytes, 41 + name_len + 4 * vertices_count +
+ * 8 * (corners_count / 3); the bytes behind keep their contents. Or it refuses, changing nothing,
+ * with the first of these that holds, the place being the first fault of its kind (tds_write_words
+ * of tds_words.h says it in words):
  *
  *    9  the name holds a zero byte (place: its position in the name)
  *   24  the name does not fit the label (place: the position of its first byte that is not from 32
  *       to 126, or 63 if it is longer, whichever is less)
- *   13  vertices_len is no multiple of 3, or over 196,605 (place: vertices_len);
- *       then the same of corners_len (place: corners_len)
+ *   13  vertices_count is no multiple of 3, or over 196,605 (place: vertices_count);
+ *       then the same of corners_count (place: corners_count)
  *   11  a float is infinite or not a number (place: its position in the row)
  *   12  a corner is not below the count of vertices (place: its position in the row)
  *    1  the size would be over 1,048,576 (place 0)
@@ -405,12 +418,14 @@ enum tds_cut {
  * A place that would not fit in 32 bits is given as 2^32 - 1. What it writes is accepted by every
  * call above, and reads back to the same name, floats (bit for bit) and corners.
  */
-uint64_t tds_write(const uint8_t *name, size_t name_len, const float *vertices, size_t vertices_len,
-                   const uint16_t *corners, size_t corners_len, uint8_t *out, size_t out_len);
+uint64_t tds_write(const uint8_t *name, size_t name_len, const float *vertices,
+                   size_t vertices_count, const uint16_t *corners, size_t corners_count,
+                   uint8_t *out, size_t out_len);
 
 /*
- * Writes a figure with many objects and materials, described by flat rows. The lengths of the rows
- * are in numbers, and the rows are the machine's own numbers; names, colours and out are bytes.
+ * Writes a figure with many objects and materials, described by flat rows. CAREFUL: a `..._count`
+ * is in numbers, not bytes (TDS_ROW), and these rows are the machine's own numbers; names, colours
+ * and out are bytes, with their `..._len`.
  *
  *   names      all names without their zeros, one after another: of the objects, of the materials,
  *              of the face groups
@@ -425,7 +440,8 @@ uint64_t tds_write(const uint8_t *name, size_t name_len, const float *vertices, 
  * Fills the file from the start of `out`, which overlaps none of the others, and answers its size
  * in bytes; the bytes behind keep their contents. Or it refuses, changing nothing; before all else
  *
- *   13  a row's length is not what the description says (place: that length), in this order:
+ *   13  a row's length is not what the description says (place: that length; tds_write_row of
+ *       tds_words.h tells which row), in this order:
  *       objects (no multiple of 5), groups (two for each that the objects have), names, vertices,
  *       corners, smoothing, faces, colours
  *
@@ -453,16 +469,17 @@ uint64_t tds_write(const uint8_t *name, size_t name_len, const float *vertices, 
  *     const uint16_t corners[] = {0, 1, 2}, faces[] = {0};
  *     const uint8_t colours[] = {10, 10, 10, 200, 160, 90, 255, 255, 255};
  *     uint8_t out[256];
- *     uint64_t size = tds_write_figure((const uint8_t *)"ABB", 3, objects, 5, vertices, 9,
- *                                      corners, 3, NULL, 0, groups, 2, faces, 1, materials, 1,
- *                                      colours, 9, out, sizeof out);
+ *     uint64_t size = tds_write_figure((const uint8_t *)"ABB", 3, TDS_ROW(objects),
+ *                                      TDS_ROW(vertices), TDS_ROW(corners), NULL, 0,
+ *                                      TDS_ROW(groups), TDS_ROW(faces), TDS_ROW(materials),
+ *                                      colours, sizeof colours, out, sizeof out);
  */
 uint64_t tds_write_figure(const uint8_t *names, size_t names_len, const uint32_t *objects,
-                          size_t objects_len, const float *vertices, size_t vertices_len,
-                          const uint16_t *corners, size_t corners_len, const uint32_t *smoothing,
-                          size_t smoothing_len, const uint32_t *groups, size_t groups_len,
-                          const uint16_t *faces, size_t faces_len, const uint32_t *materials,
-                          size_t materials_len, const uint8_t *colours, size_t colours_len,
+                          size_t objects_count, const float *vertices, size_t vertices_count,
+                          const uint16_t *corners, size_t corners_count, const uint32_t *smoothing,
+                          size_t smoothing_count, const uint32_t *groups, size_t groups_count,
+                          const uint16_t *faces, size_t faces_count, const uint32_t *materials,
+                          size_t materials_count, const uint8_t *colours, size_t colours_len,
                           uint8_t *out, size_t out_len);
 
 /*

@@ -2,8 +2,8 @@
  * tds_words.h - the refusals of tds.h in words, for a program that tells its user why a figure is
  * not shown. Both functions take any number, TDS_REFUSAL(answer) for instance, and answer a string
  * that stays. All numbers have their words, those too that only calls of later versions answer.
- * They are those of a file that is read: in the calls that write, 9 and 13 are said of what was
- * handed in.
+ * These are said of a file that is read; of what was to be written, by tds_write, tds_write_figure
+ * or tds_slip_write, ask tds_write_words, and which row a 13 speaks of, tds_write_row.
  *
  *     fprintf(stderr, "not shown: %s, at byte %lu\n", tds_refusal_words(TDS_REFUSAL(answer)),
  *             (unsigned long)TDS_PLACE(answer));
@@ -23,7 +23,7 @@ extern "C" {
 #endif
 
 /* Name and words of each refusal, by its number. */
-TDS_INLINE const char *const *tds_refusal_texts(int refusal) {
+TDS_INLINE const char *const *tds_refusal_texts_(int refusal) {
     static const char *const texts[TDS_LAST_REFUSAL + 1][2] = {
         /* 0 */ {"UNKNOWN", "no refusal has this number"},
         /* 1 */ {"TOO LONG", "the file is longer than a figure may be (1,048,576 bytes)"},
@@ -69,12 +69,110 @@ TDS_INLINE const char *const *tds_refusal_texts(int refusal) {
 
 /* The short name of a refusal, in capitals: "OVERRUN". Of another number: "UNKNOWN". */
 TDS_INLINE const char *tds_refusal_name(int refusal) {
-    return tds_refusal_texts(refusal)[0];
+    return tds_refusal_texts_(refusal)[0];
 }
 
 /* What is wrong, in a few plain words, without a full stop. */
 TDS_INLINE const char *tds_refusal_words(int refusal) {
-    return tds_refusal_texts(refusal)[1];
+    return tds_refusal_texts_(refusal)[1];
+}
+
+/* The same of a refusal by a call that writes, where it is said of what was handed in. */
+TDS_INLINE const char *tds_write_words(int refusal) {
+    switch (refusal) {
+    case TDS_TOO_LONG:
+        return "the figure would be longer than a figure may be (1,048,576 bytes)";
+    case TDS_NAME:
+        return "a name holds a zero byte";
+    case TDS_COUNT:
+        return "the count of a row is not what it must be";
+    case TDS_NO_ROOM:
+        return "the room lent to the writer is too small";
+    case TDS_SLIP:
+        return "an entry cannot stand on a slip";
+    default:
+        return tds_refusal_words(refusal);
+    }
+}
+
+/* The sum of each `step`th number of a row, from number `first` on. */
+TDS_INLINE uint64_t tds_write_total_(const uint32_t *row, size_t count, size_t first, size_t step) {
+    uint64_t total = 0;
+    size_t i;
+    for (i = 0; i < count / step; i++) {
+        total += row[step * i + first];
+    }
+    return total;
+}
+
+/* Three numbers for each vertex, or for each face, and not too many of them. */
+TDS_INLINE int tds_write_triples_(uint32_t count) {
+    return count % 3 == 0 && count <= 3 * 65535;
+}
+
+/* Where all rows add up: what is wrong with the counts of one object, or of one group. */
+TDS_INLINE const char *tds_write_object_(const uint32_t *objects, size_t objects_count,
+                                         const uint32_t *groups) {
+    size_t i, group = 0;
+    for (i = 0; i < objects_count / 5; i++) {
+        const uint32_t *object = objects + 5 * i;
+        size_t last = group + object[4];
+        if (!tds_write_triples_(object[1])) {
+            return "vertices of an object";
+        }
+        if (!tds_write_triples_(object[2])) {
+            return "corners of an object";
+        }
+        if (object[3] != 0 && object[3] != object[2] / 3) {
+            return "smoothing words of an object";
+        }
+        for (; group < last; group++) {
+            if (groups[2 * group + 1] > 65535) {
+                return "face numbers of a group";
+            }
+        }
+    }
+    return "no row";
+}
+
+/*
+ * Which row a 13 of tds_write_figure speaks of, in words, since the answer has its count alone.
+ * Takes what that call took, but for the rows that need not be looked into: for instance "groups",
+ * or "smoothing words of an object"; "no row" where all counts are right.
+ */
+TDS_INLINE const char *tds_write_row(size_t names_len, const uint32_t *objects,
+                                     size_t objects_count, size_t vertices_count,
+                                     size_t corners_count, size_t smoothing_count,
+                                     const uint32_t *groups, size_t groups_count,
+                                     size_t faces_count, const uint32_t *materials,
+                                     size_t materials_count, size_t colours_len) {
+    if (objects_count % 5 != 0) {
+        return "objects";
+    }
+    if (groups_count != 2 * tds_write_total_(objects, objects_count, 4, 5)) {
+        return "groups";
+    }
+    if (names_len != tds_write_total_(objects, objects_count, 0, 5) +
+                         tds_write_total_(materials, materials_count, 0, 1) +
+                         tds_write_total_(groups, groups_count, 0, 2)) {
+        return "names";
+    }
+    if (vertices_count != tds_write_total_(objects, objects_count, 1, 5)) {
+        return "vertices";
+    }
+    if (corners_count != tds_write_total_(objects, objects_count, 2, 5)) {
+        return "corners";
+    }
+    if (smoothing_count != tds_write_total_(objects, objects_count, 3, 5)) {
+        return "smoothing";
+    }
+    if (faces_count != tds_write_total_(groups, groups_count, 1, 2)) {
+        return "faces";
+    }
+    if (colours_len != 9 * (uint64_t)materials_count) {
+        return "colours";
+    }
+    return tds_write_object_(objects, objects_count, groups);
 }
 
 #ifdef __cplusplus

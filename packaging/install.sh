@@ -34,9 +34,9 @@ each_of_library() {
 # tds(3), and the same page by the name of each call.
 each_page() {
     "$1" 644 include/tds.3 "$MANDIR/man3/tds.3"
-    # names without spaces
+    # names without spaces; those with a _ at their end are for the headers themselves
     # shellcheck disable=SC2013
-    for call in $(sed -n 's/^\(TDS_INLINE \)\{0,1\}[a-z].*[ *]\(tds_[a-z0-9_]*\)(.*/\2/p' include/tds.h include/tds_words.h); do
+    for call in $(sed -n 's/^\(TDS_INLINE \)\{0,1\}[a-z].*[ *]\(tds_[a-z0-9_]*[a-z0-9]\)(.*/\2/p' include/tds.h include/tds_words.h); do
         "$1" link tds.3 "$MANDIR/man3/$call.3"
     done
 }

@@ -126,6 +126,33 @@ if "$CC" -std=c99 -Wall -Wextra -Werror -Iinclude "$T/words.c" -o "$T/words" >"$
 then pass; else fail 'does not compile'; fi
 if "$T/words" >"$T/out" 2>"$T/err"; then pass; else fail 'other names, or words that are there twice'; fi
 
+try 'what counts elements ends in _count, and nothing else does'
+sed -n '/^uint64_t/,/;/p' include/tds.h | tr '\n' ' ' | sed 's/  */ /g; s/; /;\n/g' | grep -oE '[a-z0-9_]+ \*[a-z]+, size_t [a-z_]+|struct tds_chunk \*[a-z]+, size_t [a-z_]+' |
+    sort -u >"$T/slices"
+if [ "$(grep -c _count "$T/slices")" -ge 9 ] && [ "$(grep -c _len "$T/slices")" -ge 20 ]; then pass; else fail "$(cat "$T/slices")"; fi
+if grep '^uint8_t' "$T/slices" | grep -v '_len$' || grep -v '^uint8_t' "$T/slices" | grep -v '_count$'; then fail 'a wrong name'; else pass; fi
+
+try 'TDS_ROW in every language, and a warning where it is given a pointer'
+cat >"$T/row.c" <<'END'
+#include "tds.h"
+uint64_t written(uint8_t *out, size_t out_len);
+uint64_t written(uint8_t *out, size_t out_len) {
+    static const float vertices[] = {0, 0, 0, 1, 0, 0, 0, 1, 0};
+    static const uint16_t corners[] = {0, 1, 2};
+    return tds_write((const uint8_t *)"A", 1, TDS_ROW(vertices), TDS_ROW(corners), out, out_len);
+}
+#ifdef WRONG
+uint64_t wrong(const float *vertices, uint8_t *out, size_t out_len);
+uint64_t wrong(const float *vertices, uint8_t *out, size_t out_len) {
+    return tds_write((const uint8_t *)"A", 1, TDS_ROW(vertices), NULL, 0, out, out_len);
+}
+#endif
+END
+cp "$T/row.c" "$T/row.cpp"
+compile "$CC" c89 "$T/row.c"
+compile "$CXX" c++11 "$T/row.cpp"
+if "$CC" -Wall -Werror -DWRONG -Iinclude -c "$T/row.c" -o "$T/row.o" >"$T/out" 2>"$T/err"; then fail 'a pointer passes'; else pass; fi
+
 try 'the struct of a record has its seven numbers where the list has them'
 cat >"$T/chunk.c" <<'END'
 #include "tds.h"
@@ -139,7 +166,7 @@ END
 if "$CC" -Iinclude -c "$T/chunk.c" -o "$T/chunk.o" >"$T/out" 2>"$T/err"
 then pass; else fail 'they stand elsewhere'; fi
 try 'the manual page has every call and every refusal of the header'
-sed -n 's/^\(TDS_INLINE \)\{0,1\}[a-z].*[ *]\(tds_[a-z0-9_]*\)(.*/\2/p' include/tds.h include/tds_words.h | grep -v texts >"$T/calls"
+sed -n 's/^\(TDS_INLINE \)\{0,1\}[a-z].*[ *]\(tds_[a-z0-9_]*\)(.*/\2/p' include/tds.h include/tds_words.h | grep -v '_$' >"$T/calls"
 sed -n '/^enum tds_refusal/,/^};/s/^ *\(TDS_[A-Z_]*\) = [1-9].*/\1/p' include/tds.h >>"$T/calls"
 if [ "$(wc -l <"$T/calls")" -ge 45 ]; then pass; else fail 'the calls are not found in the header'; fi
 while read -r call; do
