@@ -1,6 +1,6 @@
 /*
  * tds_words.h - the refusals of tds.h in words, for a program that tells its user why a figure is
- * not shown. Both functions take any number, TDS_REFUSAL(answer) for instance, and answer a string
+ * not shown. They take any number, TDS_REFUSAL(answer) for instance, and answer a string
  * that stays. All numbers have their words, those too that only calls of later versions answer.
  * These are said of a file that is read; of what was to be written, by tds_write, tds_write_figure
  * or tds_slip_write, ask tds_write_words, and which row a 13 speaks of, tds_write_row.
