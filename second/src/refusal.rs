@@ -35,6 +35,13 @@ pub enum Number {
     Material = 28,
     SameName = 29,
     NoMaterial = 30,
+    Unchecked = 31,
+    BadFigure = 32,
+    Unexpected = 33,
+    Absent = 34,
+    Incomplete = 35,
+    NoFigure = 36,
+    Changed = 37,
 }
 
 /// One number and one place of the paper's table.

@@ -4,7 +4,7 @@
 use second::boundary::Second;
 use second::differ::compare::Pair;
 use second::differ::run::{Failure, Plan, Tally};
-use second::differ::{c4ds, cobs, figures, slips, sums};
+use second::differ::{c4ds, cobs, figures, slips, sticks, sums};
 
 /// A small run that prints nothing.
 const PLAN: Plan = Plan {
@@ -42,6 +42,18 @@ fn errors_in_slips_are_seen() {
     };
     agrees(run(None), &[0, 18, 24]);
     all_seen(slips::erring::ERRORS, |error| run(Some(error)));
+}
+
+#[test]
+fn errors_in_sticks_are_seen() {
+    let run = |error| {
+        sticks::run(
+            PLAN,
+            &mut Pair::new(Second, sticks::erring::Erring { error }),
+        )
+    };
+    agrees(run(None), &[0, 15, 18, 24, 31, 32, 33, 34, 35, 36, 37]);
+    all_seen(sticks::erring::ERRORS, |error| run(Some(error)));
 }
 
 #[test]

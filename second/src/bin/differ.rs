@@ -3,15 +3,15 @@
 
 use second::boundary::{Boundary, Right, Second, LINKED};
 use second::differ::compare::Pair;
-use second::differ::run::{add, run, words, Failure, Plan, Tally};
+use second::differ::run::{add, run, words, Failure, Plan, Tally, NO_CASE};
 use second::differ::seeded::{Seeded, ERRORS};
-use second::differ::{c4ds, cobs, figures, guarded, real, slips, sums, turned};
+use second::differ::{c4ds, cobs, figures, guarded, real, slips, sticks, sums, turned};
 use std::path::Path;
 use std::process::ExitCode;
 use std::time::Instant;
 
 const USAGE: &str = "differ --count N --seed S      both sides over N files grown from a seed
-                               (--only KIND: figures, sums, slips, cobs, c4ds or materials;
+                               (--only KIND: figures, sums, slips, sticks, cobs, c4ds or materials;
                                --trace names each case before it is run)
 differ --turned FILE...        every bit of some files turned: what becomes of it
 differ --guarded FILE...       every bit of some files turned: refused, and found with a slip
@@ -55,6 +55,7 @@ const KINDS: &[Kind] = &[
     ("figures", run::<Second, Right>),
     ("sums", sums::run::<Second, Right>),
     ("slips", slips::run::<Second, Right>),
+    ("sticks", sticks::run::<Second, Right>),
     ("cobs", cobs::run::<Second, Right>),
     ("c4ds", c4ds::run::<Second, Right>),
     ("materials", figures::run::<Second, Right>),
@@ -97,7 +98,7 @@ fn plan(arguments: &[&str]) -> Option<(Plan, &'static [Kind])> {
 /// Many cases of some kinds from a seed.
 fn grown(plan: Plan, kinds: &[Kind], pair: &mut Pair<Second, Right>) -> Result<(), String> {
     let begin = Instant::now();
-    let mut total = Tally::default();
+    let mut total = NO_CASE;
     for (_, run) in kinds {
         let tally = run(plan, pair).map_err(|failure| {
             let (family, index) = (&failure.family, failure.index);

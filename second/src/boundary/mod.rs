@@ -6,6 +6,7 @@ mod c4ds;
 mod cobs;
 mod figures;
 mod slips;
+mod sticks;
 mod sums;
 
 pub(crate) use c4ds::c4d_list_of;
@@ -14,6 +15,8 @@ pub(crate) use cobs::{cob_list_of, cob_sizes_of, cob_tables_of};
 pub use cobs::{Cobs, COB_RECORD_BYTES};
 pub use figures::{Figures, Rows};
 pub use slips::{Slips, ENTRY_BYTES};
+pub use sticks::Sticks;
+pub(crate) use sticks::{numbers_of, set};
 pub use sums::Summing;
 
 use crate::{bounding_box, check, list, mapping, meshes, name, parts, rescue, tables, write};

@@ -3,7 +3,7 @@
 
 use super::lent::{inside, spoken, Buffers, Difference, Lender, Lent};
 use super::random::Random;
-use super::run::{count, Tally};
+use super::run::{count, Tally, NO_CASE};
 use crate::boundary::{refusal, Boundary, Chunk};
 use crate::boundary::{CUT_BYTES, PART_BYTES, PLACES_BYTES, RECORD_BYTES};
 use crate::{rescue, RECORD};
@@ -39,7 +39,7 @@ impl<L, R> Pair<L, R> {
         Pair {
             left,
             right,
-            met: Tally::default(),
+            met: NO_CASE,
             lender: Lender::new(),
         }
     }

@@ -41,6 +41,7 @@ pub mod run;
 pub mod seeded;
 pub mod shrink;
 pub mod slips;
+pub mod sticks;
 pub mod sums;
 pub mod swaps;
 pub mod turned;

@@ -12,7 +12,10 @@ use crate::boundary::{refusal, Boundary};
 use std::time::{Duration, Instant};
 
 /// How often each answer was met: 0 for accepted, else the refusal's number.
-pub type Tally = [u64; 31];
+pub type Tally = [u64; 38];
+
+/// Before any case.
+pub const NO_CASE: Tally = [0; 38];
 
 /// The first difference found, and where.
 #[derive(Debug)]
@@ -82,7 +85,7 @@ pub fn grown<L: Boundary, R: Boundary>(
     plan: Plan,
     pair: &mut Pair<L, R>,
 ) -> Result<Tally, Box<Failure>> {
-    let mut total = Tally::default();
+    let mut total = NO_CASE;
     for (family, share, what) in FAMILIES {
         let begin = Instant::now();
         let tally = plan.cases_of(family, share.of(plan.count), pair)?;
@@ -90,7 +93,7 @@ pub fn grown<L: Boundary, R: Boundary>(
         add(&mut total, &tally);
     }
     let begin = Instant::now();
-    let mut tally = Tally::default();
+    let mut tally = NO_CASE;
     let step = if plan.count >= 20_000 { 1 } else { 31 };
     let swept = sweep(step, pair, |answer| count(&mut tally, answer));
     swept.map_err(|(file, difference)| {
@@ -173,7 +176,7 @@ impl Plan {
         cases: u64,
         mut judge: impl FnMut(u64, &Random) -> Result<u64, Difference>,
     ) -> Result<Tally, Box<Failure>> {
-        let mut tally = Tally::default();
+        let mut tally = NO_CASE;
         for index in 0..cases {
             if self.trace {
                 eprintln!("{family} {index}");
@@ -200,7 +203,7 @@ impl Plan {
         families: &[Cases<P>],
         pair: &mut P,
     ) -> Result<Tally, Box<Failure>> {
-        let mut total = Tally::default();
+        let mut total = NO_CASE;
         for (which, Cases(family, what, share, judge)) in families.iter().enumerate() {
             let begin = Instant::now();
             let (stream, cases) = (stream + which as u64, share.of(self.count));

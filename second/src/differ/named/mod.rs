@@ -18,7 +18,7 @@ use super::facts::Facts;
 use super::families::Subject;
 use super::lent::{spoken, Difference};
 use super::rescues::Cuts;
-use super::run::{count, Failure, Tally};
+use super::run::{count, Failure, Tally, NO_CASE};
 use crate::boundary::Boundary;
 
 /// A file or a writing, and what is to be said of it.
@@ -54,7 +54,7 @@ pub fn run<'a, L: Boundary, R: Boundary>(
     cases: impl IntoIterator<Item = &'a Case>,
     pair: &mut Pair<L, R>,
 ) -> Result<Tally, Box<Failure>> {
-    let mut tally = Tally::default();
+    let mut tally = NO_CASE;
     for (index, case) in cases.into_iter().enumerate() {
         match case.judge(pair) {
             Ok(answer) => count(&mut tally, answer),
