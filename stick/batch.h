@@ -5,6 +5,6 @@
 #include "session.h"
 
 /* Waits for each next stick, works on it, and keeps a dated log. Answers the exit status. */
-int batch_run(struct session *session, char *folder);
+int batch_run(struct session *session);
 
 #endif

@@ -69,12 +69,12 @@ static void add_plainly(struct text *text, const char *line, size_t length) {
     }
 }
 
-void log_add(struct log *log, unsigned long number, unsigned long of, const char *lines) {
+void log_add(struct log *log, const char *about, const char *lines) {
     struct text text = {0};
     while (*lines != '\0') {
         size_t length = strcspn(lines, "\n");
-        add_date(&text, "%Y-%m-%d %H:%M:%S");
-        text_format(&text, " stick %lu of %lu: ", number, of);
+        add_date(&text, "%Y-%m-%d %H:%M:%S ");
+        text_add(&text, about);
         add_plainly(&text, lines, length);
         text_add(&text, "\n");
         lines += length + (lines[length] == '\n');

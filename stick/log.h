@@ -7,6 +7,12 @@
 
 #include "text.h"
 
+/* Each line begins with a date of this length, as 2026-11-18 01:03:46 and a space. */
+enum { DATE_LENGTH = 20 };
+
+/* In place of the name of a stick's file system where it has none that is known. */
+#define NO_NAME "no name"
+
 struct log {
     struct text name;
     FILE *file;
@@ -16,8 +22,8 @@ struct log {
 /* Opens it, or the one of this day where the path is NULL. Answers false and says why not. */
 bool log_open(struct log *log, const char *path);
 
-/* Adds lines, each with the date and which stick of how many it speaks of. */
-void log_add(struct log *log, unsigned long number, unsigned long of, const char *lines);
+/* Adds lines, each with the date and what it speaks of. */
+void log_add(struct log *log, const char *about, const char *lines);
 
 void log_close(struct log *log);
 

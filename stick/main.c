@@ -19,7 +19,7 @@ static int work(const struct options *options) {
     int status = session_start(&session, options);
     if (status == 0) {
         status = options->batch > 0
-                     ? batch_run(&session, options->arguments[0])
+                     ? batch_run(&session)
                      : session_work(&session, options->arguments, options->count, NULL).status;
     }
     session_end(&session);

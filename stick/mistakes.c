@@ -75,6 +75,14 @@ static const char *first_with_earlier(const struct options *options, test_of_two
     return NULL;
 }
 
+/* A stick that is named twice would be counted as two. */
+static void judge_reading(struct options *options) {
+    const char *again = first_with_earlier(options, long_same_folder);
+    if (again != NULL) {
+        mistake(options, "each stick is checked once: leave the second ", again, " away");
+    }
+}
+
 /* Two writers in one folder would be in each other's way, and one inside the other's too. */
 static void judge_writing(struct options *options) {
     const char *again = first_with_earlier(options, long_same_folder);
@@ -115,6 +123,9 @@ static void judge_batch(struct options *options) {
     struct stat status;
     if (*folder == '\0') {
         mistake(options, "there is no folder ", folder, ": give one, for example /media/stick");
+    } else if (options->from > options->batch) {
+        mistake(options, "the batch has not so many sticks: give a smaller number to ", "--from",
+                "");
     } else if (long_stat(folder, 0, &status) == 0 && !S_ISDIR(status.st_mode)) {
         mistake(options, "there is a file where the folder of the sticks should be, ", folder, "");
     } else {
@@ -132,6 +143,9 @@ static bool judge_idle(struct options *options) {
         mistake(options, "any folder can be checked: leave ", "--any-folder", " away");
     } else if (options->batch == 0 && options->log != NULL) {
         mistake(options, "only a batch is logged: give --batch N too, or leave ", "--log", " away");
+    } else if (options->batch == 0 && (options->from > 0 || options->no_bell)) {
+        mistake(options, "this is for a batch: give --batch N too, or leave ",
+                options->from > 0 ? "--from" : "--no-bell", " away");
     }
     return options->task == TASK_WORK;
 }
@@ -156,6 +170,8 @@ static void judge_work(struct options *options) {
         judge_batch(options);
     } else if (options->edition != NULL || options->write_slip) {
         judge_writing(options);
+    } else {
+        judge_reading(options);
     }
 }
 

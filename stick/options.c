@@ -18,7 +18,9 @@ enum {
     OPTION_AGAINST,
     OPTION_COPY,
     OPTION_BATCH,
+    OPTION_FROM,
     OPTION_LOG,
+    OPTION_NO_BELL,
     OPTION_WRITE_SLIP,
     OPTION_STRUCTURE,
     OPTION_NO_SLIP,
@@ -37,6 +39,8 @@ static const struct option names[] = {
     {"against", required_argument, NULL, OPTION_AGAINST},
     {"copy", required_argument, NULL, OPTION_COPY},
     {"batch", required_argument, NULL, OPTION_BATCH},
+    {"from", required_argument, NULL, OPTION_FROM},
+    {"no-bell", no_argument, NULL, OPTION_NO_BELL},
     {"log", required_argument, NULL, OPTION_LOG},
     {"write-slip", no_argument, NULL, OPTION_WRITE_SLIP},
     {"structure", no_argument, NULL, OPTION_STRUCTURE},
@@ -65,6 +69,8 @@ void print_help(void) {
            "      --rescue DAMAGED  write what is left of a damaged figure (.3ds) to the new\n"
            "                        file MENDED, and say what was cut\n"
            "      --batch N         N sticks one after another at the same FOLDER\n"
+           "      --from K          go on with stick K of a batch that was broken off\n"
+           "      --no-bell         no bell at the verdict on each stick of a batch\n"
            "      --log FILE        where the batch is logged (stick-batch-DATE.log)\n"
            "  -v, --verbose         a line for each good file too\n"
            "  -l, --list            the meshes, vertices and faces of each good figure\n"
@@ -112,6 +118,13 @@ static void take_batch(struct options *options, const char *words) {
     options->batch = number_of(words);
     if (options->batch == 0) {
         mistake(options, "how many sticks are ", words, "? For example: --batch 40");
+    }
+}
+
+static void take_from(struct options *options, const char *words) {
+    options->from = number_of(words);
+    if (options->from == 0) {
+        mistake(options, "which stick of the batch is ", words, "? For example: --from 17");
     }
 }
 
@@ -163,6 +176,9 @@ static void take(struct options *options, int option) {
     case OPTION_ANY_FOLDER:
         options->any_folder = true;
         break;
+    case OPTION_NO_BELL:
+        options->no_bell = true;
+        break;
     case 'h':
         options->task = TASK_HELP;
         break;
@@ -191,6 +207,11 @@ static void take_with_word(struct options *options, int option) {
     case OPTION_BATCH:
         if (is_first(options, options->batch > 0, "--batch")) {
             take_batch(options, optarg);
+        }
+        break;
+    case OPTION_FROM:
+        if (is_first(options, options->from > 0, "--from")) {
+            take_from(options, optarg);
         }
         break;
     case OPTION_LOG:

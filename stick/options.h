@@ -21,6 +21,8 @@ struct options {
     bool no_slip;                  /* an edition without a slip is copied too */
     bool any_folder;               /* what is written to need not be a stick, or may be one */
     unsigned long batch;           /* how many sticks one after another; 0 without --batch */
+    unsigned long from;            /* the first of them; 0 without --from */
+    bool no_bell;                  /* at the verdict on each of them */
     const char *rescue;            /* a damaged figure that is to be mended, or NULL */
     const char *log;               /* of the batch, or NULL for the usual name */
     const struct refusal *explain; /* for TASK_EXPLAIN */

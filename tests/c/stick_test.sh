@@ -568,9 +568,10 @@ try 'on a shell that allows little stack, which Caligari figures need much of'
 mkdir "$T/square"
 cp samples/caligari/try-square.cob "$T/square"
 mkdir "$T/square-too"
+cp -R "$T/square" "$T/square-again"
 # shellcheck disable=SC2016
 little='ulimit -s 256 && exec "$0" "$@"'
-run sh -c "$little" "$S" --structure "$T/square" "$T/square" samples/edition
+run sh -c "$little" "$S" --structure "$T/square" "$T/square-again" samples/edition
 status_is 0
 has out 'STRUCTURE ONLY: 3 folders, 8 figures checked'
 run sh -c "$little" "$S" --any-folder --no-slip --copy "$T/square" "$T/square-too"
@@ -662,6 +663,11 @@ for order in "--explain 5 samples/damaged" "samples/damaged --explain 5"; do
     has err 'nothing is checked while a refusal is explained: leave samples/damaged away'
     lines out 0
 done
+try 'one folder named twice, by whatever name, is not two'
+stick samples/edition samples/../samples/edition
+status_is 2
+has err 'stick: each stick is checked once: leave the second samples/../samples/edition away'
+lines out 0
 try '--log without --batch'
 stick --log "$T/log" samples/edition
 status_is 2
@@ -672,7 +678,7 @@ try '--help'
 stick --help
 status_is 0
 lines err 0
-for option in --help --version --quiet --list --explain --verbose --json --against --copy --no-slip --any-folder --write-slip --structure --batch --log FOLDER; do has out "$option"; done
+for option in --help --version --quiet --list --explain --verbose --json --against --copy --no-slip --any-folder --write-slip --structure --batch --from --no-bell --log FOLDER; do has out "$option"; done
 widest=$(awk '{ if (length($0) > most) most = length($0) } END { print most }' "$T/out")
 if [ "$widest" -le 80 ]; then pass; else fail "a line of $widest characters"; fi
 try '--version'

@@ -98,13 +98,14 @@ has terminal 'samples/edition: '
 has terminal '-folder-that-does-not-fit-in: '
 lacks terminal rather
 if [ "$(widest)" -lt 70 ]; then pass; else fail "$(widest) characters in 70 columns"; fi
+for name in a b c d e f; do sample "$name"; done
 try 'no more lines of progress than the terminal has'
-HEIGHT=4 terminal error samples/edition samples/edition samples/edition samples/edition samples/edition samples/edition
+HEIGHT=4 terminal error "$T/a" "$T/b" "$T/c" "$T/d" "$T/e" "$T/f"
 status_is 0
 back=$(tr '\033' '\n' <"$T/terminal" | sed -n 's/^\[\([0-9]*\)A.*/\1/p' | sort -n | tail -n 1)
 if [ "${back:-0}" -le 3 ]; then pass; else fail "goes back $back lines"; fi
 try 'a terminal that cannot go back'
-TERM=dumb terminal error samples/edition samples/edition
+TERM=dumb terminal error "$T/a" "$T/b"
 status_is 0
 has terminal checking
 lacks terminal "$(printf '\033')"
@@ -126,6 +127,24 @@ terminal error samples/edition
 lacks out "$(printf '\033')"
 NO_COLOR='' terminal both samples/edition
 has terminal "$green"
+
+try 'a bell at the verdict on each stick of a batch'
+bell=$(printf '\007')
+for kind in both error; do
+    terminal "$kind" --any-folder --batch 1 --log "$T/log" "$T/a"
+    status_is 0
+    has terminal "$bell"
+    terminal "$kind" --no-bell --any-folder --batch 1 --log "$T/log" "$T/a"
+    status_is 0
+    lacks terminal "$bell"
+done
+stick --any-folder --batch 1 --log "$T/log" "$T/a"
+lacks out "$bell"
+lacks err "$bell"
+if grep -q "$bell" "$T/log"; then fail 'it is in the log'; else pass; fi
+try 'no bell without a batch'
+terminal both "$T/a"
+lacks terminal "$bell"
 
 # interrupted SIGNAL WHERE: the signal comes just before a figure is read, on a terminal.
 interrupted() {
