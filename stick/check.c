@@ -62,10 +62,9 @@ static void collect(struct check *check, const struct subject *subject) {
 }
 
 static void check_file(struct check *check, struct subject *subject) {
-    struct row row = {check->root, CHECKING, check->figures,
-                      check->report->grounds.count[FOUND_REFUSED]};
     struct trouble trouble;
-    screen_row(check->report->screen, check->report->job, &row);
+    screen_file(check->report->screen, check->report->job,
+                check->report->grounds.count[FOUND_REFUSED]);
     if (!subject_read(subject, &check->checker, &trouble)) {
         could_not(check, subject->path, &trouble);
         return;
@@ -332,6 +331,18 @@ static void take_slip(struct check *check) {
     check->report->bare = slip->state == SLIP_NONE && check->in_master.manifest == NULL;
 }
 
+/* What there is to do, for someone who waits, as far as a slip or a master tells. */
+static void say_how_much(const struct check *check) {
+    const struct manifest *manifest =
+        check->in_master.manifest != NULL ? check->in_master.manifest : check->on_slip.manifest;
+    unsigned long long bytes = 0;
+    for (size_t i = 0; i < check->slip.manifest.count; i++) {
+        bytes += check->slip.manifest.entries[i].length;
+    }
+    screen_begin(check->report->screen, check->report->job, CHECKING,
+                 manifest == NULL ? 0 : manifest->count, bytes);
+}
+
 void check_stick(const char *root, const struct against *against, struct manifest *files,
                  struct report *report) {
     struct check check = {
@@ -339,7 +350,8 @@ void check_stick(const char *root, const struct against *against, struct manifes
     struct entry entry;
     presence_start(&check.in_master, against->folder == NULL ? NULL : against->manifest);
     take_slip(&check);
-    checker_start(&check.checker);
+    say_how_much(&check);
+    checker_start(&check.checker, report);
     walk_start(&check.walk, root);
     while (!stopped() && !check.given_up && walk_next(&check.walk, &entry)) {
         check.in_folder = check.in_folder || entry.kind == ENTRY_FOLDER;

@@ -77,6 +77,8 @@ static bool carry(struct copying *copying, struct reading *reading, struct writi
         if (copying->unread || !writing_add(writing, copying->block, length, trouble)) {
             return false;
         }
+        screen_share(copying->report->screen, copying->report->job,
+                     (struct share){reading->read, reading->size});
         if (stopped()) {
             trouble_of_words(trouble, "stopped by hand", "copy again");
             return false;
@@ -131,10 +133,9 @@ static bool are_one(struct copying *copying, size_t file, const struct stat *the
 
 /* What is on the stick already is left alone. */
 static bool copy_or_leave(struct copying *copying, size_t file, struct trouble *trouble) {
-    struct row row = {copying->stick, COPYING, file + 1, 0};
     struct stat there;
     set_paths(copying, copying->edition->manifest->entries[file].name);
-    screen_row(copying->report->screen, copying->report->job, &row);
+    screen_file(copying->report->screen, copying->report->job, 0);
     if (!target_stands(&copying->target, trouble)) {
         return false;
     }
@@ -159,6 +160,28 @@ static size_t slip_of(const struct manifest *manifest) {
         slip++;
     }
     return slip;
+}
+
+/* The bytes that are to be copied, for someone who waits. */
+static unsigned long long bytes_to_copy(struct copying *copying) {
+    const struct manifest *manifest = copying->edition->manifest;
+    unsigned long long bytes = 0;
+    for (size_t i = 0; i < manifest->count; i++) {
+        struct stat file, there;
+        set_paths(copying, manifest->entries[i].name);
+        if (long_stat(copying->to.bytes, 1, &there) != 0 &&
+            long_stat(copying->from.bytes, 1, &file) == 0) {
+            bytes += (unsigned long long)file.st_size;
+        }
+    }
+    return bytes;
+}
+
+/* Tells how much there is to do, where anyone looks. */
+static void say_how_much(struct copying *copying) {
+    struct screen *screen = copying->report->screen;
+    screen_begin(screen, copying->report->job, COPYING, copying->edition->manifest->count,
+                 screen->progress.wanted ? bytes_to_copy(copying) : 0);
 }
 
 static bool copy_all(struct copying *copying, struct trouble *trouble) {
@@ -193,6 +216,7 @@ bool copy_edition(const struct edition *edition, const char *stick, struct repor
     good = target_open(&copying.target, stick, edition->folder, edition->any_folder, &trouble);
     if (good) {
         copying.block = need_memory(NULL, MOST_READ);
+        say_how_much(&copying);
         good = copy_all(&copying, &trouble);
         target_close(&copying.target);
     }

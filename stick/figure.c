@@ -7,8 +7,8 @@
 #include "tds.h"
 #include "text.h"
 
-void checker_start(struct checker *checker) {
-    *checker = (struct checker){.block = need_memory(NULL, MOST_READ)};
+void checker_start(struct checker *checker, struct report *report) {
+    *checker = (struct checker){.report = report, .block = need_memory(NULL, MOST_READ)};
 }
 
 void checker_free(struct checker *checker) {

@@ -9,12 +9,13 @@
 
 /* The memory for checking, used for one figure after another. */
 struct checker {
-    uint8_t *block; /* MOST_READ bytes */
+    struct report *report; /* that is told how far it is */
+    uint8_t *block;        /* MOST_READ bytes */
     uint8_t *records;
     size_t records_room; /* in records */
 };
 
-void checker_start(struct checker *checker);
+void checker_start(struct checker *checker, struct report *report);
 void checker_free(struct checker *checker);
 
 /*

@@ -6,19 +6,33 @@
 #include <stddef.h>
 #include <time.h>
 
+#include "decide.h"
+
 enum working { WAITING, CHECKING, COPYING, DONE };
+
+/* So many bytes of so many; of 0 where that is not known. */
+struct share {
+    unsigned long long done;
+    unsigned long long of;
+};
 
 /* How far the work on one stick is. */
 struct row {
     const char *name;
     enum working working;
-    unsigned long at;  /* the file that is at hand, counted from 1 */
-    unsigned long bad; /* problems so far */
+    unsigned long file;    /* the one that is at hand, counted from 1 */
+    unsigned long files;   /* in all; 0 where that is not known */
+    struct share in_file;  /* of the one that is at hand */
+    struct share in_all;   /* of all of them */
+    unsigned long bad;     /* problems so far */
+    struct timespec start; /* of this part of the work */
+    enum verdict verdict;  /* once it is done */
 };
 
 struct progress {
     bool wanted;          /* there is someone to look at it */
     bool moves;           /* the terminal can go back to an earlier line */
+    bool colour;          /* it has colours */
     size_t lines;         /* how many stand there now */
     size_t last_length;   /* bytes of the last of them */
     struct timespec last; /* when it was shown last */

@@ -60,9 +60,31 @@ static void show_kept(struct screen *screen) {
     outlet->end = &outlet->first;
 }
 
-void screen_row(struct screen *screen, size_t job, const struct row *row) {
+void screen_begin(struct screen *screen, size_t job, enum working working, unsigned long files,
+                  unsigned long long bytes) {
+    struct row *row = &screen->rows[job];
     pthread_mutex_lock(&screen->lock);
-    screen->rows[job] = *row;
+    *row = (struct row){.name = row->name, .working = working, .files = files, .bad = row->bad};
+    row->in_all.of = bytes;
+    clock_gettime(CLOCK_MONOTONIC, &row->start);
+    pthread_mutex_unlock(&screen->lock);
+}
+
+void screen_file(struct screen *screen, size_t job, unsigned long bad) {
+    struct row *row = &screen->rows[job];
+    pthread_mutex_lock(&screen->lock);
+    row->file++;
+    row->bad = bad;
+    row->in_file = (struct share){0};
+    progress_show(&screen->progress, screen->rows, screen->count);
+    pthread_mutex_unlock(&screen->lock);
+}
+
+void screen_share(struct screen *screen, size_t job, struct share share) {
+    struct row *row = &screen->rows[job];
+    pthread_mutex_lock(&screen->lock);
+    row->in_all.done += share.done - row->in_file.done;
+    row->in_file = share;
     progress_show(&screen->progress, screen->rows, screen->count);
     pthread_mutex_unlock(&screen->lock);
 }
@@ -77,8 +99,9 @@ void screen_line(struct screen *screen, size_t job, enum stream stream, const ch
     pthread_mutex_unlock(&screen->lock);
 }
 
-void screen_done(struct screen *screen, size_t job) {
+void screen_done(struct screen *screen, size_t job, enum verdict verdict) {
     pthread_mutex_lock(&screen->lock);
+    screen->rows[job].verdict = verdict;
     screen->outlets[job].done = true;
     screen->rows[job].working = DONE;
     while (screen->turn < screen->count && screen->outlets[screen->turn].done) {

@@ -29,14 +29,21 @@ struct screen {
 /* For this many jobs, with these names in the progress. */
 void screen_start(struct screen *screen, char *const *names, size_t jobs, bool quiet);
 
-/* How far a job is. */
-void screen_row(struct screen *screen, size_t job, const struct row *row);
+/* A job begins with a part of its work: so many files, and bytes in all; 0 if that is not known. */
+void screen_begin(struct screen *screen, size_t job, enum working working, unsigned long files,
+                  unsigned long long bytes);
+
+/* It begins with the next file; so many problems it has met so far. */
+void screen_file(struct screen *screen, size_t job, unsigned long bad);
+
+/* So much of that file is done. */
+void screen_share(struct screen *screen, size_t job, struct share share);
 
 /* A whole line of a job, with its end. */
 void screen_line(struct screen *screen, size_t job, enum stream stream, const char *line);
 
-/* There will be no more lines of this job. */
-void screen_done(struct screen *screen, size_t job);
+/* There will be no more lines of this job, and this is its verdict. */
+void screen_done(struct screen *screen, size_t job, enum verdict verdict);
 
 /* Shows what is still kept, and takes the progress away. */
 void screen_end(struct screen *screen);

@@ -205,7 +205,7 @@ static void work_on(struct round *round, size_t job) {
     if (round->count > 1 && *folder != '\0' && !is_file(folder)) {
         verdict_of_folder(report, folder); /* also where it is not there any more */
     }
-    screen_done(&round->screen, job);
+    screen_done(&round->screen, job, report->result.verdict);
 }
 
 static void *reader(void *shared) {

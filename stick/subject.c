@@ -32,6 +32,8 @@ static bool read_blocks(struct subject *subject, struct checker *checker, struct
             return false;
         }
         first = false;
+        screen_share(checker->report->screen, checker->report->job,
+                     (struct share){reading->read, reading->size});
     } while (wants_more(subject, reading));
     return true;
 }

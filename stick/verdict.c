@@ -6,35 +6,20 @@
 
 #include <errno.h>
 #include <stdio.h>
-#include <stdlib.h>
 #include <string.h>
 #include <unistd.h>
 
+#include "colour.h"
 #include "escape.h"
 #include "json.h"
-
-#define RED_GROUND "\033[1;97;41m"
-#define GREEN_GROUND "\033[1;97;42m"
-#define YELLOW_GROUND "\033[1;30;43m"
-#define PLAIN "\033[0m"
-
-/* Colour on a terminal only, and not where it is not wanted. */
-static bool in_colour(void) {
-    const char *refused = getenv("NO_COLOR"), *terminal = getenv("TERM");
-    return isatty(STDOUT_FILENO) && (refused == NULL || *refused == '\0') && terminal != NULL &&
-           strcmp(terminal, "dumb") != 0;
-}
 
 const char *verdict_word(enum verdict verdict) {
     return verdict == PASS ? "PASS" : verdict == STRUCTURE_ONLY ? "STRUCTURE ONLY" : "DO NOT SEAL";
 }
 
 void add_verdict_word(struct text *line, enum verdict verdict) {
-    const char *ground = verdict == PASS             ? GREEN_GROUND
-                         : verdict == STRUCTURE_ONLY ? YELLOW_GROUND
-                                                     : RED_GROUND;
-    if (in_colour()) {
-        text_format(line, "%s  %s  %s", ground, verdict_word(verdict), PLAIN);
+    if (in_colour(STDOUT_FILENO)) {
+        text_format(line, "%s  %s  %s", colour_of(verdict), verdict_word(verdict), COLOUR_ENDS);
     } else {
         text_add(line, verdict_word(verdict));
     }
@@ -95,6 +80,9 @@ static void add_uncovered(struct text *line, const struct report *report) {
     add_bare(line, report);
     if (report->uncompared > 0) {
         text_add(line, "; not compared with the master, which could not be read");
+    }
+    if (report->copied + report->there > 0) {
+        text_format(line, "; %lu copied, %lu there before", report->copied, report->there);
     }
     if (report->slips == 1) {
         text_format(line, "; a slip was written, with %lu file%s", report->slip_files,
@@ -190,6 +178,8 @@ static void add_json(struct text *lines, const struct report *sum, double second
     json_number(lines, "structure_only", sum->bare);
     json_number(lines, "not_compared", sum->uncompared);
     json_number(lines, "slips_written", sum->slips);
+    json_number(lines, "copied", sum->copied);
+    json_number(lines, "there_before", sum->there);
     json_number(lines, "from_memory", sum->grounds.unread);
     json_number(lines, "not_finished", sum->unfinished);
     json_number(lines, "milliseconds", (unsigned long)(seconds * 1000));

@@ -28,8 +28,8 @@ try 'an edition is copied to several sticks and read back'
 mkdir "$T/one" "$T/two" "$T/three"
 copy "$E" "$T/one" "$T/two" "$T/three"
 status_is 0
-matches out "$T/two: PASS: 6 figures checked, 0 refused"
-last "PASS: 3 folders, 18 figures checked, 0 refused, $seconds"
+matches out "$T/two: PASS: 6 figures checked, 0 refused; 10 copied, 0 there before"
+last "PASS: 3 folders, 18 figures checked, 0 refused, $seconds; 30 copied, 0 there before"
 for name in one two three; do as_edition "$T/$name"; done
 
 try 'a stick named twice, by whatever name: nothing is written'
@@ -81,6 +81,7 @@ try 'what is there already is not written again'
 touch -d '2001-01-01' "$T/one/adze.3ds"
 copy "$E" "$T/one"
 status_is 0
+last "PASS: 6 figures checked, .*; 0 copied, 10 there before"
 if [ "$(stat -c %Y "$T/one/adze.3ds")" -lt 1000000000 ]; then pass; else fail 'it was written again'; fi
 
 try 'nothing on a stick is deleted or changed'
@@ -93,6 +94,10 @@ matches out "$T/one/saw.3ds: refused: NOT A FIGURE .*: delete it there, then cop
 matches out "$T/one/mine.txt: not in the master: .*"
 if [ "$(cat "$T/one/mine.txt" "$T/one/saw.3ds")" = "$(printf 'mine\nmine')" ]; then pass; else fail 'it was changed'; fi
 same 'what was missing is copied' "$E/vice.3ds" "$T/one/vice.3ds"
+last 'DO NOT SEAL: .*; 1 copied, 9 there before'
+rm "$T/one/vice.3ds"
+stick --json --any-folder --copy "$E" "$T/one"
+has out '"copied":1,"there_before":9,'
 triangle >"$T/one/saw.3ds"
 copy "$E" "$T/one"
 status_is 1

@@ -228,7 +228,7 @@ try 'an edition with a slip is copied with it'
 mkdir "$T/copied"
 stick --any-folder --copy "$E" "$T/copied"
 status_is 0
-last "PASS: 7 figures checked, 0 refused, $seconds"
+last "PASS: 7 figures checked, 0 refused, $seconds; 11 copied, 0 there before"
 same 'the slip' "$E/stick.slip" "$T/copied/stick.slip"
 stick "$T/copied"
 status_is 0
@@ -280,7 +280,7 @@ for option in '--against' '--any-folder --no-slip --copy'; do
     stick $option "$T/bare" "$F"
     status_is 1
     matches out "$F/stick.slip: not in the master: delete it, or see that it is the right master"
-    last "DO NOT SEAL: 7 figures checked, 0 refused, 1 not expected here, $seconds: see above"
+    last "DO NOT SEAL: 7 figures checked, 0 refused, 1 not expected here, $seconds: see above(; 0 copied, 10 there before)?"
 done
 same 'the slip, which is left alone,' "$E/stick.slip" "$F/stick.slip"
 

@@ -31,7 +31,7 @@ widest() {
 try 'progress on a terminal'
 terminal both samples/edition
 status_is 0
-has terminal 'checking figure 1, 0 refused so far ...'
+has terminal 'checking file 1 of 6, 0 refused so far ...'
 left >"$T/out"
 lines out 1
 has out 'PASS'
@@ -39,7 +39,7 @@ has out 'PASS'
 try 'progress leaves the lines readable'
 terminal both samples/damaged
 status_is 1
-has terminal 'checking figure 1, '
+has terminal 'checking file 1, '
 left | sed '$d' >"$T/on"
 stick samples/damaged
 sed '$d' "$T/out" >"$T/off"
@@ -47,7 +47,7 @@ same 'what is left on the terminal' "$T/on" "$T/off"
 
 try 'progress when only standard error is a terminal'
 terminal error samples/edition
-has terminal 'checking figure 1'
+has terminal 'checking file 1'
 lines out 1
 passes 6
 lacks out checking
@@ -69,7 +69,7 @@ for width in 1 2 20 40; do
     if [ "$(widest)" -lt "$width" ]; then pass; else fail "$(widest) characters in $width columns"; fi
 done
 WIDTH=20 terminal error samples/edition
-has terminal 'checking figure 1, '
+has terminal 'checking file 1 of '
 
 try 'progress moves on'
 folder many
@@ -85,8 +85,32 @@ mkfifo "$T/slow"
 (sleep 0.3 && cat) <"$T/slow" >"$T/slow-out" &
 "$HELPERS/on_terminal" error "$T/terminal" sh -c "$RUN '$S' --list '$F' >'$T/slow'"
 wait
-figures=$(tr '\r' '\n' <"$T/terminal" | grep -c '^checking figure')
+figures=$(tr '\r' '\n' <"$T/terminal" | grep -c '^checking file')
 if [ "$figures" -ge 2 ]; then pass; else fail "shown $figures times"; fi
+
+try 'how far it is, and the time left'
+# rows: what is shown of some rows, without the ways of the cursor, in $T/out; its colours stay
+rows() {
+    HEIGHT=30 WIDTH=80 "$HELPERS/on_terminal" error "$T/terminal" "$HELPERS/rows"
+    status=$?
+    status_is 0
+    tr -d '\r' <"$T/terminal" >"$T/out"
+    echo >>"$T/out"
+}
+rows
+matches out '/a: copying file 3 of 12, 1:(29|30) left \.\.\.'
+matches out '/b: checking file 3 of 12 \(45% of it\), 2:(29|30) left, 2 refused so far \.\.\.'
+matches out '/c: checking file 3, 0 refused so far \.\.\.'
+matches out '/d: checking file 13, 0:00 left, 0 refused so far \.\.\.'
+matches out '/e: copying file 1 of 5 \(0% of it\), [0-9]+:[0-9][0-9] left \.\.\.'
+matches out '/i: waiting'
+try 'what is done has the colour of its verdict'
+yellow=$(printf '\033[1;30;43m')
+has out "/f: ${green}done$plain"
+has out "/g: ${yellow}done$plain"
+has out "/h: ${red}done$plain, 3 refused so far"
+NO_COLOR=1 rows
+matches out '/f: done'
 
 try 'several folders: a line of progress for each, cut at its start'
 long=$T/a-rather-long-name-of-a-folder-that-does-not-fit-in
