@@ -6,19 +6,13 @@ use mathlib.Core.Option.{some}
 use Prim.Native.Nat.{ℕ, zero, suc}
 use native.Mathlib.Omega.{arith}
 use lib.Dec.{eqb}
-use lib.ListN.{length, take, drop, getElem?}
-use lib.Seq.{take-at}
+use lib.ListN.{getElem?}
 use Rattle.shared_words.specs.Conditions.{accepted}
-use Rattle.shared_words.specs.Effects.{Effect}
-use Rattle.shared_words.specs.Encodings.{plainRow}
 use Rattle.shared_words.specs.Lists.{every}
 use Rattle.studio_rules.specs.declared.Record.{Record}
 use Rattle.studio_rules.specs.declared.Counts.{Counts}
-use Rattle.studio_rules.specs.declared.Checked.{Checked}
 use Rattle.studio_rules.specs.Layout.{Run, figure, bytes}
 use Rattle.studio_rules.specs.Gives.{list, skipped}
-use Rattle.studio_rules.specs.Calls.{listCall}
-use Rattle.studio_rules.proofs.Jumps.{length-records}
 use Rattle.studio_rules.proofs.Verdict.{verdict-good}
 use Rattle.studio_write_bytes.specs.Bare.{sixChunks}
 use Rattle.studio_write.specs.WritesAgain.{faceFlags}
@@ -26,7 +20,7 @@ use Rattle.studio_write.proofs.JustSix.{just-six}
 use Rattle.studio_write.proofs.WritesAgain.{writes-again}
 use Rattle.studio_figure_rules.specs.ReadsBack.{Chunk, chunk, chunkIn}
 use Rattle.studio_figure_rules.proofs.Chunks.{chunks, list-chunks}
-use Rattle.claim_demands.proofs.Demand2.{demand2}
+use Rattle.claim_places.proofs.Records.{listed-is}
 use Rattle.claim_written.specs.Again.{SameFileAgain}
 
 map-at : {A B : Type 0} (f : A → B) (xs : List A) (k : ℕ) (x : A) → getElem? xs k ≡ some x → getElem? (map f xs) k ≡ some (f x)
@@ -47,14 +41,11 @@ faces-are s name vertices faces kids is six r h =
 
 pub same-file-again : SameFileAgain
 same-file-again s b x name vertices corners read out l =
-    let d = demand2 .listed plainRow s b (x .table) (x .counts) .0 (x .listed) in
+    let d = listed-is s b (x .table) (x .counts) (x .listed) in
     let kids : Run = d .0 in
     let m = d .1 in
     let v = verdict-good s kids m in
-    let n : x .counts .records ≡ length (list kids) = ap (λ (c : Counts). c .records) (d .2) ∙ sym (length-records 0 0 0 0 (figure kids)) in
-    let there : take (x .counts .records) (listCall plainRow s (x .table) .rows) ≡ list kids =
-    ap (λ (e : Effect Checked (List Record)). take (x .counts .records) (e .rows)) (demand2 .given s kids m .list-is plainRow (x .table) (d .3)) ∙
-    take-at (list kids) (drop (length (list kids)) (x .table)) (x .counts .records) (sym n) in
+    let there = d .3 in
     let ordered = ap (map (λ (r : Record). r .identifier)) (sym there) ∙ x .in-order in
     let unskipped : skipped (figure kids) ≡ 0 = ap (λ (c : Counts). c .skipped) (sym (d .2)) ∙ x .none-skipped in
     let six = just-six s b kids v ordered unskipped in

@@ -128,7 +128,7 @@ child-passes x test z each p seen (known id own kids rest) h = go (eqb id x) (ea
     go false q ih = ih
 
 -- the floats of a 4110 and of a 4140 are finite
-vertices-finite : (p : Parent) (seen : List ℕ) (t : Run) → Obeys p seen t → every finite (vertexNumbers (child 0x4110 t)) ≡ true
+pub vertices-finite : (p : Parent) (seen : List ℕ) (t : Run) → Obeys p seen t → every finite (vertexNumbers (child 0x4110 t)) ≡ true
 vertices-finite = child-passes 0x4110 (λ own. every finite (vertexNumbers own)) (every-nil finite) (λ p seen id own h. and-parts (only 0x4110 id (every finite (vertexNumbers own))) (only 0x4140 id (every finite (mappingNumbers own))) (h .numbers-finite) .0)
 
 pairs-finite : (p : Parent) (seen : List ℕ) (t : Run) → Obeys p seen t → every finite (mappingNumbers (child 0x4140 t)) ≡ true
