@@ -4,11 +4,11 @@ use Prim.Native.Nat.{ℕ, _+_, _≤_}
 use native.Mathlib.Omega.{arith}
 use mathlib.Core.Bool.{Bool, true, false, not, _&&_, _||_, cond, false≢true}
 use mathlib.Core.List.{List, [], _∷_}
-use Rattle.shared_words.specs.Lists.{every, among}
+use Rattle.shared_words.specs.Lists.{every, among, howMany}
 use Rattle.shared_words.proofs.Bools.{and-parts}
 use Rattle.shared_words.proofs.Lists.{among-every}
 use Rattle.c4d_rules.specs.Kinds.{exclusive}
-use Rattle.c4d_rules.specs.Combinations.{required, optional, requiredWith, Combination, combinations, members, partThere, partsThere, holds, howMany}
+use Rattle.c4d_rules.specs.Combinations.{required, optional, requiredWith, Combination, combinations, members, partThere, partsThere, holds}
 use Rattle.c4d_rules.specs.Theorems.{AtMostOne}
 
 -- what is there has its place
@@ -64,26 +64,29 @@ apart : List Combination → Bool
 apart [] = true
 apart (c ∷ cs) = clashes c cs && apart cs
 
+abbrev held : List Combination → (ℕ → Bool) → ℕ
+held cs there = howMany (λ (c : Combination). holds c there) cs
+
 -- where c holds, none that it clashes with does
-none-else : (c : Combination) (ds : List Combination) (there : ℕ → Bool) → clashes c ds ≡ true → holds c there ≡ true → howMany ds there ≡ 0
+none-else : (c : Combination) (ds : List Combination) (there : ℕ → Bool) → clashes c ds ≡ true → holds c there ≡ true → held ds there ≡ 0
 unfolding clashes
 none-else c [] there l h = refl
 none-else c (d ∷ ds) there l h =
     let u = and-parts (clash c d) (clashes c ds) l in
     go (holds d there) refl (none-else c ds there (u .1) h)
   where
-    go : (b : Bool) → holds d there ≡ b → howMany ds there ≡ 0 → cond b 1 0 + howMany ds there ≡ 0
+    go : (b : Bool) → holds d there ≡ b → held ds there ≡ 0 → cond b 1 0 + held ds there ≡ 0
     go true e r = absurd (clash-law c d there (and-parts (clash c d) (clashes c ds) l .0) h e)
     go false e r = omega arith
 
-one-of : (cs : List Combination) (there : ℕ → Bool) → apart cs ≡ true → howMany cs there ≤ 1
+one-of : (cs : List Combination) (there : ℕ → Bool) → apart cs ≡ true → held cs there ≤ 1
 unfolding apart
 one-of [] there l = omega arith
 one-of (c ∷ cs) there l =
     let u = and-parts (clashes c cs) (apart cs) l in
     go (holds c there) refl (one-of cs there (u .1))
   where
-    go : (b : Bool) → holds c there ≡ b → howMany cs there ≤ 1 → cond b 1 0 + howMany cs there ≤ 1
+    go : (b : Bool) → holds c there ≡ b → held cs there ≤ 1 → cond b 1 0 + held cs there ≤ 1
     go true e r = omega (arith, none-else c cs there (and-parts (clashes c cs) (apart cs) l .0) e)
     go false e r = omega arith
 

@@ -67,11 +67,6 @@ first n (c ∷ cs) there = cond (holds c there) n (first (n + 1) cs there)
 unfoldable pub combination : (ℕ → Bool) → ℕ
 combination there = first 1 combinations there
 
--- how many hold
-abbrev pub howMany : List Combination → (ℕ → Bool) → ℕ
-howMany [] there = 0
-howMany (c ∷ cs) there = cond (holds c there) 1 0 + howMany cs there
-
 -- ---- of the identifiers of an object's sub-chunks
 
 abbrev pub isIn : List ℕ → ℕ → Bool

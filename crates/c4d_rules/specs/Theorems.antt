@@ -9,9 +9,9 @@ use lib.ListN.{length, take, drop}
 use Rattle.shared_words.specs.Refusals.{limit}
 use Rattle.shared_flat.specs.Put.{Mark, without, with}
 use Rattle.shared_words.specs.Bytes.{valueBe, Bytes}
-use Rattle.shared_words.specs.Lists.{All}
+use Rattle.shared_words.specs.Lists.{All, howMany}
 use Rattle.c4d_rules.specs.Blocks.{Block}
-use Rattle.c4d_rules.specs.Combinations.{combinations, howMany}
+use Rattle.c4d_rules.specs.Combinations.{Combination, combinations, holds}
 use Rattle.c4d_rules.specs.Layout.{Chunk, Layout, form, mc4d, fileHeader, bytes}
 use Rattle.c4d_rules.specs.Rules.{MaterialsObey, ObjectsObey, Meets}
 use Rattle.shared_words.specs.Conditions.{accepted}
@@ -40,7 +40,7 @@ HeaderRead = (s : List ℕ) → Bytes s → (n : ℕ) → n < 2 ^ 32 → (take 1
 
 -- At most one combination holds of an object, so that the order of the nine does not matter.
 abbrev pub AtMostOne : Type 0
-AtMostOne = (there : ℕ → Bool) → howMany combinations there ≤ 1
+AtMostOne = (there : ℕ → Bool) → howMany (λ (c : Combination). holds c there) combinations ≤ 1
 
 -- ---- the rules of sub-chunks, one after another, say what Q-12 says of them together
 

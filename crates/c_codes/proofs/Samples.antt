@@ -8,6 +8,7 @@ worked = record {
   p5 = refl;
   last-byte = refl;
   no-material = refl;
+  changed = refl;
   largest = refl;
   one-more = refl;
   six-records = refl;

@@ -1,6 +1,6 @@
 -- Worked numbers: what C gets for a few answers, in hexadecimal, where the upper half of a refusal is its number.
 use mathlib.Core.Path.{_≡_}
-use Rattle.shared_words.specs.declared.Refusal.the-variants.{TooLong, Trailing, Name, Index, NoRoom, NoMaterial}
+use Rattle.shared_words.specs.declared.Refusal.the-variants.{TooLong, Trailing, Name, Index, NoRoom, NoMaterial, Changed}
 use Rattle.studio_rules.specs.declared.Checked.{Checked}
 use Rattle.studio_rules.specs.declared.Tabled.{Tabled}
 use Rattle.shared_words.specs.declared.Written.{Written}
@@ -12,6 +12,7 @@ pub record Worked : Type 0 where
   pub p5 : refusalCode (Trailing 12) ≡ 0x3_0000_000C
   pub last-byte : refusalCode (Index 0xF_FFFF) ≡ 0xC_000F_FFFF
   pub no-material : refusalCode (NoMaterial 2) ≡ 0x1E_0000_0002
+  pub changed : refusalCode (Changed 7) ≡ 0x25_0000_0007
   -- the largest place that is told as it is, and the next, which is told as that one
   pub largest : refusalCode (Name 0xFFFF_FFFF) ≡ 0x9_FFFF_FFFF
   pub one-more : refusalCode (Name 0x1_0000_0000) ≡ 0x9_FFFF_FFFF

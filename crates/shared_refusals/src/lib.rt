@@ -38,6 +38,13 @@ pub fn number(r: Refusal) -> u32
         Refusal::Material(_) => 28,
         Refusal::SameName(_) => 29,
         Refusal::NoMaterial(_) => 30,
+        Refusal::Unchecked(_) => 31,
+        Refusal::BadFigure(_) => 32,
+        Refusal::Unexpected(_) => 33,
+        Refusal::Absent(_) => 34,
+        Refusal::Incomplete => 35,
+        Refusal::NoFigure => 36,
+        Refusal::Changed(_) => 37,
     }
 }
 
@@ -71,10 +78,17 @@ pub fn place(r: Refusal) -> usize
         Refusal::Material(p) => p,
         Refusal::SameName(p) => p,
         Refusal::NoMaterial(p) => p,
+        Refusal::Unchecked(p) => p,
+        Refusal::BadFigure(p) => p,
+        Refusal::Unexpected(p) => p,
+        Refusal::Absent(p) => p,
+        Refusal::Changed(p) => p,
         Refusal::TooLong => 0,
         Refusal::NotAFigure => 0,
         Refusal::Empty => 0,
         Refusal::Header => 0,
         Refusal::Form => 0,
+        Refusal::Incomplete => 0,
+        Refusal::NoFigure => 0,
     }
 }

@@ -35,7 +35,7 @@ pub all-append : {A : Type 0} (P : A → Type 0) (xs ys : List A) → All P xs �
 all-append P [] ys h k = k
 all-append P (x ∷ xs) ys h k = (h .0, all-append P xs ys (h .1) k)
 
-pub pairwise-append : {A : Type 0} (R : A → A → Type 0) (xs ys us vs : List A) → Pairwise R xs us → Pairwise R ys vs → Pairwise R (xs ++ ys) (us ++ vs)
+pub pairwise-append : {A B : Type 0} (R : A → B → Type 0) (xs ys : List A) (us vs : List B) → Pairwise R xs us → Pairwise R ys vs → Pairwise R (xs ++ ys) (us ++ vs)
 pairwise-append R [] ys [] vs h k = k
 pairwise-append R [] ys (u ∷ us) vs h k = absurd h
 pairwise-append R (x ∷ xs) ys [] vs h k = absurd h

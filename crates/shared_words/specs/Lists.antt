@@ -9,10 +9,14 @@ unfoldable pub every : {A : Type 0} → (A → Bool) → List A → Bool
 every p [] = true
 every p (x ∷ xs) = p x && every p xs
 
+-- a test holds of some element
+abbrev pub any : {A : Type 0} → (A → Bool) → List A → Bool
+any p [] = false
+any p (x ∷ xs) = p x || any p xs
+
 -- a number is among others
 abbrev pub among : ℕ → List ℕ → Bool
-among x [] = false
-among x (y ∷ ys) = eqb x y || among x ys
+among x ys = any (eqb x) ys
 
 -- two lists are the same numbers
 abbrev pub same : List ℕ → List ℕ → Bool
@@ -31,13 +35,17 @@ abbrev pub total : {A : Type 0} → (A → ℕ) → List A → ℕ
 total size [] = 0
 total size (x ∷ xs) = size x + total size xs
 
+-- how many elements pass a test
+abbrev pub howMany : {A : Type 0} → (A → Bool) → List A → ℕ
+howMany p xs = total (λ x. cond (p x) 1 0) xs
+
 -- each element has a property
 abbrev pub All : {A : Type 0} → (A → Type 0) → List A → Type 0
 All P [] = Unit
 All P (x ∷ xs) = P x × All P xs
 
 -- a relation of two lists, element by element: they are equally long
-abbrev pub Pairwise : {A : Type 0} → (A → A → Type 0) → List A → List A → Type 0
+abbrev pub Pairwise : {A B : Type 0} → (A → B → Type 0) → List A → List B → Type 0
 Pairwise R [] [] = Unit
 Pairwise R [] (y ∷ ys) = ⊥
 Pairwise R (x ∷ xs) [] = ⊥

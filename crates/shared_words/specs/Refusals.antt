@@ -1,11 +1,11 @@
--- The table of refusals of documents 01 and 02: the number and the place of each.
+-- The table of refusals of documents 01 and 02, and of a stick: the number and the place of each.
 use mathlib.Core.Path.{_≡_}
 use Prim.Native.Nat.{ℕ, _≤_}
 use Rattle.shared_words.specs.declared.Refusal.{Refusal}
 use Rattle.shared_words.specs.declared.Refusal.the-variants.{TooLong, NotAFigure, Trailing, Short, Overrun, Stray, Misplaced, Twice, Name, Length, Number}
 use Rattle.shared_words.specs.declared.Refusal.the-variants.{Index, Count, Missing, NoRoom, NoSuchMesh, Empty}
 use Rattle.shared_words.specs.declared.Refusal.the-variants.{Slip, Differs, Header, Owner, Size, Father, Text, Form, Order, Combination, Material}
-use Rattle.shared_words.specs.declared.Refusal.the-variants.{SameName, NoMaterial}
+use Rattle.shared_words.specs.declared.Refusal.the-variants.{SameName, NoMaterial, Unchecked, BadFigure, Unexpected, Absent, Incomplete, NoFigure, Changed}
 
 -- 1: the longest file of any format
 abbrev pub limit : ℕ
@@ -56,6 +56,14 @@ codeOf (Material texture) = code 28 texture
 -- the writer of figures with materials: the number of the later one; the number of the face group
 codeOf (SameName later) = code 29 later
 codeOf (NoMaterial group) = code 30 group
+-- a stick: the number of the item that the walk met, or of the entry whose file it did not meet
+codeOf (Unchecked item) = code 31 item
+codeOf (BadFigure item) = code 32 item
+codeOf (Unexpected item) = code 33 item
+codeOf (Absent entry) = code 34 entry
+codeOf Incomplete = code 35 0
+codeOf NoFigure = code 36 0
+codeOf (Changed item) = code 37 item
 
 abbrev pub numberOf : Refusal → ℕ
 numberOf r = codeOf r .number
@@ -67,4 +75,4 @@ placeOf r = codeOf r .place
 pub record Numbered (r : Refusal) (n : ℕ) : Type 0 where
   pub is : n ≡ numberOf r
   pub from : 1 ≤ n
-  pub to : n ≤ 30
+  pub to : n ≤ 37

@@ -1,8 +1,8 @@
 // The words that every format shares. The definitions in specs/ speak of these types, and every crate that reads or
 // writes anything answers with them.
 
-// The table of refusals of documents 01 and 02, by its names. The number that a case holds is its place; a case that
-// holds none has place 0.
+// The table of refusals of documents 01 and 02, by its names; the last seven are those of a stick. The number that a case
+// holds is its place; a case that holds none has place 0.
 pub enum Refusal {
     TooLong,
     NotAFigure,
@@ -34,6 +34,13 @@ pub enum Refusal {
     Material(usize),
     SameName(usize),
     NoMaterial(usize),
+    Unchecked(usize),
+    BadFigure(usize),
+    Unexpected(usize),
+    Absent(usize),
+    Incomplete,
+    NoFigure,
+    Changed(usize),
 }
 
 // What is found of something that is judged: nothing wrong, or the first refusal.
