@@ -61,6 +61,12 @@
  * refused as damaged whatever mesh was asked for and whatever room was lent. (Caligari and Cinema
  * 4D figures have an order of their own: see there.)
  *
+ *   Of two slices that are lent a 15 speaks of the first that is too small, in the order of the
+ * parameters; of the second only where the first has room. (Its number alone does not always tell
+ * which. What to lend is known before: tds_meshes has the sizes for tds_tables, tds_cob_sizes those
+ * for tds_cob_tables, tds_c4d_check the objects for tds_c4d_list, and for tds_rescue file_len
+ * does.)
+ *
  * LANGUAGE. C89 and later, and C++. <stdint.h> came only with C99, but is there with every compiler
  * this library is built for, in C89 mode too, and is the one thing beyond C89 that is used here.
  *
@@ -225,16 +231,90 @@ uint64_t tds_records(const uint8_t *file, size_t file_len, uint32_t *row, size_t
 #define TDS_ROW(array) (array), (sizeof(array) / sizeof *(array))
 
 /*
- * The identifiers that lead to a mesh, for reading the list. A mesh is a 4100; meshes are numbered
- * from 0 in file order. Its parent is its object, a 4000, which has the name. A mesh with vertices
- * has one 4110 (own data 2 + 12 * vertices), one with faces one 4120 (own data 2 + 8 * faces).
+ * ALL IDENTIFIERS that the list can have, each below what it stands in (docs/FORMAT.md has how many
+ * of each). Every other chunk is stepped over. A chunk begins with its identifier in two bytes and
+ * its length in four, so ITS OWN DATA BEGINS AT ITS OFFSET + 6 and has TDS_RECORD_OWN bytes; the
+ * chunks inside it come behind that. Below, a word has two bytes; a float four; a name ends with a
+ * zero byte, which belongs to it. All are little-endian: tds_get2, tds_get4, tds_get_float.
+ *
+ * A mesh is a 4100; meshes are numbered from 0 in file order. Its parent is its object, a 4000,
+ * which has the name.
  */
-#define TDS_ID_FIGURE 0x4D4Du
-#define TDS_ID_EDITOR 0x3D3Du
+#define TDS_ID_FIGURE 0x4D4Du  /* the file */
+#define TDS_ID_VERSION 0x0002u /* in 4D4D: version of the program that wrote it, 4 bytes */
+
+/* In 4D4D stands 3D3D, and in that: */
+#define TDS_ID_EDITOR 0x3D3Du        /* all that is shown */
+#define TDS_ID_MESH_VERSION 0x3D3Eu  /* version of the meshes, 4 bytes */
+#define TDS_ID_SHADOW_BIAS 0x1400u   /* of shadow maps: a float */
+#define TDS_ID_SHADOW_SIZE 0x1420u   /* of shadow maps: a word */
+#define TDS_ID_SHADOW_RANGE 0x1450u  /* of shadow maps: a float */
+#define TDS_ID_RAY_BIAS 0x1460u      /* of traced rays: a float */
+#define TDS_ID_RAYS 0x1470u          /* is there where rays are traced */
+#define TDS_ID_AMBIENT_LIGHT 0x2100u /* light all around: holds colours */
+
+/*
+ * Colours, in 2100, A010, A020, A030 and 4600. Where a 0011 and a 0012 stand side by side, the 0012
+ * counts: release 3 of 3D Studio put it in the place of the other, and lib3ds reads so too. (The
+ * same of 0010 and 0013.) A chunk may hold none, or several; no call judges them.
+ */
+#define TDS_ID_COLOUR_FLOATS 0x0010u        /* red, green, blue: three floats from 0 to 1 */
+#define TDS_ID_COLOUR 0x0011u               /* red, green, blue: a byte each */
+#define TDS_ID_COLOUR_LINEAR 0x0012u        /* the same, with gamma allowed for */
+#define TDS_ID_COLOUR_LINEAR_FLOATS 0x0013u /* three floats, the same */
+
+/* In 3D3D, a material; in it: */
+#define TDS_ID_MATERIAL 0xAFFFu
+#define TDS_ID_MATERIAL_NAME 0xA000u /* its name */
+#define TDS_ID_AMBIENT 0xA010u       /* holds colours */
+#define TDS_ID_DIFFUSE 0xA020u       /* holds colours */
+#define TDS_ID_SPECULAR 0xA030u      /* holds colours */
+#define TDS_ID_SHININESS 0xA040u     /* holds one of the next two */
+#define TDS_ID_PERCENT 0x0030u       /* a percentage: a word */
+#define TDS_ID_PERCENT_FLOAT 0x0031u /* a percentage: a float, 1 is 100 percent */
+
+/* In 3D3D, an object: its name; in it at most one mesh, light or camera, and what it does: */
 #define TDS_ID_OBJECT 0x4000u
+#define TDS_ID_HIDDEN 0x4010u           /* it is not shown */
+#define TDS_ID_CASTS_NO_SHADOW 0x4012u  /* it casts no shadow */
+#define TDS_ID_MATTE 0x4013u            /* it is matte */
+#define TDS_ID_EXTERNAL_PROCESS 0x4015u /* an external process is on */
+#define TDS_ID_TAKES_NO_SHADOW 0x4017u  /* no shadow falls on it */
+
+/* In 4000, a mesh; in it: */
 #define TDS_ID_MESH 0x4100u
-#define TDS_ID_VERTICES 0x4110u
-#define TDS_ID_FACES 0x4120u
+#define TDS_ID_VERTICES 0x4110u      /* a word, how many; x, y, z of each: three floats */
+#define TDS_ID_FACES 0x4120u         /* a word, how many; of each three corners and a flag word */
+#define TDS_ID_FACE_GROUP 0x4130u    /* in 4120: a name, a word, how many; face numbers: words */
+#define TDS_ID_SMOOTHING 0x4150u     /* in 4120: four bytes a face, a bit for each smooth group */
+#define TDS_ID_MAPPING 0x4140u       /* a word, how many; u, v of each: two floats */
+#define TDS_ID_AXES 0x4160u          /* its own axes, and where they stand: 12 floats */
+#define TDS_ID_EDITOR_COLOUR 0x4165u /* its colour in the editor: a byte */
+
+/*
+ * The name in a 4130 is that of the material of these faces. Whether there is such a material is
+ * not judged: look for the AFFF whose A000 has it, and have a colour at hand where none has.
+ */
+
+/* In 4000, a light, and a camera; in them: */
+#define TDS_ID_LIGHT 0x4600u          /* where it stands: three floats; holds colours */
+#define TDS_ID_LIGHT_OFF 0x4620u      /* in 4600: it is off */
+#define TDS_ID_SPOTLIGHT 0x4610u      /* in 4600: where it looks, hotspot, falloff: five floats */
+#define TDS_ID_SPOT_RECTANGLE 0x4651u /* in 4610: it is a rectangle */
+#define TDS_ID_SPOT_PICTURE 0x4653u   /* in 4610: the name of its picture */
+#define TDS_ID_SPOT_ROLL 0x4656u      /* in 4610: its roll, a float */
+#define TDS_ID_CAMERA 0x4700u         /* where it stands, where it looks, roll, lens: 8 floats */
+
+/*
+ * In 4D4D, what moves. A part, B002, is what its B010 names: THE PART AND THE MESH BELONG TOGETHER
+ * BY NAME, that of the object around the mesh. Several parts may have the name of one object, and
+ * each shows it. A part named $$$DUMMY shows nothing: others hang on it. A name that no object has
+ * is no fault either. Each B002 has one B010, so the B010 in the list are the parts in order.
+ */
+#define TDS_ID_KEYFRAMER 0xB000u
+#define TDS_ID_FRAMES 0xB008u    /* the first and the last frame: four bytes each */
+#define TDS_ID_PART 0xB002u      /* a part: holds its B010 */
+#define TDS_ID_PART_HEAD 0xB010u /* its name; two flag words and a word, its father: six bytes */
 
 /*
  * The tables of one mesh (number `mesh` in file order, from 0).
@@ -291,9 +371,9 @@ uint64_t tds_name(const uint8_t *file, size_t file_len, uint32_t mesh, uint8_t *
  * -0 are equal). The centre is low / 2 + high / 2, each operation rounded once to a single. Answers
  * 9 (numbers filled), or refuses with a fault of the file; 16 with the count of meshes; 17 if the
  * mesh has no vertices; or 15 with 9 (place). Room is box_len / 4 numbers.
- *   This call alone computes with floats, and takes a program for granted that rounds to nearest,
- * traps nothing and keeps numbers below 1.2e-38. (A program that is linked with -ffast-math mostly
- * takes those for 0, and this call then does too.)
+ *   This call alone computes with floats. It requires round-to-nearest, no floating-point traps, no
+ * flush-to-zero: what every program has that has not asked for others. (Linking with -ffast-math
+ * asks for flush-to-zero.)
  */
 uint64_t tds_box(const uint8_t *file, size_t file_len, uint32_t mesh, uint8_t *box, size_t box_len);
 
@@ -333,11 +413,12 @@ enum tds_mesh {
  * on its fixed jaw, and goes where it goes.
  *
  * A part is a B002 in the figure's keyframer, B000; parts are numbered from 0 in file order, and no
- * other chunk is counted with them. Fills two numbers a part, 8 bytes, in the order of enum
- * tds_part; tds_get_part reads one of them. A father always has a lower number than the parts that
- * hang on him, so they can be gone through from the first to the last. Answers the count of parts,
- * 0 where there is no B000, and fills as many from the start of the slice; or refuses with a fault
- * of the file, or 15 with the parts needed (place). Room is parts_len / TDS_PART_BYTES parts.
+ * other chunk is counted with them; TDS_ID_PART tells how to find its mesh. Fills two numbers a
+ * part, 8 bytes, in the order of enum tds_part; tds_get_part reads one of them. A father always has
+ * a lower number than the parts that hang on him, so they can be gone through from the first to the
+ * last. Answers the count of parts, 0 where there is no B000, and fills as many from the start of
+ * the slice; or refuses with a fault of the file, or 15 with the parts needed (place). Room is
+ * parts_len / TDS_PART_BYTES parts.
  */
 uint64_t tds_parts(const uint8_t *file, size_t file_len, uint8_t *parts, size_t parts_len);
 
@@ -351,15 +432,6 @@ enum tds_part {
 
 /* The father of a part that hangs on none. No figure has so many parts. */
 #define TDS_NO_FATHER 65535u
-
-/*
- * The identifiers of a moving figure, for reading the list. Each B002 has one B010, so those are
- * the parts in order too; the own data of a B010 is the part's name with its zero, and six bytes
- * more.
- */
-#define TDS_ID_KEYFRAMER 0xB000u
-#define TDS_ID_PART 0xB002u
-#define TDS_ID_PART_HEAD 0xB010u
 
 /*
  * What is left of a damaged figure: a mended one, for looking at and not for packing, since parts
@@ -483,27 +555,25 @@ uint64_t tds_write_figure(const uint8_t *names, size_t names_len, const uint32_t
                           uint8_t *out, size_t out_len);
 
 /*
- * The identifiers of materials and of what faces have, for reading the list. A material is an AFFF
- * in 3D3D. In it stand one A000, whose own data is the name with its zero, and A010, A020, A030; in
- * these a colour, as tds_write_figure puts it a 0011: red, green and blue, a byte each. In the 4120
- * of a mesh stand its face groups, 4130: the name of the material with its zero, two bytes that say
- * how many faces, and the number of each in two bytes; and at most one 4150: four bytes a face.
- */
-#define TDS_ID_MATERIAL 0xAFFFu
-#define TDS_ID_MATERIAL_NAME 0xA000u
-#define TDS_ID_AMBIENT 0xA010u
-#define TDS_ID_DIFFUSE 0xA020u
-#define TDS_ID_SPECULAR 0xA030u
-#define TDS_ID_COLOUR 0x0011u
-#define TDS_ID_FACE_GROUP 0x4130u
-#define TDS_ID_SMOOTHING 0x4150u
-
-/*
  * CALIGARI FIGURES: binary .cob files, little-endian, with the chunks END 1.0, Grou 0.01, PolH 0.02
  * and Mat1 0.05. A chunk of another type or version is stepped over by its size, but its identifier
  * and parent count. What is said at the top of slices, answers and what is filled holds here too;
  * names are not judged. The four files of other houses that were tried break the rule of 21
- * (docs/REAL_FILES.md), so try yours. The refusals of a file, in their order:
+ * (docs/REAL_FILES.md), so try yours. Each of the four calls needs 850 kilobytes of stack, however
+ * short the file: too much for a thread with a small one.
+ *
+ * TWO THINGS A VIEWER MUST KNOW, or it shows half a figure calmly:
+ *   Vertices are in the mesh's own space. The chunk's Current Position carries them to the world:
+ * three rows of four floats, x = row 1 of (x, y, z, 1), and so on. Drawn without it, all meshes
+ * fall together at one place. It stands at offset + 72 + n of the PolH chunk, where n, the length
+ * of its name, is the two bytes at offset + 22 (and the name stands at offset + 24).
+ *   The tables have only the faces with three corners and no holes; all others are left out, and no
+ * call counts them. How many faces there are in all stands in the four bytes behind the texture
+ * vertices: at offset + 120 + n are four bytes, how many vertices, and 12 bytes of each; then four
+ * bytes, how many texture vertices, and 8 bytes of each; then the count of faces and holes. Where
+ * that is more than the tables have, do not show the mesh as if it were whole.
+ *
+ * The refusals of a file, in their order:
  *
  *    1  as for a figure (place 0)
  *   20  the first 32 bytes are not "Caligari V00.01BLH", 13 spaces and a newline (place 0)
@@ -558,15 +628,16 @@ enum tds_cob_record {
  * How large are the tables of a mesh? Meshes are the PolH chunks, from number 0, in file order.
  *
  * Answers 2 and fills two numbers: how many vertices the mesh has, and how many faces with three
- * corners and no holes. Or refuses with the file's faults, 16 with the count of meshes (place), or
- * 15 with 2 (place).
+ * corners and no holes: the others are not counted (see above). Or refuses with the file's faults,
+ * 16 with the count of meshes (place), or 15 with 2 (place).
  */
 uint64_t tds_cob_sizes(const uint8_t *file, size_t file_len, uint32_t mesh, uint8_t *sizes,
                        size_t sizes_len);
 
 /*
- * The tables of a mesh: three floats a vertex, and of each face with three corners and no holes its
- * three corners, indices of vertices; four bytes each number.
+ * The tables of a mesh: three floats a vertex, in the mesh's own space, and of each face with three
+ * corners and no holes its three corners, indices of vertices; four bytes each number. See above
+ * for the way to the world, and for the faces that are left out.
  *
  * Answers the count of vertices. Or refuses with the file's faults, 16 with the count of meshes
  * (place), or 15 with the numbers needed (place), of the vertices where both slices are too small.
@@ -628,9 +699,10 @@ uint64_t tds_sum_matches(uint64_t sum, uint32_t length, uint32_t sums);
 
 /*
  * An ENTRY is four numbers, 16 bytes, in the order of enum tds_entry; tds_get_entry reads one of
- * them. The name stands elsewhere: an entry says where it begins, and how long it is. Names have 1
- * to TDS_LONGEST_NAME bytes, each from 32 to 126, and no two entries of a slip have the same. A
- * slip has at most TDS_MOST_ENTRIES entries, so at most TDS_LONGEST_SLIP bytes.
+ * them. Little-endian both ways: put them in with tds_put4 before tds_slip_write. The name stands
+ * elsewhere: an entry says where it begins, and how long it is. Names have 1 to TDS_LONGEST_NAME
+ * bytes, each from 32 to 126, and no two entries of a slip have the same. A slip has at most
+ * TDS_MOST_ENTRIES entries, so at most TDS_LONGEST_SLIP bytes.
  */
 #define TDS_ENTRY_NUMBERS 4
 #define TDS_ENTRY_BYTES (4 * TDS_ENTRY_NUMBERS)
@@ -767,17 +839,39 @@ uint64_t tds_stick_more(const uint8_t *part, size_t part_len, uint8_t *item, siz
 uint64_t tds_c4d_check(const uint8_t *file, size_t file_len);
 
 /*
- * An OBJECT is three numbers, 12 bytes, in the order of enum tds_object; tds_get_object reads one
- * of them.
+ * An OBJECT is three numbers, 12 bytes, in the order of enum tds_c4d_object; tds_get_c4d_object
+ * reads one of them.
  */
-#define TDS_OBJECT_NUMBERS 3
-#define TDS_OBJECT_BYTES (4 * TDS_OBJECT_NUMBERS)
+#define TDS_C4D_OBJECT_NUMBERS 3
+#define TDS_C4D_OBJECT_BYTES (4 * TDS_C4D_OBJECT_NUMBERS)
+
+enum tds_c4d_object {
+    TDS_C4D_OBJECT_OFFSET = 0,  /* where its T_OBJECT begins */
+    TDS_C4D_OBJECT_KIND = 1,    /* an enum tds_c4d_kind */
+    TDS_C4D_OBJECT_TEXTURES = 2 /* how many textures it has */
+};
+
+/* The nine combinations of sub-chunks, in the format's order. */
+enum tds_c4d_kind {
+    TDS_C4D_MESH = 1,
+    TDS_C4D_POLYGON = 2,
+    TDS_C4D_LIGHT = 3,
+    TDS_C4D_CAMERA = 4,
+    TDS_C4D_GROUND = 5,
+    TDS_C4D_SKY = 6,
+    TDS_C4D_SPHERE = 7,
+    TDS_C4D_ENVIRONMENT = 8,
+    TDS_C4D_OTHER = 9 /* none of these */
+};
+
+/* The same by their names before version 2.8, which say nothing of Cinema 4D. */
+#define TDS_OBJECT_NUMBERS TDS_C4D_OBJECT_NUMBERS
+#define TDS_OBJECT_BYTES TDS_C4D_OBJECT_BYTES
 
 enum tds_object {
-    TDS_OBJECT_OFFSET = 0,      /* where its T_OBJECT begins */
-    TDS_OBJECT_COMBINATION = 1, /* 1 to 9: mesh, polygon, light, camera, ground, sky, sphere,
-                                   environment, none of these */
-    TDS_OBJECT_TEXTURES = 2     /* how many textures it has */
+    TDS_OBJECT_OFFSET = TDS_C4D_OBJECT_OFFSET,
+    TDS_OBJECT_COMBINATION = TDS_C4D_OBJECT_KIND,
+    TDS_OBJECT_TEXTURES = TDS_C4D_OBJECT_TEXTURES
 };
 
 /*
@@ -786,7 +880,7 @@ enum tds_object {
  *
  * Answers the count of objects and fills as many, from the start of each slice; or refuses as
  * tds_c4d_check does, or with 15 and the objects needed (place), then with 15 and the materials
- * needed. Rooms are objects_len / TDS_OBJECT_BYTES objects and materials_len / 4 materials.
+ * needed. Rooms are objects_len / TDS_C4D_OBJECT_BYTES objects and materials_len / 4 materials.
  */
 uint64_t tds_c4d_list(const uint8_t *file, size_t file_len, uint8_t *objects, size_t objects_len,
                       uint8_t *materials, size_t materials_len);
@@ -816,6 +910,41 @@ TDS_INLINE float tds_get_float(const uint8_t *at) {
     float number;
     memcpy(&number, &bits, sizeof number);
     return number;
+}
+
+/* A number as two, and as four bytes of a slice: for the entries of tds_slip_write. */
+TDS_INLINE void tds_put2(uint8_t *at, uint16_t number) {
+    at[0] = (uint8_t)(number & 255);
+    at[1] = (uint8_t)(number >> 8);
+}
+
+TDS_INLINE void tds_put4(uint8_t *at, uint32_t number) {
+    tds_put2(at, (uint16_t)(number & 65535));
+    tds_put2(at + 2, (uint16_t)(number >> 16));
+}
+
+/*
+ * Which format a file has, by its first bytes alone: which check to ask. Whether it is a good file
+ * of that format the check tells. (A .cob file in text form is TDS_KIND_COB, and refused with 20.)
+ */
+enum tds_file_kind {
+    TDS_KIND_UNKNOWN = 0,
+    TDS_KIND_3DS = 1, /* begins with 4D 4D: tds_check */
+    TDS_KIND_COB = 2, /* begins with "Caligari ": tds_cob_check */
+    TDS_KIND_C4D = 3  /* begins with "FORM", a size and "MC4D": tds_c4d_check */
+};
+
+TDS_INLINE enum tds_file_kind tds_kind(const uint8_t *file, size_t file_len) {
+    if (file_len >= 2 && file[0] == 0x4D && file[1] == 0x4D) {
+        return TDS_KIND_3DS;
+    }
+    if (file_len >= 9 && memcmp(file, "Caligari ", 9) == 0) {
+        return TDS_KIND_COB;
+    }
+    if (file_len >= 12 && memcmp(file, "FORM", 4) == 0 && memcmp(file + 8, "MC4D", 4) == 0) {
+        return TDS_KIND_C4D;
+    }
+    return TDS_KIND_UNKNOWN;
 }
 
 /* One number of one entry of a slip. */
@@ -853,6 +982,12 @@ TDS_INLINE uint32_t tds_get_cut(const uint8_t *cuts, size_t cut, enum tds_cut nu
 }
 
 /* One number of one object of a Cinema 4D figure. */
+TDS_INLINE uint32_t tds_get_c4d_object(const uint8_t *objects, size_t object,
+                                       enum tds_c4d_object number) {
+    return tds_get4(objects + object * TDS_C4D_OBJECT_BYTES + 4 * (size_t)number);
+}
+
+/* The same by its name before version 2.8. */
 TDS_INLINE uint32_t tds_get_object(const uint8_t *objects, size_t object, enum tds_object number) {
     return tds_get4(objects + object * TDS_OBJECT_BYTES + 4 * (size_t)number);
 }

@@ -17,6 +17,7 @@ done &
 one sh tests/c/counting_test.sh
 one sh tests/c/header_test.sh
 one sh tests/c/words_test.sh
+one sh tests/c/facts_test.sh
 # RUN is a command with its arguments, so it is split.
 # shellcheck disable=SC2086
 one ${RUN:-} "$BUILD/c-test/boundary_test"

@@ -24,7 +24,8 @@ int main(void) {
            *tds_refusal_words(TDS_REFUSAL(answer)) > 0 || *tds_refusal_name(0) > 0 ||
            tds_get_record(slice, 0, TDS_RECORD_OWN) > 0 ||
            tds_get_part(slice, 0, TDS_PART_DEPTH) == TDS_NO_FATHER ||
-           tds_get_object(slice, 0, TDS_OBJECT_TEXTURES) > 0;
+           tds_get_object(slice, 0, TDS_OBJECT_TEXTURES) > 0 ||
+           tds_get_c4d_object(slice, 0, TDS_C4D_OBJECT_KIND) == TDS_C4D_OTHER || tds_kind(slice, sizeof slice) == TDS_KIND_3DS;
 }
 END
 cp "$T/use.c" "$T/use.cpp"
@@ -152,6 +153,12 @@ cp "$T/row.c" "$T/row.cpp"
 compile "$CC" c89 "$T/row.c"
 compile "$CXX" c++11 "$T/row.cpp"
 if "$CC" -Wall -Werror -DWRONG -Iinclude -c "$T/row.c" -o "$T/row.o" >"$T/out" 2>"$T/err"; then fail 'a pointer passes'; else pass; fi
+
+try 'the identifiers of the header are the rows of the table, each once and with what stands in it'
+sed -n 's/^#define TDS_ID_[A-Z_]* 0x\([0-9A-F]*\)u.*/\1/p' include/tds.h | sort >"$T/named"
+grep -oE '0x[0-9A-F]{4}\b' crates/studio_rules/specs/Table.antt | sed 's/0x//' | sort -u >"$T/table"
+if [ "$(wc -l <"$T/named")" -eq 47 ]; then pass; else fail 'not 47'; fi
+if cmp -s "$T/named" "$T/table"; then pass; else fail "$(diff "$T/named" "$T/table")"; fi
 
 try 'the struct of a record has its seven numbers where the list has them'
 cat >"$T/chunk.c" <<'END'
