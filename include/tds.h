@@ -759,6 +759,7 @@ uint64_t tds_slip_write(const uint8_t *names, size_t names_len, const uint8_t *e
  * rest zero where anything fails, for a zeroed item never passes. Of a folder set its kind and,
  * once all of its names were listed, its size. Of a file call tds_stick_file, and tds_stick_more
  * with each further part, to its end: they set all the rest. Never leave an item out.
+ * examples/launch.c does just this.
  *
  * Seven numbers an item, eight bytes each, little-endian.
  */

@@ -25,6 +25,7 @@ one ${RUN:-} "$BUILD/c-test/boundary_test"
 one ${RUN:-} "$BUILD/c-test/decide_test"
 one sh tests/c/samples_test.sh
 one sh tests/c/viewer_test.sh
+one sh tests/c/launch_test.sh
 one sh tests/c/install_test.sh
 one sh tests/c/readme_test.sh
 wait
