@@ -1,4 +1,4 @@
--- What the calls leave in a row, read back.
+-- What the calls leave in the record of an item, read back.
 use mathlib.Core.Path.{_≡_, refl, sym, ap, _∙_}
 use mathlib.Core.Bool.{Bool, true, false, cond}
 use mathlib.Core.List.{List, [], _∷_, _++_, flatten, append-nil}
@@ -29,8 +29,8 @@ use Rattle.claim_numbers.specs.Caligari.{CountTold}
 use Rattle.claim_numbers.specs.Cinema.{ObjectsTold}
 use Rattle.claim_numbers.proofs.Told.{told}
 use Rattle.stick_rules.specs.Names.{formatOf, studioEnding, cobEnding, c4dEnding, endsAs}
-use Rattle.stick_rules.specs.Rows.{eightAt}
-use Rattle.stick_evidence.specs.Evidence.{answerOf, tooLong, isMore, fileNumbers, moreNumbers, ending, inRow, fileCall, moreCall}
+use Rattle.stick_rules.specs.Records.{eightAt}
+use Rattle.stick_evidence.specs.Evidence.{answerOf, tooLong, isMore, fileNumbers, moreNumbers, ending, inItem, fileCall, moreCall}
 use Rattle.claim_stick.specs.Calls.{grown, gathered, CallsGather}
 
 -- ---- numbers of eight bytes, read back
@@ -42,13 +42,13 @@ piece (n ∷ ns) (suc i) h =
     let e : 8 * suc i ≡ length (le 8 n) + 8 * i = omega (arith, length-le 8 n) in
     ap (λ (k : ℕ). take 8 (drop k (le 8 n ++ packed 8 ns))) e ∙ ap (take 8) (drop-append-add (le 8 n) (packed 8 ns) (8 * i)) ∙ piece ns i (omega arith)
 
-read-back : (row : List ℕ) (at : ℕ) (ns : List ℕ) (i o : ℕ) → at ≤ length row → i < length ns → o ≡ at + 8 * i → getD ns i 0 < 256 ^ 8 →
-    eightAt (ending row at ns) o ≡ getD ns i 0
+read-back : (item : List ℕ) (at : ℕ) (ns : List ℕ) (i o : ℕ) → at ≤ length item → i < length ns → o ≡ at + 8 * i → getD ns i 0 < 256 ^ 8 →
+    eightAt (ending item at ns) o ≡ getD ns i 0
 unfolding eightAt
-read-back row at ns i o h l e s =
-    let p : o ≡ length (take at row) + 8 * i = omega (arith, e, length-take-le at row h) in
-    ap (λ (k : ℕ). value (take 8 (drop k (take at row ++ packed 8 ns)))) p ∙
-    ap (λ (x : List ℕ). value (take 8 x)) (drop-append-add (take at row) (packed 8 ns) (8 * i)) ∙
+read-back item at ns i o h l e s =
+    let p : o ≡ length (take at item) + 8 * i = omega (arith, e, length-take-le at item h) in
+    ap (λ (k : ℕ). value (take 8 (drop k (take at item ++ packed 8 ns)))) p ∙
+    ap (λ (x : List ℕ). value (take 8 x)) (drop-append-add (take at item) (packed 8 ns) (8 * i)) ∙
     ap value (piece ns i l) ∙ value-le 8 (getD ns i 0) s
 
 -- ---- every number fits
@@ -90,32 +90,32 @@ format-fits path = go (endsAs studioEnding path) (endsAs cobEnding path) (endsAs
     go false false true = omega arith
     go false false false = omega arith
 
--- ---- a row that holds a sum, a reader and an answer
+-- ---- a record that holds a sum, a reader and an answer
 
-record Holds (row : List ℕ) (n k a : ℕ) : Type 0 where
-  long : length row ≡ 56
-  sum-is : eightAt row 32 ≡ n
-  reader-is : eightAt row 40 ≡ k
-  answer-is : eightAt row 48 ≡ a
+record Holds (item : List ℕ) (n k a : ℕ) : Type 0 where
+  long : length item ≡ 56
+  sum-is : eightAt item 32 ≡ n
+  reader-is : eightAt item 40 ≡ k
+  answer-is : eightAt item 48 ≡ a
   reader-fits : k < 256 ^ 8
   answer-small : a < 256 ^ 8
 
-in-row : (row row′ : List ℕ) → length row ≡ 56 → inRow row row′ .rows ≡ row′
-in-row row row′ h = rw (eq-eqb (length row) 56 h)
+in-item : (item item′ : List ℕ) → length item ≡ 56 → inItem item item′ .rows ≡ item′
+in-item item item′ h = rw (eq-eqb (length item) 56 h)
 
-ending-length : (row : List ℕ) (at : ℕ) (ns : List ℕ) → at ≤ length row → length (ending row at ns) ≡ at + 8 * length ns
-ending-length row at ns h = omega (arith, length-append (take at row) (packed 8 ns), length-take-le at row h, length-packed 8 ns)
+ending-length : (item : List ℕ) (at : ℕ) (ns : List ℕ) → at ≤ length item → length (ending item at ns) ≡ at + 8 * length ns
+ending-length item at ns h = omega (arith, length-append (take at item) (packed 8 ns), length-take-le at item h, length-packed 8 ns)
 
-file-holds : (path : List ℕ) (size : ℕ) (s row : List ℕ) → length row ≡ 56 →
-    Holds (fileCall path size s row .rows) (withPartNumber 0 s) (formatOf path) (answerOf (formatOf path) s)
-file-holds path size s row h =
+file-holds : (path : List ℕ) (size : ℕ) (s item : List ℕ) → length item ≡ 56 →
+    Holds (fileCall path size s item .rows) (withPartNumber 0 s) (formatOf path) (answerOf (formatOf path) s)
+file-holds path size s item h =
     let ns = fileNumbers path size s in
-    let e = in-row row (ending row 16 ns) h in
+    let e = in-item item (ending item 16 ns) h in
     record {
-      long = ap length e ∙ omega (arith, ending-length row 16 ns (omega arith));
-      sum-is = ap (λ (x : List ℕ). eightAt x 32) e ∙ read-back row 16 ns 2 32 (omega arith) (omega arith) refl (sum-fits 0 s);
-      reader-is = ap (λ (x : List ℕ). eightAt x 40) e ∙ read-back row 16 ns 3 40 (omega arith) (omega arith) refl (format-fits path);
-      answer-is = ap (λ (x : List ℕ). eightAt x 48) e ∙ read-back row 16 ns 4 48 (omega arith) (omega arith) refl (answer-fits (formatOf path) s);
+      long = ap length e ∙ omega (arith, ending-length item 16 ns (omega arith));
+      sum-is = ap (λ (x : List ℕ). eightAt x 32) e ∙ read-back item 16 ns 2 32 (omega arith) (omega arith) refl (sum-fits 0 s);
+      reader-is = ap (λ (x : List ℕ). eightAt x 40) e ∙ read-back item 16 ns 3 40 (omega arith) (omega arith) refl (format-fits path);
+      answer-is = ap (λ (x : List ℕ). eightAt x 48) e ∙ read-back item 16 ns 4 48 (omega arith) (omega arith) refl (answer-fits (formatOf path) s);
       reader-fits = format-fits path;
       answer-small = answer-fits (formatOf path) s;
     }
@@ -130,22 +130,22 @@ next-fits k part a h = go (isMore k part)
     go true = omega arith
     go false = h
 
-more-holds : (part row : List ℕ) (n k a : ℕ) → Holds row n k a → Holds (moreCall part row .rows) (withPartNumber n part) k (next k part a)
-more-holds part row n k a g =
-    let ns = moreNumbers part row in
-    let e = in-row row (ending row 32 ns) (g .long) in
-    let l : 32 ≤ length row = omega (arith, g .long) in
-    let r : eightAt row 40 < 256 ^ 8 = rw (g .reader-is) (g .reader-fits) in
-    let d : next (eightAt row 40) part (eightAt row 48) ≡ next k part a =
-    ap (λ (x : ℕ). next x part (eightAt row 48)) (g .reader-is) ∙ ap (λ (x : ℕ). next k part x) (g .answer-is) in
+more-holds : (part item : List ℕ) (n k a : ℕ) → Holds item n k a → Holds (moreCall part item .rows) (withPartNumber n part) k (next k part a)
+more-holds part item n k a g =
+    let ns = moreNumbers part item in
+    let e = in-item item (ending item 32 ns) (g .long) in
+    let l : 32 ≤ length item = omega (arith, g .long) in
+    let r : eightAt item 40 < 256 ^ 8 = rw (g .reader-is) (g .reader-fits) in
+    let d : next (eightAt item 40) part (eightAt item 48) ≡ next k part a =
+    ap (λ (x : ℕ). next x part (eightAt item 48)) (g .reader-is) ∙ ap (λ (x : ℕ). next k part x) (g .answer-is) in
     let f = next-fits k part a (g .answer-small) in
-    let f′ : next (eightAt row 40) part (eightAt row 48) < 256 ^ 8 = omega (arith, d, f) in
+    let f′ : next (eightAt item 40) part (eightAt item 48) < 256 ^ 8 = omega (arith, d, f) in
     record {
-      long = ap length e ∙ omega (arith, ending-length row 32 ns l);
-      sum-is = ap (λ (x : List ℕ). eightAt x 32) e ∙ read-back row 32 ns 0 32 l (omega arith) refl (sum-fits (eightAt row 32) part) ∙
+      long = ap length e ∙ omega (arith, ending-length item 32 ns l);
+      sum-is = ap (λ (x : List ℕ). eightAt x 32) e ∙ read-back item 32 ns 0 32 l (omega arith) refl (sum-fits (eightAt item 32) part) ∙
           ap (λ (x : ℕ). withPartNumber x part) (g .sum-is);
-      reader-is = ap (λ (x : List ℕ). eightAt x 40) e ∙ read-back row 32 ns 1 40 l (omega arith) refl r ∙ g .reader-is;
-      answer-is = ap (λ (x : List ℕ). eightAt x 48) e ∙ read-back row 32 ns 2 48 l (omega arith) refl f′ ∙ d;
+      reader-is = ap (λ (x : List ℕ). eightAt x 40) e ∙ read-back item 32 ns 1 40 l (omega arith) refl r ∙ g .reader-is;
+      answer-is = ap (λ (x : List ℕ). eightAt x 48) e ∙ read-back item 32 ns 2 48 l (omega arith) refl f′ ∙ d;
       reader-fits = g .reader-fits;
       answer-small = f;
     }
@@ -156,12 +156,12 @@ abbrev final : ℕ → ℕ → List (List ℕ) → ℕ
 final k a [] = a
 final k a (part ∷ parts) = final k (next k part a) parts
 
-grown-holds : (parts : List (List ℕ)) (row : List ℕ) (n k a : ℕ) → Holds row n k a → Holds (grown row parts) (byParts n parts) k (final k a parts)
-grown-holds [] row n k a g = g
-grown-holds (part ∷ parts) row n k a g =
-    grown-holds parts (moreCall part row .rows) (withPartNumber n part) k (next k part a) (more-holds part row n k a g)
+grown-holds : (parts : List (List ℕ)) (item : List ℕ) (n k a : ℕ) → Holds item n k a → Holds (grown item parts) (byParts n parts) k (final k a parts)
+grown-holds [] item n k a g = g
+grown-holds (part ∷ parts) item n k a g =
+    grown-holds parts (moreCall part item .rows) (withPartNumber n part) k (next k part a) (more-holds part item n k a g)
 
--- an answer that is no refusal is the first one, and nothing came behind it
+-- an answer that is no refusal is the first one, and nothing came after it
 record Alone (k a : ℕ) (parts : List (List ℕ)) : Type 0 where
   same : final k a parts ≡ a
   alone : (k ≡ 0 → ⊥) → flatten parts ≡ []
@@ -187,7 +187,7 @@ alone k a (part ∷ parts) h = go (eqb k 0) refl (eqb (length part) 0) refl (alo
         let e : next k part a ≡ tooLong = rw (p, q) in
         absurd (omega (arith, h, r .same, e))
 
--- a number of the i-th row
+-- a number of the i-th record
 slot : (s : List ℕ) (at o : ℕ) → o + 8 ≤ 56 → eightAt s (at + o) ≡ eightAt (take 56 (drop at s)) o
 unfolding eightAt
 slot s at o h =
@@ -198,9 +198,9 @@ slot s at o h =
 
 pub calls-gather : CallsGather
 unfolding flatten
-calls-gather names items path size first parts row i h q b =
-    let g = grown-holds parts (fileCall path size first row .rows) (withPartNumber 0 first) (formatOf path) (answerOf (formatOf path) first) (file-holds path size first row h) in
-    let at : (o n : ℕ) → o + 8 ≤ 56 → eightAt (gathered path size first parts row) o ≡ n → eightAt items (56 * i + o) ≡ n =
+calls-gather names items path size first parts item i h q b =
+    let g = grown-holds parts (fileCall path size first item .rows) (withPartNumber 0 first) (formatOf path) (answerOf (formatOf path) first) (file-holds path size first item h) in
+    let at : (o n : ℕ) → o + 8 ≤ 56 → eightAt (gathered path size first parts item) o ≡ n → eightAt items (56 * i + o) ≡ n =
     λ o n f e. slot items (56 * i) o f ∙ ap (λ (x : List ℕ). eightAt x o) q ∙ e in
     let answer = at 48 (final (formatOf path) (answerOf (formatOf path) first) parts) (omega arith) (g .answer-is) in
     record {

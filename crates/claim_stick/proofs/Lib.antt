@@ -1,2 +1,3 @@
 pub mod Verified
 pub mod Calls
+pub mod Passes

@@ -1,7 +1,7 @@
 -- A pass is sure.
 use mathlib.Core.Path.{_≡_, refl, ap, _∙_, subst}
 use mathlib.Core.Bool.{Bool, true, false, cond}
-use mathlib.Core.List.{List, [], _∷_}
+use mathlib.Core.List.{List, [], _∷_, tail}
 use mathlib.Core.Option.{some}
 use Prim.Native.Nat.{ℕ, _-_, _*_, _/_, _%_, _^_, _<_, _≤_}
 use native.Mathlib.Omega.{arith}
@@ -9,7 +9,7 @@ use lib.Dec.{eqb, leb}
 use lib.ListN.{length, length-append}
 use borrow.Author.Tests.{eqb-true, leb-true}
 use Rattle.shared_words.specs.Bytes.{Bytes}
-use Rattle.shared_words.specs.Lists.{All}
+use Rattle.shared_words.specs.Lists.{All, Pairwise}
 use Rattle.shared_words.specs.declared.Refusal.{Refusal}
 use Rattle.shared_words.specs.Conditions.{Answer, refused, accepted}
 use Rattle.shared_words.proofs.Bools.{and-parts}
@@ -39,12 +39,12 @@ use Rattle.c_cob.specs.Codes.{countOr}
 use Rattle.c_c4d.specs.Codes.{objectsOr}
 use Rattle.c_sums.specs.Numbers.{partNumber}
 use Rattle.c_sums.proofs.Numbers.{number-by-parts}
-use Rattle.stick_rules.specs.declared.Problem.the-variants.{OfSlip, Unchecked}
-use Rattle.stick_rules.specs.declared.Judged.{Judged}
+use Rattle.shared_words.specs.declared.Refusal.the-variants.{Unchecked}
+use Rattle.shared_words.specs.declared.Judged.{Judged}
 use Rattle.stick_rules.specs.Names.{equalIgnoringCase, formatOf}
 use Rattle.stick_rules.specs.Items.{Item, isRead, sumsOf}
-use Rattle.stick_rules.specs.Judge.{manifest, behind, entryOf, judgement}
-use Rattle.stick_rules.specs.Rows.{itemCount, itemsIn, judgeRows, judgeCall}
+use Rattle.stick_rules.specs.Judge.{manifest, entryOf, judgement}
+use Rattle.stick_rules.specs.Records.{itemCount, itemsIn, judgeRecords, judgeCall}
 use Rattle.stick_rules.specs.Theorems.{agrees, InOrder, IsRoot, Rooted}
 use Rattle.stick_rules.specs.Theorems.InOrder.{folder, file}
 use Rattle.stick_rules.proofs.Answers.{never}
@@ -52,8 +52,8 @@ use Rattle.stick_rules.proofs.Exact.{passes-exactly}
 use Rattle.stick_rules.proofs.Plain.{in-plain-words}
 use Rattle.stick_rules.proofs.Distinct.{nothing-more}
 use Rattle.c_stick.proofs.One.{pass-is-one}
-use Rattle.claim_stick.specs.Evidence.{EvidenceOf, Each, OfFile}
-use Rattle.claim_stick.specs.Verified.{InFormat, said, VerifiedFile, Verified, PassIsVerified}
+use Rattle.claim_stick.specs.Evidence.{EvidenceOf, OfFile}
+use Rattle.claim_stick.specs.Verified.{InFormat, entrySum, VerifiedFile, Verified, PassIsVerified}
 
 refusal-large : {A : Type 0} (r : Refusal) → refusalCode r < 2 ^ 32 → A
 refusal-large r h = absurd (omega (arith, numbered r .from))
@@ -140,7 +140,7 @@ of-entry P (x ∷ es) a path e h = go (of-entry P es (a .1) path e) (equalIgnori
 
 -- ---- the bytes are those of the entry
 
-same-sums : (s : List ℕ) (t : Item) (e : Entry) → EvidenceOf s t → agrees e t ≡ true → isRead t ≡ true → Fine e → sumOf s ≡ said e
+same-sums : (s : List ℕ) (t : Item) (e : Entry) → EvidenceOf s t → agrees e t ≡ true → isRead t ≡ true → Fine e → sumOf s ≡ entrySum e
 same-sums s t e g a r f =
     let n : t .checksum ≡ partNumber s = g .sum-is ∙ number-by-parts (g .parts) ∙ ap partNumber (g .all-parts) in
     let p = and-parts (eqb (t .size) (e .file)) (eqb (t .checksum % 65_536) (sumsOf e)) a in
@@ -167,8 +167,8 @@ sound es fine s t (file e k w q a) g f = record {
   in-format = in-format s t (g f) (a .judged) (a .accepted);
 }
 
-all-sound : (es : List Entry) → All Fine es → (ss : List (List ℕ)) (ts : List Item) → All (InOrder es) ts → Each (OfFile EvidenceOf) ss ts →
-    Each (OfFile (VerifiedFile es)) ss ts
+all-sound : (es : List Entry) → All Fine es → (ss : List (List ℕ)) (ts : List Item) → All (InOrder es) ts → Pairwise (OfFile EvidenceOf) ss ts →
+    Pairwise (OfFile (VerifiedFile es)) ss ts
 all-sound es fine [] [] o g = tt
 all-sound es fine [] (t ∷ ts) o g = absurd g
 all-sound es fine (s ∷ ss) [] o g = absurd g
@@ -181,15 +181,15 @@ root-sound es s t r f =
     let b = eqb-true (t .kind) 2 (r .is-folder) in
     absurd (omega arith)
 
-items-sound : (es : List Entry) → All Fine es → (ss : List (List ℕ)) (ts : List Item) → Rooted ts → All (InOrder es) (behind ts) →
-    Each (OfFile EvidenceOf) ss ts → Each (OfFile (VerifiedFile es)) ss ts
+items-sound : (es : List Entry) → All Fine es → (ss : List (List ℕ)) (ts : List Item) → Rooted ts → All (InOrder es) (tail ts) →
+    Pairwise (OfFile EvidenceOf) ss ts → Pairwise (OfFile (VerifiedFile es)) ss ts
 items-sound es fine ss [] r o g = absurd r
 items-sound es fine [] (t ∷ ts) r o g = absurd g
 items-sound es fine (s ∷ ss) (t ∷ ts) r o g = (root-sound es s t r, all-sound es fine ss ts o (g .1))
 
 -- ---- the call
 
-good-is-sure : (slip names items : List ℕ) (contents : List (List ℕ)) → Bytes slip → Each (OfFile EvidenceOf) contents (itemsIn names items) →
+good-is-sure : (slip names items : List ℕ) (contents : List (List ℕ)) → Bytes slip → Pairwise (OfFile EvidenceOf) contents (itemsIn names items) →
     judgeCall slip names items ≡ Judged.Good → Verified slip (itemsIn names items) contents
 unfolding judgeCall
 good-is-sure slip names items contents b g h = go (slipVerdict slip) refl h
@@ -209,9 +209,9 @@ good-is-sure slip names items contents b g h = go (slipVerdict slip) refl h
           every-entry = in-plain-words (manifest slip es) (itemsIn names items) h .every-entry;
         }
 
-    go : (a : Entries) → slipVerdict slip ≡ a → judgeRows slip a names items ≡ Judged.Good → Verified slip (itemsIn names items) contents
-    go (refused r) q h = never (OfSlip r) h
+    go : (a : Entries) → slipVerdict slip ≡ a → judgeRecords slip a names items ≡ Judged.Good → Verified slip (itemsIn names items) contents
+    go (refused r) q h = never r h
     go (accepted es) q h = sure es q (eqb (length items % 56) 0) h
 
-pub pass-is-sure : PassIsVerified
-pass-is-sure slip names items contents b g h = good-is-sure slip names items contents b g (pass-is-one (judgeCall slip names items) .0 h)
+pub pass-is-verified : PassIsVerified
+pass-is-verified slip names items contents b g h = good-is-sure slip names items contents b g (pass-is-one (judgeCall slip names items) .0 h)

@@ -1,7 +1,7 @@
 -- What the tool owes the judge: the evidence for a file is made of its bytes.
 use mathlib.Core.Path.{_≡_}
 use mathlib.Core.Bool.{true}
-use mathlib.Core.List.{List, [], _∷_, flatten}
+use mathlib.Core.List.{List, flatten}
 use Prim.Native.Nat.{ℕ, _^_, _<_}
 use Rattle.shared_words.specs.Bytes.{Bytes}
 use Rattle.c_sums.specs.Numbers.{byParts}
@@ -16,13 +16,6 @@ pub record EvidenceOf (s : List ℕ) (t : Item) : Type 0 where
   pub all-parts : flatten parts ≡ s
   pub sum-is : t .checksum ≡ byParts 0 parts
   pub answer-is : t .answer < 2 ^ 32 → t .answer ≡ answerOf (t .reader) s
-
--- a relation of what stands in items, one by one, to the items
-abbrev pub Each : (List ℕ → Item → Type 0) → List (List ℕ) → List Item → Type 0
-Each R [] [] = Unit
-Each R [] (t ∷ ts) = ⊥
-Each R (s ∷ ss) [] = ⊥
-Each R (s ∷ ss) (t ∷ ts) = R s t × Each R ss ts
 
 -- of each file; what stands in place of the bytes of anything else does not matter
 abbrev pub OfFile : (List ℕ → Item → Type 0) → List ℕ → Item → Type 0

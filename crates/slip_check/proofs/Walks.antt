@@ -61,7 +61,7 @@ pub names-more : (n : ℕ) (s : List ℕ) (o : ℕ) → remember (namesIn n s o)
 names-more zero s o = refl
 names-more (suc n) s o = ap (λ (x : List (List ℕ)). entryIn s o .name ∷ x) (names-more n s (nextAt s o))
 
-after-more : (n : ℕ) (s : List ℕ) (o : ℕ) → after (suc n) s o ≡ nextAt s (after n s o)
+pub after-more : (n : ℕ) (s : List ℕ) (o : ℕ) → after (suc n) s o ≡ nextAt s (after n s o)
 after-more zero s o = refl
 after-more (suc n) s o = after-more n s (nextAt s o)
 

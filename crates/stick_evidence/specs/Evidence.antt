@@ -1,4 +1,4 @@
--- The evidence for a file, made by the library: what stands in its row behind the place of its name.
+-- The evidence for a file, made by the library: what stands in its record behind the two numbers of its name.
 use mathlib.Core.Bool.{Bool, not, _&&_, cond}
 use mathlib.Core.List.{List, [], _∷_, _++_}
 use Prim.Native.Nat.{ℕ, _^_}
@@ -15,7 +15,7 @@ use Rattle.c_cob.specs.Codes.{countOr}
 use Rattle.c_c4d.specs.Codes.{objectsOr}
 use Rattle.c_sums.specs.Numbers.{withPartNumber}
 use Rattle.stick_rules.specs.Names.{formatOf}
-use Rattle.stick_rules.specs.Rows.{rowSize, eightAt}
+use Rattle.stick_rules.specs.Records.{recordSize, eightAt}
 
 -- what a reader answers of these bytes: tds_check, tds_cob_check, tds_c4d_check; 0 where none is asked
 abbrev pub answerOf : ℕ → List ℕ → ℕ
@@ -38,19 +38,19 @@ abbrev pub isMore : ℕ → List ℕ → Bool
 isMore reader part = not (eqb reader 0) && not (eqb (length part) 0)
 
 abbrev pub moreNumbers : List ℕ → List ℕ → List ℕ
-moreNumbers part row =
-    withPartNumber (eightAt row 32) part ∷ eightAt row 40 ∷ cond (isMore (eightAt row 40) part) tooLong (eightAt row 48) ∷ []
+moreNumbers part item =
+    withPartNumber (eightAt item 32) part ∷ eightAt item 40 ∷ cond (isMore (eightAt item 40) part) tooLong (eightAt item 48) ∷ []
 
--- ---- the calls: 0, and the row with these numbers from an offset to its end; or 15 with its size, and the row as it was
+-- ---- the calls: 0, and the item with these numbers from an offset to its end; or 15 with its size, and the item as it was
 
 abbrev pub ending : List ℕ → ℕ → List ℕ → List ℕ
-ending row at numbers = take at row ++ packed 8 numbers
+ending item at numbers = take at item ++ packed 8 numbers
 
-abbrev pub inRow : List ℕ → List ℕ → Effect ℕ (List ℕ)
-inRow row row′ = cond (eqb (length row) rowSize) (leaving 0 row′) (leaving (refusalCode (NoRoom rowSize)) row)
+abbrev pub inItem : List ℕ → List ℕ → Effect ℕ (List ℕ)
+inItem item item′ = cond (eqb (length item) recordSize) (leaving 0 item′) (leaving (refusalCode (NoRoom recordSize)) item)
 
 abbrev pub fileCall : List ℕ → ℕ → List ℕ → List ℕ → Effect ℕ (List ℕ)
-fileCall path size s row = inRow row (ending row 16 (fileNumbers path size s))
+fileCall path size s item = inItem item (ending item 16 (fileNumbers path size s))
 
 abbrev pub moreCall : List ℕ → List ℕ → Effect ℕ (List ℕ)
-moreCall part row = inRow row (ending row 32 (moreNumbers part row))
+moreCall part item = inItem item (ending item 32 (moreNumbers part item))

@@ -1,11 +1,11 @@
-// The evidence for a file of a stick: its row, filled from its bytes.
+// The evidence for a file of a stick: the record of its item, filled from its bytes.
 use c_codes::checked_code;
 use c_codes::refusal_code;
 use c_sums::sum_add;
 use shared_numbers::put_long;
 use shared_words::Refusal;
 use stick_names::format_of;
-use stick_rows::eight_at;
+use stick_records::eight_at;
 ghost use mathlib.Core.Path.{_≡_};
 ghost use mathlib.Core.Bool.{cond};
 ghost use Prim.Native.Nat.{_+_, _*_, _≤_};
@@ -14,7 +14,7 @@ ghost use Rattle.shared_words.specs.Bytes.{le};
 ghost use Rattle.shared_numbers.specs.Put.{Put};
 ghost use Rattle.stick_evidence.specs.Evidence.{answerOf, tooLong, isMore, ending, fileCall, moreCall};
 
-// ---- numbers into a row
+// ---- numbers into a record
 
 // Puts an 8-byte number at a position of out, and answers the position behind it.
 fn put_eight(v: u64, at: usize, out: &mut [u8]) -> usize
@@ -56,7 +56,7 @@ fn answer_of(reader: u64, bytes: &[u8]) -> u64
     0
 }
 
-// Fills the row of a file from its path, the size that the system told, and its bytes.
+// Fills the record of a file from its path, the size that the system told, and its bytes.
 pub fn file(path: &[u8], size: u64, bytes: &[u8], item: &mut [u8]) -> u64
     ensures answer { λ n. ⌜ n ≡ fileCall (now (path .entry)) size (now (bytes .entry)) (now (item .entry)) .answer ⌝ }
     ensures row { λ _. ⌜ now (item .exit) ≡ fileCall (now (path .entry)) size (now (bytes .entry)) (now (item .entry)) .rows ⌝ }
@@ -87,7 +87,7 @@ fn more_answer(reader: u64, part: &[u8], answer: u64) -> u64
     4294967296
 }
 
-// Goes on in the row of a file with a further part of its bytes.
+// Goes on in the record of a file with a further part of its bytes.
 pub fn more(part: &[u8], item: &mut [u8]) -> u64
     ensures answer { λ n. ⌜ n ≡ moreCall (now (part .entry)) (now (item .entry)) .answer ⌝ }
     ensures row { λ _. ⌜ now (item .exit) ≡ moreCall (now (part .entry)) (now (item .entry)) .rows ⌝ }

@@ -4,6 +4,7 @@ use mathlib.Core.Bool.{Bool, true, false, not, and-false}
 use mathlib.Core.List.{List, [], _∷_}
 use mathlib.Core.Option.{Option, some}
 use Prim.Native.Nat.{ℕ, zero, suc, _+_, _-_, _*_, _<_, _≤_}
+use native.Mathlib.Numerals.{add-one}
 use native.Mathlib.Omega.{arith}
 use lib.Dec.{eqb}
 use lib.ListN.{length, take, drop, getD}
@@ -16,22 +17,23 @@ use Rattle.shared_numbers.proofs.At.{head-is}
 use Rattle.slip_check.proofs.Good.{first-is, second-is}
 use Rattle.slip_rules.specs.Slip.{Entry}
 use Rattle.slip_rules.specs.Walk.{entryAt}
-use Rattle.slip_check.specs.Entries.{entryIn, nextAt, entriesIn, Whole}
+use Rattle.slip_check.specs.Entries.{entryIn, nextAt, entriesIn, after, Whole}
+use Rattle.slip_check.proofs.Walks.{after-more}
 use Rattle.slip_check.proofs.Names.{whole-first, whole-on}
 use Rattle.stick_rules.specs.Names.{lower, equalIgnoringCase, isInside, belongs, slipName}
-use Rattle.stick_rules.specs.Items.{isLong, isSummed}
-use Rattle.stick_rules.specs.Judge.{slipEntry, manifest, place, entryOf, entryIs}
+use Rattle.stick_rules.specs.Items.{hasLengthOf, hasSumsOf}
+use Rattle.stick_rules.specs.Judge.{slipEntry, manifest, entryIndex, entryOf, entryIs}
 use Rattle.stick_judge.specs.declared.Sought.{Sought}
 use Rattle.stick_judge.specs.Judging.{Is, Finds}
 
 -- the first entry is that of the path, or it is looked for in the rest
 module _ (e : Entry) (es : List Entry) (path : List ℕ) where
-  place-here : (file : Bool) → belongs file (e .name) path ≡ true → place file (e ∷ es) path ≡ 0
-  unfolding place
+  place-here : (file : Bool) → belongs file (e .name) path ≡ true → entryIndex file (e ∷ es) path ≡ 0
+  unfolding entryIndex
   place-here file h = rw h
 
-  place-later : (file : Bool) → belongs file (e .name) path ≡ false → place file (e ∷ es) path ≡ suc (place file es path)
-  unfolding place
+  place-later : (file : Bool) → belongs file (e .name) path ≡ false → entryIndex file (e ∷ es) path ≡ suc (entryIndex file es path)
+  unfolding entryIndex
   place-later file h = rw h
 
   entry-here : (file : Bool) → file ≡ true → belongs file (e .name) path ≡ true → entryOf (e ∷ es) path ≡ some e
@@ -43,12 +45,12 @@ module _ (e : Entry) (es : List Entry) (path : List ℕ) where
   entry-later file f h = let a : equalIgnoringCase (e .name) path ≡ false = rw f at h in rw a
 
 -- what is found where the entry of the path is e
-finds : (file : Bool) (all : List Entry) (path : List ℕ) (e : Entry) (n : ℕ) (r : Sought) → Is e n r → n ≡ place file all path →
+finds : (file : Bool) (all : List Entry) (path : List ℕ) (e : Entry) (n : ℕ) (r : Sought) → Is e n r → n ≡ entryIndex file all path →
     (file ≡ true → entryOf all path ≡ some e) → Finds file all path r
 finds file all path e n r i p q = record {
   numbered = i .numbered ∙ p;
-  long = λ f l t. ap (λ (o : Option Entry). entryIs isLong o t) (q f) ∙ rw (i .file-is);
-  summed = λ f l t. ap (λ (o : Option Entry). entryIs isSummed o t) (q f) ∙ rw (i .sums-is);
+  long = λ f l t. ap (λ (o : Option Entry). entryIs hasLengthOf o t) (q f) ∙ rw (i .file-is);
+  summed = λ f l t. ap (λ (o : Option Entry). entryIs hasSumsOf o t) (q f) ∙ rw (i .sums-is);
 }
 
 -- ---- the search: the k entries before offset o do not belong to the path
@@ -60,7 +62,8 @@ module _ (file : Bool) (slip path : List ℕ) (entries : ℕ) where
   pub record Seeks (k o : ℕ) : Type 0 where
     pub few : k ≤ entries
     pub whole : Whole (entries - k) slip o
-    pub placed : place file all path ≡ k + 1 + place file (entriesIn (entries - k) slip o) path
+    pub stands : o ≡ after k slip 7
+    pub placed : entryIndex file all path ≡ k + 1 + entryIndex file (entriesIn (entries - k) slip o) path
     pub entered : file ≡ true → entryOf all path ≡ entryOf (entriesIn (entries - k) slip o) path
 
   pub seeks-own : (r : Sought) → belongs file slipName path ≡ true → Is (slipEntry slip) 0 r → Finds file all path r
@@ -74,6 +77,7 @@ module _ (file : Bool) (slip path : List ℕ) (entries : ℕ) where
       record {
         few = omega arith;
         whole = rw z w;
+        stands = refl;
         placed = rw z (place-later (slipEntry slip) (entriesIn entries slip 7) path file h ∙ omega arith);
         entered = λ f. rw z (entry-later (slipEntry slip) (entriesIn entries slip 7) path file f h);
       }
@@ -92,8 +96,8 @@ module _ (file : Bool) (slip path : List ℕ) (entries : ℕ) where
     abbrev others : List Entry
     others = entriesIn (entries - k - 1) slip (nextAt slip o)
 
-    placed-here : place file all path ≡ k + 1 + place file (entryIn slip o ∷ others) path
-    placed-here = s .placed ∙ ap (λ (x : List Entry). k + 1 + place file x path) split
+    placed-here : entryIndex file all path ≡ k + 1 + entryIndex file (entryIn slip o ∷ others) path
+    placed-here = s .placed ∙ ap (λ (x : List Entry). k + 1 + entryIndex file x path) split
 
     entered-here : file ≡ true → entryOf all path ≡ entryOf (entryIn slip o ∷ others) path
     entered-here f = s .entered f ∙ ap (λ (x : List Entry). entryOf x path) split
@@ -109,6 +113,7 @@ module _ (file : Bool) (slip path : List ℕ) (entries : ℕ) where
         record {
           few = omega arith;
           whole = rw z (whole-on slip o (entries - k) (omega arith) (s .whole));
+          stands = rw (add-one k) (ap (nextAt slip) (s .stands) ∙ sym (after-more k slip 7));
           placed = rw z (omega (arith, placed-here, place-later (entryIn slip o) others path file h));
           entered = λ f. rw z (entered-here f ∙ entry-later (entryIn slip o) others path file f h);
         }
@@ -118,10 +123,10 @@ module _ (file : Bool) (slip path : List ℕ) (entries : ℕ) where
   length-in (suc n) o = ap suc (length-in n (nextAt slip o))
 
   pub seeks-end : (k o : ℕ) (r : Sought) → Seeks k o → entries ≤ k → r .number ≡ entries + 1 → Finds file all path r
-  unfolding place
+  unfolding entryIndex
   seeks-end k o r s l n =
       let z : entries - k ≡ 0 = omega arith in
-      let p : place file all path ≡ k + 1 + 0 = rw z at (s .placed) in
+      let p : entryIndex file all path ≡ k + 1 + 0 = rw z at (s .placed) in
       record {
         numbered = omega (arith, p, s .few);
         long = λ f m t. absurd (omega (arith, length-in entries 7));

@@ -1,4 +1,4 @@
--- One item judged, and the flags behind it.
+-- One item judged, and the flags after it.
 use mathlib.Core.Path.{_≡_, refl, sym, ap, _∙_}
 use mathlib.Core.Bool.{Bool, true, false, not, _||_, true≢false, cond}
 use mathlib.Core.List.{List, _∷_}
@@ -11,17 +11,17 @@ use borrow.Author.Tests.{eqb-true, eq-eqb, ne-eqb, lt-ltb, ltb-true, le-ltb, leb
 use Rattle.shared_words.proofs.Bools.{both, and-parts}
 use Rattle.slip_rules.specs.Slip.{Entry}
 use Rattle.slip_check.specs.Entries.{nextAt, entriesIn}
-use Rattle.stick_rules.specs.declared.Problem.{Problem}
-use Rattle.stick_rules.specs.declared.Problem.the-variants.{Unchecked, Unexpected}
-use Rattle.stick_rules.specs.declared.Judged.{Judged}
-use Rattle.stick_rules.specs.declared.Row.{Row}
-use Rattle.stick_rules.specs.Conditions.{answered}
+use Rattle.shared_words.specs.declared.Refusal.{Refusal}
+use Rattle.shared_words.specs.declared.Refusal.the-variants.{Unchecked, Unexpected}
+use Rattle.shared_words.specs.declared.Judged.{Judged}
+use Rattle.stick_rules.specs.declared.ItemRecord.{ItemRecord}
+use Rattle.shared_words.specs.Conditions.{answered, broken}
 use Rattle.stick_rules.proofs.Answers.{never}
 use Rattle.stick_rules.specs.Items.{Item, isFile, isFolder, isShort, isListed}
-use Rattle.stick_rules.specs.Judge.{manifest, place, Mark, isMark, isMatched, isFree, itemConditions}
-use Rattle.stick_rules.specs.Rows.{seen}
+use Rattle.stick_rules.specs.Judge.{manifest, entryIndex, Target, isTarget, isMatched, isNoEntry, itemConditions}
+use Rattle.stick_rules.specs.Records.{seen}
 use Rattle.stick_judge.specs.declared.Sought.{Sought}
-use Rattle.stick_judge.specs.Judging.{Finds, evidence, Marks, JudgesItem}
+use Rattle.stick_judge.specs.Judging.{Finds, evidence, Flags, JudgesItem}
 
 length-in : (slip : List ℕ) (n o : ℕ) → length (entriesIn n slip o) ≡ n
 length-in slip zero o = refl
@@ -31,7 +31,7 @@ pub length-expected : (slip : List ℕ) (n : ℕ) → length (manifest slip (ent
 length-expected slip n = omega (arith, length-in slip n 7)
 
 -- a row that is seen as something has its path among the names
-pub seen-within : (names : List ℕ) (r : Row) → (seen names r .kind ≡ 0 → ⊥) → r .name + r .len ≤ length names
+pub seen-within : (names : List ℕ) (r : ItemRecord) → (seen names r .kind ≡ 0 → ⊥) → r .name + r .len ≤ length names
 seen-within names r n = go (leb (r .name + r .len) (length names)) refl n
   where
     go : (b : Bool) → leb (r .name + r .len) (length names) ≡ b → (cond b (r .kind) 0 ≡ 0 → ⊥) → r .name + r .len ≤ length names
@@ -41,11 +41,11 @@ seen-within names r n = go (leb (r .name + r .len) (length names)) refl n
 -- ---- flags
 
 -- one more is set
-pub marks-more : (flags : List ℕ) (matched : List Mark) (x : Mark) → x .upTo < 64 → 64 * x .entry + x .upTo < length flags → Marks flags matched →
-    Marks (set flags (64 * x .entry + x .upTo) 1) (x ∷ matched)
-marks-more flags matched x s l m k n h p = go (isMark k n x) refl
+pub marks-more : (flags : List ℕ) (matched : List Target) (x : Target) → x .upTo < 64 → 64 * x .entry + x .upTo < length flags → Flags flags matched →
+    Flags (set flags (64 * x .entry + x .upTo) 1) (x ∷ matched)
+marks-more flags matched x s l m k n h p = go (isTarget k n x) refl
   where
-    go : (b : Bool) → isMark k n x ≡ b → not (eqb (getD (set flags (64 * x .entry + x .upTo) 1) (64 * k + n) 0) 0) ≡ (b || isMatched k n matched)
+    go : (b : Bool) → isTarget k n x ≡ b → not (eqb (getD (set flags (64 * x .entry + x .upTo) 1) (64 * k + n) 0) 0) ≡ (b || isMatched k n matched)
     go true q =
         let p = and-parts (eqb k (x .entry)) (eqb n (x .upTo)) q in
         let e = eqb-true k (x .entry) (p .0) in
@@ -59,11 +59,11 @@ marks-more flags matched x s l m k n h p = go (isMark k n x) refl
         rw (getD-set-other flags (64 * x .entry + x .upTo) (64 * k + n) 1 0 other) (m k n h (omega (arith, length-set flags (64 * x .entry + x .upTo) 1)))
 
 -- a flag that is set, and one that is not
-pub flag-set : (flags : List ℕ) (matched : List Mark) → Marks flags matched → (k n : ℕ) → n < 64 → 64 * k + n < length flags →
+pub flag-set : (flags : List ℕ) (matched : List Target) → Flags flags matched → (k n : ℕ) → n < 64 → 64 * k + n < length flags →
     (getD flags (64 * k + n) 0 ≡ 0 → ⊥) → isMatched k n matched ≡ true
 flag-set flags matched m k n h l f = sym (m k n h l) ∙ rw (ne-eqb _ _ f)
 
-pub flag-unset : (flags : List ℕ) (matched : List Mark) → Marks flags matched → (k n : ℕ) → n < 64 → 64 * k + n < length flags →
+pub flag-unset : (flags : List ℕ) (matched : List Target) → Flags flags matched → (k n : ℕ) → n < 64 → 64 * k + n < length flags →
     getD flags (64 * k + n) 0 ≡ 0 → isMatched k n matched ≡ false
 flag-unset flags matched m k n h l f = sym (m k n h l) ∙ rw (eq-eqb _ _ f)
 
@@ -71,37 +71,37 @@ flag-unset flags matched m k n h l f = sym (m k n h l) ∙ rw (eq-eqb _ _ f)
 
 module _ (es : List Entry) (n : ℕ) (t : Item) (flags : List ℕ) where
   -- it is refused, and no flag is set
-  abbrev pub Stops : Problem → Type 0
+  abbrev pub Stops : Refusal → Type 0
   Stops p = JudgesItem es n t flags (Judged.Refused p) flags
 
   module _ (f : isFile t ≡ true) where
     pub file-nameless : eqb (length (t .path)) 0 ≡ true → Stops (Unexpected n)
-    unfolding itemConditions answered
+    unfolding itemConditions answered broken
     file-nameless z = record { long = refl; judges = λ matched m. record { is = rw (f, z); marks = never (Unexpected n) } }
 
     module _ (z : eqb (length (t .path)) 0 ≡ false) where
-      pub file-not-on : length es ≤ place true es (t .path) → Stops (Unexpected n)
-      unfolding itemConditions answered
+      pub file-not-on : length es ≤ entryIndex true es (t .path) → Stops (Unexpected n)
+      unfolding itemConditions answered broken
       file-not-on l =
-          let o : ltb (place true es (t .path)) (length es) ≡ false = le-ltb (place true es (t .path)) (length es) l in
+          let o : ltb (entryIndex true es (t .path)) (length es) ≡ false = le-ltb (entryIndex true es (t .path)) (length es) l in
           record { long = refl; judges = λ matched m. record { is = rw (f, z, o); marks = never (Unexpected n) } }
 
-      pub file-again : place true es (t .path) < length es → 64 * place true es (t .path) + 0 < length flags →
-          (getD flags (64 * place true es (t .path) + 0) 0 ≡ 0 → ⊥) → Stops (Unexpected n)
-      unfolding itemConditions answered
+      pub file-again : entryIndex true es (t .path) < length es → 64 * entryIndex true es (t .path) + 0 < length flags →
+          (getD flags (64 * entryIndex true es (t .path) + 0) 0 ≡ 0 → ⊥) → Stops (Unexpected n)
+      unfolding itemConditions answered broken
       file-again l p g =
-          let o = lt-ltb (place true es (t .path)) (length es) l in
+          let o = lt-ltb (entryIndex true es (t .path)) (length es) l in
           record {
             long = refl;
             judges = λ matched m.
-                let a = flag-set flags matched m (place true es (t .path)) 0 (omega arith) p g in
+                let a = flag-set flags matched m (entryIndex true es (t .path)) 0 (omega arith) p g in
                 record { is = rw (f, z, o, a); marks = never (Unexpected n) };
           }
 
       pub file-judged : (s : Sought) (r : Judged) → Finds true es (t .path) s → s .number < length es → 64 * s .number + 0 < length flags →
           getD flags (64 * s .number + 0) 0 ≡ 0 → r ≡ answered (evidence n (s .file) (s .sums) t) →
           JudgesItem es n t flags r (set flags (64 * s .number + 0) 1)
-      unfolding itemConditions answered
+      unfolding itemConditions answered broken
       file-judged s r d l p g q =
           let o = lt-ltb (s .number) (length es) l in
           let e = d .numbered in
@@ -119,38 +119,38 @@ module _ (es : List Entry) (n : ℕ) (t : Item) (flags : List ℕ) where
 
   module _ (z : isFile t ≡ false) where
     pub not-folder : isFolder t ≡ false → Stops (Unchecked n)
-    unfolding itemConditions answered
+    unfolding itemConditions answered broken
     not-folder i = record { long = refl; judges = λ matched m. record { is = rw (z, i); marks = never (Unchecked n) } }
 
     module _ (i : isFolder t ≡ true) where
       pub folder-nameless : eqb (length (t .path)) 0 ≡ true → Stops (Unexpected n)
-      unfolding itemConditions answered
+      unfolding itemConditions answered broken
       folder-nameless b = record { long = refl; judges = λ matched m. record { is = rw (z, i, b); marks = never (Unexpected n) } }
 
       module _ (b : eqb (length (t .path)) 0 ≡ false) where
         pub folder-long : isShort t ≡ false → Stops (Unexpected n)
-        unfolding itemConditions answered
+        unfolding itemConditions answered broken
         folder-long s = record { long = refl; judges = λ matched m. record { is = rw (z, i, b, s); marks = never (Unexpected n) } }
 
         module _ (s : isShort t ≡ true) where
-          pub folder-file : isFree es t ≡ false → Stops (Unexpected n)
-          unfolding itemConditions answered
+          pub folder-file : isNoEntry es t ≡ false → Stops (Unexpected n)
+          unfolding itemConditions answered broken
           folder-file f = record { long = refl; judges = λ matched m. record { is = rw (z, i, b, s, f); marks = never (Unexpected n) } }
 
-          module _ (f : isFree es t ≡ true) where
-            pub folder-off : ltb (place false es (t .path)) (length es) ≡ false → Stops (Unexpected n)
-            unfolding itemConditions answered
+          module _ (f : isNoEntry es t ≡ true) where
+            pub folder-off : ltb (entryIndex false es (t .path)) (length es) ≡ false → Stops (Unexpected n)
+            unfolding itemConditions answered broken
             folder-off o = record { long = refl; judges = λ matched m. record { is = rw (z, i, b, s, f, o); marks = never (Unexpected n) } }
 
-            module _ (o : ltb (place false es (t .path)) (length es) ≡ true) (l : 64 * place false es (t .path) + length (t .path) < length flags) where
-              abbrev x : Mark
-              x = record { entry = place false es (t .path); upTo = length (t .path) }
+            module _ (o : ltb (entryIndex false es (t .path)) (length es) ≡ true) (l : 64 * entryIndex false es (t .path) + length (t .path) < length flags) where
+              abbrev x : Target
+              x = record { entry = entryIndex false es (t .path); upTo = length (t .path) }
 
               abbrev at : ℕ
-              at = 64 * place false es (t .path) + length (t .path)
+              at = 64 * entryIndex false es (t .path) + length (t .path)
 
               pub folder-again : (getD flags at 0 ≡ 0 → ⊥) → Stops (Unexpected n)
-              unfolding itemConditions answered
+              unfolding itemConditions answered broken
               folder-again g = record {
                 long = refl;
                 judges = λ matched m.
@@ -159,7 +159,7 @@ module _ (es : List Entry) (n : ℕ) (t : Item) (flags : List ℕ) where
               }
 
               pub folder-unlisted : getD flags at 0 ≡ 0 → isListed t ≡ false → JudgesItem es n t flags (Judged.Refused (Unchecked n)) (set flags at 1)
-              unfolding itemConditions answered
+              unfolding itemConditions answered broken
               folder-unlisted g y = record {
                 long = length-set flags at 1;
                 judges = λ matched m.
@@ -168,7 +168,7 @@ module _ (es : List Entry) (n : ℕ) (t : Item) (flags : List ℕ) where
               }
 
               pub folder-good : getD flags at 0 ≡ 0 → isListed t ≡ true → JudgesItem es n t flags Judged.Good (set flags at 1)
-              unfolding itemConditions answered
+              unfolding itemConditions answered broken
               folder-good g y = record {
                 long = length-set flags at 1;
                 judges = λ matched m.

@@ -1,4 +1,4 @@
--- Names compared a byte at a time.
+-- Names compared a byte at a time, from their ends.
 use mathlib.Core.Path.{_≡_, refl, sym, ap, _∙_}
 use mathlib.Core.Bool.{Bool, true, false, _&&_, and-true, and-false, cond}
 use mathlib.Core.List.{List, [], _∷_}
@@ -12,51 +12,53 @@ use borrow.Author.Tests.{eq-eqb, ne-eqb, le-leb, lt-leb}
 use Rattle.shared_numbers.proofs.Slices.{drop-take}
 use Rattle.stick_rules.specs.Names.{lower, equalIgnoringCase, isInside, studioEnding, cobEnding, c4dEnding, formatOf}
 
--- the names of n bytes at a and b are alike exactly where those behind their first i bytes are
-pub record AlikeFor (s : List ℕ) (a : ℕ) (q : List ℕ) (b n i : ℕ) : Type 0 where
-  pub few : i ≤ n
-  pub rest : equalIgnoringCase (take n (drop a s)) (take n (drop b q)) ≡ equalIgnoringCase (take (n - i) (drop (a + i) s)) (take (n - i) (drop (b + i) q))
+and-left-comm : (a b c : Bool) → (a && (b && c)) ≡ (b && (a && c))
+and-left-comm true b c = refl
+and-left-comm false true c = refl
+and-left-comm false false c = refl
 
-module _ (s : List ℕ) (q : List ℕ) where
-  alike-step : (i j k : ℕ) → i < length s → j < length q →
-      equalIgnoringCase (take (suc k) (drop i s)) (take (suc k) (drop j q)) ≡
-      (eqb (lower (getD s i 0)) (lower (getD q j 0)) && equalIgnoringCase (take k (drop (i + 1) s)) (take k (drop (j + 1) q)))
+-- the last of several bytes is compared first
+last-first : (xs ys : List ℕ) (k : ℕ) → k < length xs → k < length ys →
+    equalIgnoringCase (take (suc k) xs) (take (suc k) ys) ≡ (eqb (lower (getD xs k 0)) (lower (getD ys k 0)) && equalIgnoringCase (take k xs) (take k ys))
+unfolding equalIgnoringCase
+last-first [] ys k h l = absurd (omega arith)
+last-first (x ∷ xs) [] k h l = absurd (omega arith)
+last-first (x ∷ xs) (y ∷ ys) zero h l = refl
+last-first (x ∷ xs) (y ∷ ys) (suc k) h l =
+    ap (λ (b : Bool). eqb (lower x) (lower y) && b) (last-first xs ys k (omega arith) (omega arith)) ∙
+    and-left-comm (eqb (lower x) (lower y)) (eqb (lower (getD xs k 0)) (lower (getD ys k 0))) (equalIgnoringCase (take k xs) (take k ys))
+
+-- the names of n bytes at a and b are alike exactly where their first `left` bytes are
+pub record AlikeFor (s : List ℕ) (a : ℕ) (q : List ℕ) (b n left : ℕ) : Type 0 where
+  pub few : left ≤ n
+  pub rest : equalIgnoringCase (take n (drop a s)) (take n (drop b q)) ≡ equalIgnoringCase (take left (drop a s)) (take left (drop b q))
+
+module _ (s : List ℕ) (a : ℕ) (q : List ℕ) (b n : ℕ) where
+  pub alike-all : AlikeFor s a q b n n
+  alike-all = record { few = omega arith; rest = refl }
+
+  module _ (h : a + n ≤ length s) (l : b + n ≤ length q) (left : ℕ) (p : 0 < left) (m : AlikeFor s a q b n left) where
+    alike-step : equalIgnoringCase (take n (drop a s)) (take n (drop b q)) ≡
+        (eqb (lower (getD s (a + (left - 1)) 0)) (lower (getD q (b + (left - 1)) 0)) && equalIgnoringCase (take (left - 1) (drop a s)) (take (left - 1) (drop b q)))
+    alike-step =
+        let f = m .few in
+        let z : left ≡ suc (left - 1) = omega arith in
+        let step = last-first (drop a s) (drop b q) (left - 1) (omega (arith, length-drop a s)) (omega (arith, length-drop b q)) in
+        m .rest ∙ ap (λ (i : ℕ). equalIgnoringCase (take i (drop a s)) (take i (drop b q))) z ∙ step ∙ rw (getD-drop a s (left - 1) 0, getD-drop b q (left - 1) 0)
+
+    pub alike-off : (lower (getD s (a + (left - 1)) 0) ≡ lower (getD q (b + (left - 1)) 0) → ⊥) → equalIgnoringCase (take n (drop a s)) (take n (drop b q)) ≡ false
+    alike-off e = alike-step ∙ rw (ne-eqb (lower (getD s (a + (left - 1)) 0)) (lower (getD q (b + (left - 1)) 0)) e)
+
+    pub alike-on : lower (getD s (a + (left - 1)) 0) ≡ lower (getD q (b + (left - 1)) 0) → AlikeFor s a q b n (left - 1)
+    alike-on e =
+        let f = m .few in
+        record { few = omega arith; rest = alike-step ∙ rw (eq-eqb (lower (getD s (a + (left - 1)) 0)) (lower (getD q (b + (left - 1)) 0)) e) }
+
+  pub alike-end : (left : ℕ) → left ≤ 0 → AlikeFor s a q b n left → equalIgnoringCase (take n (drop a s)) (take n (drop b q)) ≡ true
   unfolding equalIgnoringCase
-  alike-step i j k h l = rw (add-one i, add-one j, drop-cons s i 0 h, drop-cons q j 0 l)
-
-  pub alike-off : (i j left : ℕ) → i < length s → j < length q → 0 < left → (lower (getD s i 0) ≡ lower (getD q j 0) → ⊥) →
-      equalIgnoringCase (take left (drop i s)) (take left (drop j q)) ≡ false
-  alike-off i j zero h l p e = absurd (omega arith)
-  alike-off i j (suc k) h l p e = alike-step i j k h l ∙ rw (ne-eqb (lower (getD s i 0)) (lower (getD q j 0)) e)
-
-  alike-next : (i j left : ℕ) → i < length s → j < length q → 0 < left → lower (getD s i 0) ≡ lower (getD q j 0) →
-      equalIgnoringCase (take left (drop i s)) (take left (drop j q)) ≡ equalIgnoringCase (take (left - 1) (drop (i + 1) s)) (take (left - 1) (drop (j + 1) q))
-  alike-next i j zero h l p e = absurd (omega arith)
-  alike-next i j (suc k) h l p e =
-      let z : suc k - 1 ≡ k = omega arith in
-      alike-step i j k h l ∙ rw (eq-eqb (lower (getD s i 0)) (lower (getD q j 0)) e, z)
-
-  pub alike-none : (a b n : ℕ) → AlikeFor s a q b n 0
-  alike-none a b n =
-      let m : n - 0 ≡ n = omega arith in
-      let p : a + 0 ≡ a = omega arith in
-      let r : b + 0 ≡ b = omega arith in
-      record { few = omega arith; rest = rw (m, p, r) }
-
-  pub alike-on : (a b n i : ℕ) → a + n ≤ length s → b + n ≤ length q → AlikeFor s a q b n i → i < n →
-      lower (getD s (a + i) 0) ≡ lower (getD q (b + i) 0) → AlikeFor s a q b n (i + 1)
-  alike-on a b n i h l k m e =
-      let u = alike-next (a + i) (b + i) (n - i) (omega arith) (omega arith) (omega arith) e in
-      let v : n - (i + 1) ≡ n - i - 1 = omega arith in
-      let w : a + (i + 1) ≡ a + i + 1 = omega arith in
-      let w′ : b + (i + 1) ≡ b + i + 1 = omega arith in
-      record { few = omega arith; rest = k .rest ∙ rw (v, w, w′) u }
-
-  pub alike-end : (a b n i : ℕ) → AlikeFor s a q b n i → n ≤ i → equalIgnoringCase (take n (drop a s)) (take n (drop b q)) ≡ true
-  unfolding equalIgnoringCase
-  alike-end a b n i k h =
-      let z : n - i ≡ 0 = omega arith in
-      k .rest ∙ rw z
+  alike-end left p m =
+      let z : left ≡ 0 = omega arith in
+      m .rest ∙ rw z
 
 -- ---- names of several lengths
 
@@ -92,11 +94,6 @@ inside-is [] xs h = absurd (omega arith)
 inside-is (y ∷ ys) [] h = sym (and-true (eqb y 47))
 inside-is (y ∷ ys) (x ∷ xs) h =
     rw (inside-is ys xs (omega arith)) (and-left-comm (eqb (lower y) (lower x)) (eqb (getD ys (length xs) 0) 47) (equalIgnoringCase (take (length xs) ys) xs))
-  where
-    and-left-comm : (a b c : Bool) → (a && (b && c)) ≡ (b && (a && c))
-    and-left-comm true b c = refl
-    and-left-comm false true c = refl
-    and-left-comm false false c = refl
 
 module _ (s q : List ℕ) (a m b n : ℕ) (h : a + m ≤ length s) (k : b + n ≤ length q) where
   pub not-longer : m ≤ n → isInside (take m (drop a s)) (take n (drop b q)) ≡ false

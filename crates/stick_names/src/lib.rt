@@ -3,6 +3,7 @@ ghost use mathlib.Core.Path.{_≡_};
 ghost use Prim.Native.Nat.{_+_, _≤_};
 ghost use lib.ListN.{length, take, drop};
 ghost use Rattle.stick_rules.specs.Names.{lower, equalIgnoringCase, isInside, belongs, formatOf, slipName};
+ghost use Rattle.stick_names.specs.Digest.{digestOf};
 
 // A capital letter as a small one.
 fn lower(b: u8) -> u8
@@ -17,17 +18,18 @@ fn lower(b: u8) -> u8
     b + 32
 }
 
-// Whether n bytes at two places, in two slices, are one name on a stick.
+// Whether n bytes at two places, in two slices, are one name on a stick. The names in one folder differ towards their ends: they
+// are compared from there.
 fn equal_bytes(s: &[u8], a: usize, q: &[u8], b: usize, n: usize) -> bool
     requires { ⌜ (a + n ≤ length (now s)) × (b + n ≤ length (now q)) ⌝ }
     ensures { λ r. ⌜ r ≡ equalIgnoringCase (take n (drop a (now (s .entry)))) (take n (drop b (now (q .entry)))) ⌝ }
 {
-    let mut i = 0usize;
-    while i < n {
-        if lower(s[a + i]) != lower(q[b + i]) {
+    let mut left = n;
+    while 0 < left {
+        left -= 1;
+        if lower(s[a + left]) != lower(q[b + left]) {
             return false;
         }
-        i += 1;
     }
     true
 }
@@ -41,6 +43,20 @@ fn equal_names(s: &[u8], a: usize, m: usize, q: &[u8], b: usize, n: usize) -> bo
         return false;
     }
     equal_bytes(s, a, q, b, n)
+}
+
+// A number that is the same for all names that are one on a stick.
+pub fn digest(s: &[u8], at: usize, len: usize) -> u32
+    requires { ⌜ at + len ≤ length (now s) ⌝ }
+    ensures { λ r. ⌜ r ≡ digestOf (take len (drop at (now (s .entry)))) ⌝ }
+{
+    let mut d = 0u32;
+    let mut i = 0usize;
+    while i < len {
+        d = (251 * d + lower(s[at + i]) as u32) % 16777216;
+        i += 1;
+    }
+    d
 }
 
 // Whether a file of the name of m bytes stands in the folder of the path of n bytes, or below it.

@@ -11,12 +11,12 @@ use Rattle.shared_words.specs.Lists.{All}
 use Rattle.shared_words.proofs.Bools.{both, and-parts}
 use Rattle.slip_rules.specs.Slip.{Entry}
 use Rattle.stick_rules.specs.Names.{lower, equalIgnoringCase, isInside, belongs}
-use Rattle.stick_rules.specs.Items.{Item, isFile, isBelow}
-use Rattle.stick_rules.specs.Judge.{place, placeOf, upToOf, markOf, isMark}
-use Rattle.stick_rules.specs.Theorems.{InOrder, IsRoot, bit, marked, Distinct, NothingMore}
+use Rattle.stick_rules.specs.Items.{Item, isFile, hasPath}
+use Rattle.stick_rules.specs.Judge.{entryIndex, indexOf, upToOf, targetOf, isTarget}
+use Rattle.stick_rules.specs.Theorems.{InOrder, IsRoot, targeting, Distinct, NothingMore}
 use Rattle.stick_rules.specs.Theorems.InOrder.{folder, file}
 use Rattle.stick_rules.proofs.Alike.{alike-turned, alike-through}
-use Rattle.stick_rules.proofs.Places.{has-place}
+use Rattle.stick_rules.proofs.Places.{has-place, once}
 use Rattle.stick_rules.proofs.Exact.{passes-exactly}
 
 -- ---- two paths that are one have the same entries
@@ -46,8 +46,8 @@ belongs-right : (f : Bool) (name p q : List ℕ) → equalIgnoringCase p q ≡ t
 belongs-right true name p q h = alike-right name p q h
 belongs-right false name p q h = inside-right name p q h
 
-place-right : (f : Bool) (es : List Entry) (p q : List ℕ) → equalIgnoringCase p q ≡ true → place f es p ≡ place f es q
-unfolding place
+place-right : (f : Bool) (es : List Entry) (p q : List ℕ) → equalIgnoringCase p q ≡ true → entryIndex f es p ≡ entryIndex f es q
+unfolding entryIndex
 place-right f [] p q h = refl
 place-right f (e ∷ es) p q h = rw (belongs-right f (e .name) p q h, place-right f es p q h)
 
@@ -72,35 +72,35 @@ same-kind es t u (file e g w q a) (folder i l) h =
 same-kind es t u (file e g w q a) (file e′ g′ w′ q′ a′) h = g ∙ sym g′
 
 same-mark : (es : List Entry) (t u : Item) → InOrder es t → InOrder es u → equalIgnoringCase (t .path) (u .path) ≡ true →
-    isMark (placeOf es t) (upToOf t) (markOf es u) ≡ true
+    isTarget (indexOf es t) (upToOf t) (targetOf es u) ≡ true
 same-mark es t u o p h =
     let k = same-kind es t u o p h in
-    let e : placeOf es t ≡ placeOf es u = ap (λ (f : Bool). place f es (t .path)) k ∙ place-right (isFile u) es (t .path) (u .path) h in
+    let e : indexOf es t ≡ indexOf es u = ap (λ (f : Bool). entryIndex f es (t .path)) k ∙ place-right (isFile u) es (t .path) (u .path) h in
     let n : upToOf t ≡ upToOf u = ap (λ (f : Bool). cond f 0 (length (t .path))) k ∙ ap (λ (m : ℕ). cond (isFile u) 0 m) (alike-length (t .path) (u .path) h) in
-    both (eqb (placeOf es t) (placeOf es u)) (eqb (upToOf t) (upToOf u)) (eq-eqb _ _ e) (eq-eqb _ _ n)
+    both (eqb (indexOf es t) (indexOf es u)) (eqb (upToOf t) (upToOf u)) (eq-eqb _ _ e) (eq-eqb _ _ n)
 
-unlike-all : (es : List Entry) (t : Item) (ts : List Item) → InOrder es t → All (InOrder es) ts → marked es (placeOf es t) (upToOf t) ts ≡ 0 →
+unlike-all : (es : List Entry) (t : Item) (ts : List Item) → InOrder es t → All (InOrder es) ts → targeting es (indexOf es t) (upToOf t) ts ≡ 0 →
     All (λ (u : Item). equalIgnoringCase (t .path) (u .path) ≡ false) ts
 unlike-all es t [] o a z = tt
 unlike-all es t (u ∷ ts) o a z = (go (equalIgnoringCase (t .path) (u .path)) refl, unlike-all es t ts o (a .1) (omega arith))
   where
     go : (b : Bool) → equalIgnoringCase (t .path) (u .path) ≡ b → b ≡ false
-    go true h = absurd (omega (arith, z, ap bit (same-mark es t u o (a .0) h)))
+    go true h = absurd (omega (arith, z, ap once (same-mark es t u o (a .0) h)))
     go false h = refl
 
-distinct : (es : List Entry) (ts : List Item) → All (InOrder es) ts → ((k n : ℕ) → marked es k n ts ≤ 1) → Distinct ts
+distinct : (es : List Entry) (ts : List Item) → All (InOrder es) ts → ((k n : ℕ) → targeting es k n ts ≤ 1) → Distinct ts
 distinct es [] a h = tt
 distinct es (t ∷ ts) a h =
-    let k = placeOf es t in
+    let k = indexOf es t in
     let u = upToOf t in
-    let y : isMark k u (markOf es t) ≡ true = both (eqb k k) (eqb u u) (eq-eqb k k refl) (eq-eqb u u refl) in (
-      unlike-all es t ts (a .0) (a .1) (omega (arith, h k u, ap bit y)),
+    let y : isTarget k u (targetOf es t) ≡ true = both (eqb k k) (eqb u u) (eq-eqb k k refl) (eq-eqb u u refl) in (
+      unlike-all es t ts (a .0) (a .1) (omega (arith, h k u, ap once y)),
       distinct es ts (a .1) (λ j m. omega (arith, h j m)),
     )
 
 -- ---- the stick's own folder has no path, and any other item has one
 
-is-below : (es : List Entry) (t : Item) → InOrder es t → isBelow t ≡ true
+is-below : (es : List Entry) (t : Item) → InOrder es t → hasPath t ≡ true
 is-below es t (folder i l) = l .below
 is-below es t (file e g w q a) = w
 

@@ -5,10 +5,9 @@ use mathlib.Core.List.{List, [], _∷_, flatten}
 use Prim.Native.Nat.{ℕ, suc, _≤_}
 use native.Mathlib.Omega.{arith}
 use lib.ListN.{length, length-append}
-use Rattle.shared_words.specs.Lists.{All, total}
+use Rattle.shared_words.specs.Lists.{All, total, any}
 use Rattle.stick_rules.specs.Names.{equalIgnoringCase}
 use Rattle.stick_rules.specs.Items.{Item, listed}
-use Rattle.stick_rules.specs.Judge.{some-of}
 use Rattle.stick_rules.specs.Theorems.{Distinct, Listings, WasListed, WasMet, NoneLost}
 use Rattle.stick_rules.proofs.Alike.{alike-meet, alike-turned}
 use Rattle.stick_rules.proofs.Exact.{passes-exactly}
@@ -19,23 +18,23 @@ without : List ℕ → List (List ℕ) → List (List ℕ)
 without p [] = []
 without p (n ∷ ns) = cond (equalIgnoringCase p n) ns (n ∷ without p ns)
 
-shorter : (p : List ℕ) (ns : List (List ℕ)) → some-of (equalIgnoringCase p) ns ≡ true → length ns ≡ suc (length (without p ns))
-unfolding some-of without
+shorter : (p : List ℕ) (ns : List (List ℕ)) → any (equalIgnoringCase p) ns ≡ true → length ns ≡ suc (length (without p ns))
+unfolding without
 shorter p [] h = absurd (false≢true h)
 shorter p (n ∷ ns) h = go (shorter p ns) (equalIgnoringCase p n) h
   where
-    go : (some-of (equalIgnoringCase p) ns ≡ true → length ns ≡ suc (length (without p ns))) → (b : Bool) → (b || some-of (equalIgnoringCase p) ns) ≡ true →
+    go : (any (equalIgnoringCase p) ns ≡ true → length ns ≡ suc (length (without p ns))) → (b : Bool) → (b || any (equalIgnoringCase p) ns) ≡ true →
         suc (length ns) ≡ suc (length (cond b ns (n ∷ without p ns)))
     go on true h = refl
     go on false h = ap suc (on h)
 
-kept : (p u : List ℕ) → equalIgnoringCase p u ≡ false → (ns : List (List ℕ)) → some-of (equalIgnoringCase u) ns ≡ true → some-of (equalIgnoringCase u) (without p ns) ≡ true
-unfolding some-of without
+kept : (p u : List ℕ) → equalIgnoringCase p u ≡ false → (ns : List (List ℕ)) → any (equalIgnoringCase u) ns ≡ true → any (equalIgnoringCase u) (without p ns) ≡ true
+unfolding without
 kept p u d [] h = absurd (false≢true h)
 kept p u d (n ∷ ns) h = go (kept p u d ns) (equalIgnoringCase p n) refl (equalIgnoringCase u n) refl h
   where
-    go : (some-of (equalIgnoringCase u) ns ≡ true → some-of (equalIgnoringCase u) (without p ns) ≡ true) → (a : Bool) → equalIgnoringCase p n ≡ a → (b : Bool) → equalIgnoringCase u n ≡ b →
-        (b || some-of (equalIgnoringCase u) ns) ≡ true → some-of (equalIgnoringCase u) (cond a ns (n ∷ without p ns)) ≡ true
+    go : (any (equalIgnoringCase u) ns ≡ true → any (equalIgnoringCase u) (without p ns) ≡ true) → (a : Bool) → equalIgnoringCase p n ≡ a → (b : Bool) → equalIgnoringCase u n ≡ b →
+        (b || any (equalIgnoringCase u) ns) ≡ true → any (equalIgnoringCase u) (cond a ns (n ∷ without p ns)) ≡ true
     go on true x true y h = absurd (true≢false (sym (alike-meet p u n x y) ∙ d))
     go on true x false y h = h
     go on false x true y h = rw y
@@ -65,12 +64,10 @@ or-right false b h = h
 
 module _ (t : Item) (ts : List Item) where
   matched-here : (n : List ℕ) → equalIgnoringCase (t .path) n ≡ true → WasMet (t ∷ ts) n
-  unfolding some-of
   matched-here n h = rw (alike-turned (t .path) n h)
 
   matched-later : (n : List ℕ) → WasMet ts n → WasMet (t ∷ ts) n
-  unfolding some-of
-  matched-later n h = or-right (equalIgnoringCase n (t .path)) (some-of (λ (u : Item). equalIgnoringCase n (u .path)) ts) h
+  matched-later n h = or-right (equalIgnoringCase n (t .path)) (any (λ (u : Item). equalIgnoringCase n (u .path)) ts) h
 
 all-matched : (ts : List Item) (ns : List (List ℕ)) → Distinct ts → length ns ≤ length ts → All (WasListed ns) ts → All (WasMet ts) ns
 all-matched [] [] d l a = tt

@@ -11,31 +11,34 @@ use borrow.Author.Tests.{eqb-true}
 use Rattle.shared_words.proofs.Bools.{and-parts}
 use Rattle.slip_rules.specs.Slip.{Entry}
 use Rattle.stick_rules.specs.Names.{equalIgnoringCase}
-use Rattle.stick_rules.specs.Judge.{Mark, isMark, isMatched, place, entryOf, entryConditions}
-use Rattle.stick_rules.specs.Conditions.{must, answered}
-use Rattle.stick_rules.specs.declared.Problem.the-variants.{Absent}
-use Rattle.stick_rules.specs.declared.Judged.{Judged}
-use Rattle.stick_rules.specs.Theorems.{bit}
+use Rattle.stick_rules.specs.Judge.{Target, isTarget, isMatched, entryIndex, entryOf, entryConditions}
+use Rattle.shared_words.specs.Conditions.{must, answered, broken}
+use Rattle.shared_words.specs.declared.Refusal.the-variants.{Absent}
+use Rattle.shared_words.specs.declared.Judged.{Judged}
 use Rattle.stick_rules.proofs.Answers.{never}
 
-pub bit-true : (b : Bool) → bit b ≡ 1 → b ≡ true
-bit-true true h = refl
-bit-true false h = absurd (omega arith)
+-- 1 where it holds
+abbrev pub once : Bool → ℕ
+once b = cond b 1 0
 
-pub bit-false : (b : Bool) → bit b ≡ 0 → b ≡ false
-bit-false true h = absurd (omega arith)
-bit-false false h = refl
+pub once-true : (b : Bool) → once b ≡ 1 → b ≡ true
+once-true true h = refl
+once-true false h = absurd (omega arith)
 
-pub bit-most : (b : Bool) → bit b ≤ 1
-bit-most true = omega arith
-bit-most false = omega arith
+pub once-false : (b : Bool) → once b ≡ 0 → b ≡ false
+once-false true h = absurd (omega arith)
+once-false false h = refl
+
+pub once-most : (b : Bool) → once b ≤ 1
+once-most true = omega arith
+once-most false = omega arith
 
 -- one mark more, that was not among them
-pub one-more : (k n : ℕ) (m : Mark) (matched : List Mark) → isMatched (m .entry) (m .upTo) matched ≡ false →
-    bit (isMatched k n (m ∷ matched)) ≡ bit (isMark k n m) + bit (isMatched k n matched)
-one-more k n m matched f = go (isMark k n m) refl
+pub one-more : (k n : ℕ) (m : Target) (matched : List Target) → isMatched (m .entry) (m .upTo) matched ≡ false →
+    once (isMatched k n (m ∷ matched)) ≡ once (isTarget k n m) + once (isMatched k n matched)
+one-more k n m matched f = go (isTarget k n m) refl
   where
-    go : (b : Bool) → isMark k n m ≡ b → bit (b || isMatched k n matched) ≡ bit b + bit (isMatched k n matched)
+    go : (b : Bool) → isTarget k n m ≡ b → once (b || isMatched k n matched) ≡ once b + once (isMatched k n matched)
     go true q =
         let p = and-parts (eqb k (m .entry)) (eqb n (m .upTo)) q in
         let e = eqb-true k (m .entry) (p .0) in
@@ -45,20 +48,20 @@ one-more k n m matched f = go (isMark k n m) refl
     go false q = omega arith
 
 -- a path that has an entry has its number
-pub has-place : (es : List Entry) (path : List ℕ) (e : Entry) → entryOf es path ≡ some e → place true es path < length es
-unfolding place entryOf
+pub has-place : (es : List Entry) (path : List ℕ) (e : Entry) → entryOf es path ≡ some e → entryIndex true es path < length es
+unfolding entryIndex entryOf
 has-place [] path e h = let z : _≡_ {A = ℕ} 0 1 = cc in absurd (omega arith)
 has-place (x ∷ es) path e h = go (has-place es path e) (equalIgnoringCase (x .name) path) h
   where
-    go : (entryOf es path ≡ some e → place true es path < length es) →
-        (b : Bool) → cond b (some x) (entryOf es path) ≡ some e → cond b 0 (suc (place true es path)) < suc (length es)
+    go : (entryOf es path ≡ some e → entryIndex true es path < length es) →
+        (b : Bool) → cond b (some x) (entryOf es path) ≡ some e → cond b 0 (suc (entryIndex true es path)) < suc (length es)
     go on true h = omega arith
     go on false h = omega (arith, on h)
 
 -- all entries are met exactly where the conditions say so
-pub all-matched : (k : ℕ) (es : List Entry) (matched : List Mark) → answered (entryConditions k es matched) ≡ Judged.Good →
+pub all-matched : (k : ℕ) (es : List Entry) (matched : List Target) → answered (entryConditions k es matched) ≡ Judged.Good →
     (j : ℕ) → j < length es → isMatched (k + j) 0 matched ≡ true
-unfolding answered entryConditions
+unfolding answered broken entryConditions
 all-matched k [] matched h j l = absurd (omega arith)
 all-matched k (e ∷ es) matched h j l = go (all-matched (suc k) es matched) (isMatched k 0 matched) refl h j l
   where
@@ -71,9 +74,9 @@ all-matched k (e ∷ es) matched h j l = go (all-matched (suc k) es matched) (is
         rw z (on h j (omega arith))
     go on false q h j l = never (Absent k) h
 
-pub matched-all : (k : ℕ) (es : List Entry) (matched : List Mark) → ((j : ℕ) → j < length es → isMatched (k + j) 0 matched ≡ true) →
+pub matched-all : (k : ℕ) (es : List Entry) (matched : List Target) → ((j : ℕ) → j < length es → isMatched (k + j) 0 matched ≡ true) →
     answered (entryConditions k es matched) ≡ Judged.Good
-unfolding answered entryConditions
+unfolding answered broken entryConditions
 matched-all k [] matched h = refl
 matched-all k (e ∷ es) matched h =
     let z : k + 0 ≡ k = omega arith in

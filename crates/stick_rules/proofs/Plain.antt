@@ -6,22 +6,22 @@ use Prim.Native.Nat.{ℕ, _<_}
 use native.Mathlib.Omega.{arith}
 use lib.ListN.{length, getD}
 use borrow.Author.Tests.{eqb-true, ne-eqb}
-use Rattle.shared_words.specs.Lists.{All}
+use Rattle.shared_words.specs.Lists.{All, howMany}
 use Rattle.shared_words.proofs.Bools.{and-parts}
 use Rattle.slip_rules.specs.Slip.{Entry}
 use Rattle.stick_rules.specs.Names.{equalIgnoringCase}
 use Rattle.stick_rules.specs.Items.{Item, isFile, isRead}
-use Rattle.stick_rules.specs.Judge.{place}
-use Rattle.stick_rules.specs.Theorems.{agrees, InOrder, IsRoot, isFileNo, bit, isNamed, isOf, howMany, MatchedOnce, OnSlip, InPlainWords}
+use Rattle.stick_rules.specs.Judge.{entryIndex}
+use Rattle.stick_rules.specs.Theorems.{agrees, InOrder, IsRoot, isFileNo, isNamed, isOf, MatchedOnce, OnSlip, InPlainWords}
 use Rattle.stick_rules.specs.Theorems.InOrder.{folder, file}
-use Rattle.stick_rules.proofs.Places.{has-place}
+use Rattle.stick_rules.proofs.Places.{has-place, once}
 use Rattle.stick_rules.proofs.Exact.{passes-exactly}
 use Rattle.stick_rules.proofs.Apart.{Apart, hit-by, apart, blank, all-from, named-at, entry-at, one-only}
 
 -- tests that agree on each item count as many
 as-many : (P : Item → Type 0) (p q : Item → Bool) (ts : List Item) → All P ts → ((t : Item) → P t → p t ≡ q t) → howMany p ts ≡ howMany q ts
 as-many P p q [] a h = refl
-as-many P p q (t ∷ ts) a h = let e = ap bit (h t (a .0)) in omega (arith, e, as-many P p q ts (a .1) h)
+as-many P p q (t ∷ ts) a h = let e = ap once (h t (a .0)) in omega (arith, e, as-many P p q ts (a .1) h)
 
 -- a file of an entry's name is the file of it
 is-all : (es : List Entry) → Apart es → (k : ℕ) → k < length es → (t : Item) → InOrder es t → isOf (getD es k blank) t ≡ isNamed (getD es k blank) t
@@ -35,7 +35,7 @@ is-all es a k l t o = go (isNamed (getD es k blank) t) refl o
         absurd (omega arith)
     go true q (file e f w h g) =
         let n = and-parts (isFile t) (equalIgnoringCase (getD es k blank .name) (t .path)) q .1 in
-        let p = eqb-true k (place true es (t .path)) (named-at es a k l (t .path) ∙ n) in
+        let p = eqb-true k (entryIndex true es (t .path)) (named-at es a k l (t .path) ∙ n) in
         let i : getD es k blank ≡ e = ap (λ (j : ℕ). getD es j blank) p ∙ entry-at es (t .path) e h in
         let r : agrees (getD es k blank) t ≡ true = rw i (g .agree) in
         rw (r, g .whole)
@@ -70,6 +70,6 @@ in-plain-words es (r ∷ ts) h =
           (λ t o. ap (λ (b : Bool). isFile t && b) (sym (named-at es a k l (t .path)))) ∙ g .each-once k l in
           let m = as-many (InOrder es) (isOf (getD es k blank)) (isNamed (getD es k blank)) ts (g .in-order) (is-all es a k l) ∙ n in
           let z = not-file (getD es k blank) r f in
-          record { one-named = omega (arith, n, ap bit (z .0)); one-of = omega (arith, m, ap bit (z .1)) });
+          record { one-named = omega (arith, n, ap once (z .0)); one-of = omega (arith, m, ap once (z .1)) });
       every-file = (λ q. absurd (true≢false (sym q ∙ f)), each es a ts (g .in-order));
     }

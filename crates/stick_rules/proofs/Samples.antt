@@ -1,17 +1,16 @@
 -- The worked sticks, by computation.
 use mathlib.Core.Path.{refl}
-use Rattle.shared_words.specs.Conditions.{broken}
+use Rattle.shared_words.specs.Conditions.{broken, answered}
 use Rattle.shared_words.specs.Lists.{every}
 use Rattle.shared_words.specs.Labels.{fitsLabel}
 use Rattle.slip_rules.specs.Walk.{entryAt, verdict}
-use Rattle.stick_rules.specs.Conditions.{answered}
 use Rattle.stick_rules.specs.Names.{equalIgnoringCase, isInside, formatOf}
-use Rattle.stick_rules.specs.Judge.{place, entryOf, itemConditions, itemsConditions, matchedBy, entryConditions, some-of, judgement}
-use Rattle.stick_rules.specs.Rows.{eightAt, itemsFrom, judgeCall}
+use Rattle.stick_rules.specs.Judge.{entryIndex, entryOf, itemConditions, itemsConditions, matchedBy, entryConditions, judgement}
+use Rattle.stick_rules.specs.Records.{eightAt, itemsFrom, judgeCall}
 use Rattle.stick_rules.specs.Samples.{Samples, CallSamples}
 
 pub samples : Samples
-unfolding answered equalIgnoringCase isInside formatOf place entryOf itemConditions itemsConditions matchedBy entryConditions some-of judgement
+unfolding answered broken equalIgnoringCase isInside formatOf entryIndex entryOf itemConditions itemsConditions matchedBy entryConditions judgement
 samples = record {
   good = refl;
   in-a-folder = refl;
@@ -40,11 +39,15 @@ samples = record {
   its-reader-refused = refl;
   broken-off = refl;
   no-figure = refl;
-  huge = refl;
-  of-itself = refl;
+  half-copied = refl;
   gone = refl;
+  misnamed = refl;
+  below = refl;
   exchanged = refl;
   in-its-place = refl;
+  of-itself = refl;
+  huge = refl;
+  doubled = refl;
   two-in-one = refl;
   named-cob = refl;
   named-3ds = refl;
@@ -52,5 +55,5 @@ samples = record {
 }
 
 pub call-samples : CallSamples
-unfolding broken every fitsLabel entryAt verdict answered equalIgnoringCase isInside formatOf place entryOf itemConditions itemsConditions matchedBy entryConditions some-of judgement eightAt itemsFrom judgeCall
+unfolding broken every fitsLabel entryAt verdict answered equalIgnoringCase isInside formatOf entryIndex entryOf itemConditions itemsConditions matchedBy entryConditions judgement eightAt itemsFrom judgeCall
 call-samples = record { passes = refl; name-outside = refl; part-left = refl; no-slip = refl; other-slip = refl; nothing-handed = refl }

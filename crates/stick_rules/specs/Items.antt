@@ -1,5 +1,5 @@
--- What the walk met at one path, as the tool hands it over, and the rules of one item, each under its own name.
--- All of it is evidence: where nothing was looked at the numbers are 0, and that breaks a rule.
+-- An item: a file or folder that the walk of a stick met, with the evidence for it; and the rules of one item, each under its own name.
+-- Where nothing was looked at the numbers are 0, and that breaks a rule.
 use mathlib.Core.Bool.{Bool, not, _&&_, cond}
 use mathlib.Core.List.{List}
 use Prim.Native.Nat.{ℕ, _+_, _-_, _*_, _/_, _%_, _^_}
@@ -28,8 +28,8 @@ abbrev pub isFolder : Item → Bool
 isFolder t = eqb (t .kind) 2
 
 -- it is not the stick's own folder
-abbrev pub isBelow : Item → Bool
-isBelow t = not (eqb (length (t .path)) 0)
+abbrev pub hasPath : Item → Bool
+hasPath t = not (eqb (length (t .path)) 0)
 
 -- ---- of a folder
 
@@ -62,12 +62,12 @@ isAccepted t = ltb (t .answer) (2 ^ 32)
 abbrev pub isFigure : Item → Bool
 isFigure t = isFile t && not (eqb (t .reader) 0)
 
--- its length is that of an entry; its sums are
+-- its length, and its sums, are those of an entry
+abbrev pub hasLengthOf : Entry → Item → Bool
+hasLengthOf e t = eqb (t .size) (e .file)
+
 abbrev pub sumsOf : Entry → ℕ
 sumsOf e = e .first + 256 * e .second
 
-abbrev pub isLong : Entry → Item → Bool
-isLong e t = eqb (t .size) (e .file)
-
-abbrev pub isSummed : Entry → Item → Bool
-isSummed e t = eqb (t .checksum % 65_536) (sumsOf e)
+abbrev pub hasSumsOf : Entry → Item → Bool
+hasSumsOf e t = eqb (t .checksum % 65_536) (sumsOf e)

@@ -1,21 +1,21 @@
--- A stick against its slip: the conditions of all items that the walk met, in order.
-use mathlib.Core.Bool.{Bool, true, false, not, _&&_, _||_, cond}
-use mathlib.Core.List.{List, [], _∷_, _++_}
+-- A stick against its manifest: what must hold of the items that the walk met, in order.
+use mathlib.Core.Bool.{Bool, true, false, not, _&&_, cond}
+use mathlib.Core.List.{List, [], _∷_, _++_, tail}
 use mathlib.Core.Option.{Option, none, some}
 use Prim.Native.Nat.{ℕ, suc, _+_}
 use lib.Dec.{eqb, ltb, leb}
 use lib.ListN.{length}
-use Rattle.shared_words.specs.Lists.{total}
+use Rattle.shared_words.specs.Lists.{any, total}
+use Rattle.shared_words.specs.Conditions.{Condition, must, answered}
+use Rattle.shared_words.specs.declared.Judged.{Judged}
+use Rattle.shared_words.specs.declared.Refusal.the-variants.{Unchecked, BadFigure, Unexpected, Absent, Incomplete, NoFigure, Changed}
 use Rattle.slip_rules.specs.Slip.{Entry}
 use Rattle.slip_sums.specs.Fletcher.{sumOf}
-use Rattle.stick_rules.specs.declared.Problem.the-variants.{Unchecked, Unexpected, Differs, RefusedByReader, Absent, Incomplete, NoFigure}
-use Rattle.stick_rules.specs.declared.Judged.{Judged}
-use Rattle.stick_rules.specs.Conditions.{Condition, must, answered}
 use Rattle.stick_rules.specs.Names.{equalIgnoringCase, belongs, slipName}
-use Rattle.stick_rules.specs.Items.{Item, isFile, isFolder, isBelow, isShort, isListed, listed}
-use Rattle.stick_rules.specs.Items.{isRead, hasOwnReader, isAccepted, isFigure, isLong, isSummed}
+use Rattle.stick_rules.specs.Items.{Item, isFile, isFolder, hasPath, isShort, isListed, listed}
+use Rattle.stick_rules.specs.Items.{isRead, hasOwnReader, isAccepted, isFigure, hasLengthOf, hasSumsOf}
 
--- ---- what is expected: the slip itself, as a file of the very bytes that are judged here; then the files of its entries
+-- ---- THE MANIFEST, the files that are promised: the slip itself, as a file of the very bytes that are judged here; then those of its entries
 
 abbrev pub slipEntry : List ℕ → Entry
 slipEntry slip = record { name = slipName; file = length slip; first = sumOf slip .first; second = sumOf slip .second }
@@ -23,11 +23,11 @@ slipEntry slip = record { name = slipName; file = length slip; first = sumOf sli
 abbrev pub manifest : List ℕ → List Entry → List Entry
 manifest slip es = slipEntry slip ∷ es
 
--- ---- the entry of a path: the first whose name belongs to it, and its number; where there is none, as many as there are
+-- ---- the entry of a path: the first whose name belongs to it, by its index; where there is none, as many as there are
 
-unfoldable pub place : Bool → List Entry → List ℕ → ℕ
-place file [] path = 0
-place file (e ∷ es) path = cond (belongs file (e .name) path) 0 (suc (place file es path))
+unfoldable pub entryIndex : Bool → List Entry → List ℕ → ℕ
+entryIndex file [] path = 0
+entryIndex file (e ∷ es) path = cond (belongs file (e .name) path) 0 (suc (entryIndex file es path))
 
 -- of a file, the entry itself
 unfoldable pub entryOf : List Entry → List ℕ → Option Entry
@@ -35,38 +35,38 @@ entryOf [] path = none
 entryOf (e ∷ es) path = cond (equalIgnoringCase (e .name) path) (some e) (entryOf es path)
 
 -- of an item: a file has the entry of its name, a folder that of the first file that stands in it
-abbrev pub placeOf : List Entry → Item → ℕ
-placeOf es t = place (isFile t) es (t .path)
+abbrev pub indexOf : List Entry → Item → ℕ
+indexOf es t = entryIndex (isFile t) es (t .path)
 
-abbrev pub isOn : List Entry → Item → Bool
-isOn es t = ltb (placeOf es t) (length es)
+abbrev pub isExpected : List Entry → Item → Bool
+isExpected es t = ltb (indexOf es t) (length es)
 
 -- a folder does not have the name of an entry
-abbrev pub isFree : List Entry → Item → Bool
-isFree es t = leb (length es) (place true es (t .path))
+abbrev pub isNoEntry : List Entry → Item → Bool
+isNoEntry es t = leb (length es) (entryIndex true es (t .path))
 
 abbrev pub entryIs : (Entry → Item → Bool) → Option Entry → Item → Bool
 entryIs test none t = false
 entryIs test (some e) t = test e t
 
--- ---- what was met: the file of an entry, as (its number, 0), or a folder, as (the number of its entry, the length of its path)
+-- ---- the target of an item: of a file its entry, as (index, 0); of a folder the entry of a file in it, as (index, length of the path)
 
-pub record Mark : Type 0 where
+pub record Target : Type 0 where
   pub entry : ℕ
   pub upTo : ℕ
 
 abbrev pub upToOf : Item → ℕ
 upToOf t = cond (isFile t) 0 (length (t .path))
 
-abbrev pub markOf : List Entry → Item → Mark
-markOf es t = record { entry = placeOf es t; upTo = upToOf t }
+abbrev pub targetOf : List Entry → Item → Target
+targetOf es t = record { entry = indexOf es t; upTo = upToOf t }
 
-abbrev pub isMark : ℕ → ℕ → Mark → Bool
-isMark k n m = eqb k (m .entry) && eqb n (m .upTo)
+abbrev pub isTarget : ℕ → ℕ → Target → Bool
+isTarget k n x = eqb k (x .entry) && eqb n (x .upTo)
 
-abbrev pub isMatched : ℕ → ℕ → List Mark → Bool
-isMatched k n [] = false
-isMatched k n (m ∷ ms) = isMark k n m || isMatched k n ms
+-- it is among those that were matched
+abbrev pub isMatched : ℕ → ℕ → List Target → Bool
+isMatched k n matched = any (isTarget k n) matched
 
 -- ---- the first item is the stick's own folder
 
@@ -77,56 +77,52 @@ rootConditions (t ∷ ts) =
     must (eqb (length (t .path)) 0) (Unexpected 0) ∷
     must (isListed t) (Unchecked 0) ∷ []
 
-abbrev pub behind : List Item → List Item
-behind [] = []
-behind (t ∷ ts) = ts
+-- ---- any other item, the n-th, after items that have matched these targets
 
--- ---- any other item, the n-th, after items that have met what stands in `matched`
+-- no item before it has matched the same
+abbrev pub isUnmatched : List Entry → List Target → Item → Bool
+isUnmatched es matched t = not (isMatched (indexOf es t) (upToOf t) matched)
 
--- no item before it has met the same
-abbrev pub isUnmatched : List Entry → List Mark → Item → Bool
-isUnmatched es matched t = not (isMatched (placeOf es t) (upToOf t) matched)
-
-abbrev pub fileConditions : List Entry → List Mark → ℕ → Item → List Condition
+abbrev pub fileConditions : List Entry → List Target → ℕ → Item → List Condition
 fileConditions es matched n t =
-    must (isBelow t) (Unexpected n) ∷
-    must (isOn es t) (Unexpected n) ∷
+    must (hasPath t) (Unexpected n) ∷
+    must (isExpected es t) (Unexpected n) ∷
     must (isUnmatched es matched t) (Unexpected n) ∷
-    must (entryIs isLong (entryOf es (t .path)) t) (Differs n) ∷
+    must (entryIs hasLengthOf (entryOf es (t .path)) t) (Changed n) ∷
     must (isRead t) (Unchecked n) ∷
     must (hasOwnReader t) (Unchecked n) ∷
-    must (entryIs isSummed (entryOf es (t .path)) t) (Differs n) ∷
-    must (isAccepted t) (RefusedByReader n) ∷ []
+    must (entryIs hasSumsOf (entryOf es (t .path)) t) (Changed n) ∷
+    must (isAccepted t) (BadFigure n) ∷ []
 
-abbrev pub folderConditions : List Entry → List Mark → ℕ → Item → List Condition
+abbrev pub folderConditions : List Entry → List Target → ℕ → Item → List Condition
 folderConditions es matched n t =
     must (isFolder t) (Unchecked n) ∷
-    must (isBelow t) (Unexpected n) ∷
+    must (hasPath t) (Unexpected n) ∷
     must (isShort t) (Unexpected n) ∷
-    must (isFree es t) (Unexpected n) ∷
-    must (isOn es t) (Unexpected n) ∷
+    must (isNoEntry es t) (Unexpected n) ∷
+    must (isExpected es t) (Unexpected n) ∷
     must (isUnmatched es matched t) (Unexpected n) ∷
     must (isListed t) (Unchecked n) ∷ []
 
-unfoldable pub itemConditions : List Entry → List Mark → ℕ → Item → List Condition
+unfoldable pub itemConditions : List Entry → List Target → ℕ → Item → List Condition
 itemConditions es matched n t = cond (isFile t) (fileConditions es matched n t) (folderConditions es matched n t)
 
 -- ---- all of them, from the n-th on
 
-abbrev pub matching : List Entry → List Mark → Item → List Mark
-matching es matched t = markOf es t ∷ matched
+abbrev pub matching : List Entry → List Target → Item → List Target
+matching es matched t = targetOf es t ∷ matched
 
-unfoldable pub itemsConditions : List Entry → List Mark → ℕ → List Item → List Condition
+unfoldable pub itemsConditions : List Entry → List Target → ℕ → List Item → List Condition
 itemsConditions es matched n [] = []
 itemsConditions es matched n (t ∷ ts) = itemConditions es matched n t ++ itemsConditions es (matching es matched t) (suc n) ts
 
--- all that they meet
-unfoldable pub matchedBy : List Entry → List Mark → List Item → List Mark
+-- the targets of all of them
+unfoldable pub matchedBy : List Entry → List Target → List Item → List Target
 matchedBy es matched [] = matched
 matchedBy es matched (t ∷ ts) = matchedBy es (matching es matched t) ts
 
--- the file of each entry is met, from the k-th on
-unfoldable pub entryConditions : ℕ → List Entry → List Mark → List Condition
+-- the file of each entry was met, from the k-th on
+unfoldable pub entryConditions : ℕ → List Entry → List Target → List Condition
 entryConditions k [] matched = []
 entryConditions k (e ∷ es) matched = must (isMatched k 0 matched) (Absent k) ∷ entryConditions (suc k) es matched
 
@@ -136,21 +132,16 @@ entryConditions k (e ∷ es) matched = must (isMatched k 0 matched) (Absent k) �
 abbrev pub isWhole : List Item → Bool
 isWhole ts = eqb (length ts) (1 + total listed ts)
 
--- a test holds of some element
-unfoldable pub some-of : {A : Type 0} → (A → Bool) → List A → Bool
-some-of p [] = false
-some-of p (x ∷ xs) = p x || some-of p xs
-
--- ---- THE VERDICT on a stick with these entries and these items
-
 abbrev pub figureConditions : List Item → List Condition
-figureConditions ts = must (some-of isFigure ts) NoFigure ∷ []
+figureConditions ts = must (any isFigure ts) NoFigure ∷ []
 
-abbrev pub restConditions : List Entry → List Mark → List Item → List Condition
+abbrev pub restConditions : List Entry → List Target → List Item → List Condition
 restConditions es matched ts = must (isWhole ts) Incomplete ∷ (entryConditions 0 es matched ++ figureConditions ts)
 
+-- ---- THE VERDICT on a stick with this manifest and these items
+
 abbrev pub allConditions : List Entry → List Item → List Condition
-allConditions es ts = rootConditions ts ++ (itemsConditions es [] 1 (behind ts) ++ restConditions es (matchedBy es [] (behind ts)) ts)
+allConditions es ts = rootConditions ts ++ (itemsConditions es [] 1 (tail ts) ++ restConditions es (matchedBy es [] (tail ts)) ts)
 
 unfoldable pub judgement : List Entry → List Item → Judged
 judgement es ts = answered (allConditions es ts)

@@ -1,7 +1,6 @@
-pub mod Conditions
 pub mod Names
 pub mod Items
 pub mod Judge
-pub mod Rows
+pub mod Records
 pub mod Theorems
 pub mod Samples

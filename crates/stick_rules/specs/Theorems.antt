@@ -1,24 +1,24 @@
 -- What is proved of the judgement.
 use mathlib.Core.Path.{_≡_}
-use mathlib.Core.Bool.{Bool, true, false, _&&_, cond}
-use mathlib.Core.List.{List, [], _∷_, flatten}
+use mathlib.Core.Bool.{Bool, true, false, _&&_}
+use mathlib.Core.List.{List, [], _∷_, tail, flatten}
 use mathlib.Core.Logic.{_↔_}
 use mathlib.Core.Option.{some}
 use Prim.Native.Nat.{ℕ, _+_, _^_, _<_, _≤_}
 use lib.Dec.{eqb}
 use lib.ListN.{length}
-use Rattle.shared_words.specs.Lists.{total, All}
+use Rattle.shared_words.specs.Lists.{any, total, howMany, All}
 use Rattle.slip_rules.specs.Slip.{Entry}
-use Rattle.stick_rules.specs.declared.Judged.{Judged}
+use Rattle.shared_words.specs.declared.Judged.{Judged}
 use Rattle.stick_rules.specs.Names.{equalIgnoringCase, formatOf}
-use Rattle.stick_rules.specs.Items.{Item, isFile, isFolder, isBelow, isShort, isListed, listed, isRead, isFigure, isLong, isSummed}
-use Rattle.stick_rules.specs.Judge.{place, entryOf, markOf, isMark, behind, some-of, judgement}
+use Rattle.stick_rules.specs.Items.{Item, isFile, isFolder, hasPath, isShort, isListed, listed, isRead, isFigure, hasLengthOf, hasSumsOf}
+use Rattle.stick_rules.specs.Judge.{entryIndex, entryOf, targetOf, isTarget, judgement}
 
 -- ---- a good stick
 
 -- length and sums of a file are those of an entry
 abbrev pub agrees : Entry → Item → Bool
-agrees e t = isLong e t && isSummed e t
+agrees e t = hasLengthOf e t && hasSumsOf e t
 
 -- a file that is the one of an entry: of its length, read whole, with its sums; and if it is a figure, its own reader has accepted it
 pub record Agrees (e : Entry) (t : Item) : Type 0 where
@@ -29,16 +29,16 @@ pub record Agrees (e : Entry) (t : Item) : Type 0 where
 
 -- a folder that was listed, in which the file of an entry stands
 pub record Leads (es : List Entry) (t : Item) : Type 0 where
-  pub below : isBelow t ≡ true
+  pub below : hasPath t ≡ true
   pub short : isShort t ≡ true
-  pub free : length es ≤ place true es (t .path)
-  pub leads : place false es (t .path) < length es
+  pub free : length es ≤ entryIndex true es (t .path)
+  pub leads : entryIndex false es (t .path) < length es
   pub was-listed : isListed t ≡ true
 
 -- such a folder, or the file of the entry of its name
 pub data InOrder (es : List Entry) (t : Item) : Type 0 where
   folder : isFolder t ≡ true → Leads es t → InOrder es t
-  file : (e : Entry) → isFile t ≡ true → isBelow t ≡ true → entryOf es (t .path) ≡ some e → Agrees e t → InOrder es t
+  file : (e : Entry) → isFile t ≡ true → hasPath t ≡ true → entryOf es (t .path) ≡ some e → Agrees e t → InOrder es t
 
 -- the stick's own folder stands first
 pub record IsRoot (t : Item) : Type 0 where
@@ -50,30 +50,24 @@ abbrev pub Rooted : List Item → Type 0
 Rooted [] = ⊥
 Rooted (t ∷ ts) = IsRoot t
 
--- how many files have the entry of number k; how many items have this mark
+-- how many files have the entry of number k; how many items have this target
 abbrev pub isFileNo : List Entry → ℕ → Item → Bool
-isFileNo es k t = isFile t && eqb k (place true es (t .path))
-
-abbrev pub bit : Bool → ℕ
-bit b = cond b 1 0
-
-abbrev pub howMany : (Item → Bool) → List Item → ℕ
-howMany p ts = total (λ (t : Item). bit (p t)) ts
+isFileNo es k t = isFile t && eqb k (entryIndex true es (t .path))
 
 abbrev pub filesNo : List Entry → ℕ → List Item → ℕ
 filesNo es k ts = howMany (isFileNo es k) ts
 
-abbrev pub marked : List Entry → ℕ → ℕ → List Item → ℕ
-marked es k n ts = howMany (λ (t : Item). isMark k n (markOf es t)) ts
+abbrev pub targeting : List Entry → ℕ → ℕ → List Item → ℕ
+targeting es k n ts = howMany (λ (t : Item). isTarget k n (targetOf es t)) ts
 
 -- NOTHING MISSING, NOTHING MORE, NOTHING UNCHECKED
 pub record Good (es : List Entry) (ts : List Item) : Type 0 where
   pub rooted : Rooted ts
-  pub in-order : All (InOrder es) (behind ts)
-  pub each-once : (k : ℕ) → k < length es → filesNo es k (behind ts) ≡ 1
-  pub none-twice : (k n : ℕ) → marked es k n (behind ts) ≤ 1
+  pub in-order : All (InOrder es) (tail ts)
+  pub each-once : (k : ℕ) → k < length es → filesNo es k (tail ts) ≡ 1
+  pub none-twice : (k n : ℕ) → targeting es k n (tail ts) ≤ 1
   pub whole : length ts ≡ 1 + total listed ts
-  pub a-figure : some-of isFigure ts ≡ true
+  pub a-figure : any isFigure ts ≡ true
 
 -- A STICK PASSES EXACTLY when it is good.
 abbrev pub PassesExactly : Type 0
@@ -95,7 +89,7 @@ pub record MatchedOnce (ts : List Item) (e : Entry) : Type 0 where
 
 -- every file is on the slip, once; if it is a figure, its own reader has accepted it
 abbrev pub entriesNamed : List Entry → Item → ℕ
-entriesNamed es t = total (λ (e : Entry). bit (equalIgnoringCase (e .name) (t .path))) es
+entriesNamed es t = howMany (λ (e : Entry). equalIgnoringCase (e .name) (t .path)) es
 
 pub record OnSlip (es : List Entry) (t : Item) : Type 0 where
   pub one-entry : entriesNamed es t ≡ 1
@@ -134,12 +128,12 @@ Listings (t ∷ ts) (l ∷ ls) = (length l ≡ listed t) × Listings ts ls
 
 -- an item was listed; what was listed is an item
 abbrev pub WasListed : List (List ℕ) → Item → Type 0
-WasListed names t = some-of (equalIgnoringCase (t .path)) names ≡ true
+WasListed names t = any (equalIgnoringCase (t .path)) names ≡ true
 
 abbrev pub WasMet : List Item → List ℕ → Type 0
-WasMet ts name = some-of (λ (t : Item). equalIgnoringCase name (t .path)) ts ≡ true
+WasMet ts name = any (λ (t : Item). equalIgnoringCase name (t .path)) ts ≡ true
 
 -- NO NAME IS LOST: if every item but the stick's own folder was listed somewhere, every name that was listed is an item.
 abbrev pub NoneLost : Type 0
 NoneLost = (es : List Entry) (ts : List Item) (ls : List (List (List ℕ))) → judgement es ts ≡ Judged.Good → Listings ts ls →
-    All (WasListed (flatten ls)) (behind ts) → All (WasMet (behind ts)) (flatten ls)
+    All (WasListed (flatten ls)) (tail ts) → All (WasMet (tail ts)) (flatten ls)

@@ -25,7 +25,7 @@ ghost use Rattle.cob_rules.specs.Calls.{tablesCall as cobTablesCall, recordByte
 ghost use Rattle.cob_tables.specs.Rows.{rows as cobRows};
 ghost use Rattle.c_slip.specs.Codes.{entriesOr};
 ghost use Rattle.c_stick.specs.Codes.{oneOr};
-ghost use Rattle.stick_rules.specs.Rows.{judgeCall};
+ghost use Rattle.stick_rules.specs.Records.{judgeCall};
 ghost use Rattle.stick_evidence.specs.Evidence.{fileCall, moreCall};
 ghost use Rattle.c_counted.specs.Codes.{countedOr};
 ghost use Rattle.studio_rescue_rules.specs.Call.{cutBytes, rescueCall};

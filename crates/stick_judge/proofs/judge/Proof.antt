@@ -2,7 +2,7 @@
 use mathlib.Core.Path.{ap, _∙_}
 use Rattle.slip_rules.specs.declared.Found.{Found}
 use Rattle.slip_check.specs.Entries.{answerAs}
-use Rattle.stick_rules.specs.Rows.{judgeCall}
+use Rattle.stick_rules.specs.Records.{judgeCall}
 use borrow.Author.Needs.{needs}
 use Rattle.stick_judge.proofs.judge.Statement.{statement}
 use Rattle.stick_judge.proofs.judge.Tie as tie

@@ -2,15 +2,15 @@
 use mathlib.Core.Path.{sym, _∙_}
 use Prim.Native.Nat.{_/_, _%_, _^_}
 use borrow.Author.Tests.{eq-eqb, ne-eqb, lt-ltb, le-ltb}
-use Rattle.stick_rules.specs.Conditions.{answered}
+use Rattle.shared_words.specs.Conditions.{answered, broken}
 use Rattle.stick_rules.specs.Names.{formatOf}
-use Rattle.stick_rules.specs.Rows.{pathOf}
+use Rattle.stick_rules.specs.Records.{pathOf}
 use borrow.Author.Needs.{needs}
 use Rattle.stick_judge.proofs.judge_evidence.Statement.{statement}
 use Rattle.stick_judge.proofs.judge_evidence.Tie as tie
 
 returns : tie.Need-returns
-unfolding answered
+unfolding answered broken
 returns c =
     let a = c .before .before .before .args in
     let t = a .it in
@@ -18,7 +18,7 @@ returns c =
     rw long
 
 returns-2 : tie.Need-returns-2
-unfolding answered
+unfolding answered broken
 returns-2 c =
     let a = c .before .before .before .before .before .before .args in
     let t = a .it in
@@ -30,7 +30,7 @@ format-of-requires : tie.Need-format-of-requires
 format-of-requires c κs = search needs
 
 returns-3 : tie.Need-returns-3
-unfolding answered
+unfolding answered broken
 returns-3 c =
     let a = c .before .before .before .before .before .before .before .before .before .args in
     let t = a .it in
@@ -40,7 +40,7 @@ returns-3 c =
     rw (long, read, judged)
 
 returns-4 : tie.Need-returns-4
-unfolding answered
+unfolding answered broken
 returns-4 c =
     let a = c .before .before .before .before .before .before .before .before .before .before .before .args in
     let t = a .it in
@@ -51,7 +51,7 @@ returns-4 c =
     rw (long, read, judged, sums)
 
 returns-5 : tie.Need-returns-5
-unfolding answered
+unfolding answered broken
 returns-5 c =
     let a = c .before .before .before .before .before .before .before .before .before .before .before .before .before .args in
     let t = a .it in
@@ -63,7 +63,7 @@ returns-5 c =
     rw (long, read, judged, sums, answer)
 
 returns-6 : tie.Need-returns-6
-unfolding answered
+unfolding answered broken
 returns-6 c =
     let a = c .before .before .before .before .before .before .before .before .before .before .before .before .before .args in
     let t = a .it in

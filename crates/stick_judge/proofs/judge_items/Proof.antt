@@ -11,34 +11,34 @@ use Rattle.stick_judge.proofs.judge_items.Statement.{statement}
 use Rattle.stick_judge.proofs.judge_items.Tie as tie
 
 abbrev Inv-loop : tie.InvT-loop
-Inv-loop slip entries names items matched₀ n i₀ matched i = Going (manifest slip (entriesIn entries slip 7)) names items matched₀ n matched i
+Inv-loop slip entries digests names items matched₀ n i₀ matched i = Going (manifest slip (entriesIn entries slip 7)) names items matched₀ n matched i
 
 abbrev μ-loop : tie.MeasureT-loop
-μ-loop slip entries names items matched₀ n i₀ matched i = n - i
+μ-loop slip entries digests names items matched₀ n i₀ matched i = n - i
 
 loop-holds : tie.Need-loop-holds Inv-loop μ-loop
 loop-holds c =
-    let x = c .before .before .before .before in
+    let x = c .before .before .before .before .before in
     let a = x .args in
-    going-start (manifest (a .slip .now) (entriesIn (a .entries) (a .slip .now) 7)) (a .names .now) (a .items .now) (a .matched .now) (length (a .items .now) / 56) refl (omega (arith, x .pre .4)) (x .pre .3)
+    going-start (manifest (a .slip .now) (entriesIn (a .entries) (a .slip .now) 7)) (a .names .now) (a .items .now) (a .matched .now) (length (a .items .now) / 56) refl (omega (arith, x .pre .3)) (x .pre .2)
 
 judge-item-requires : tie.Need-judge-item-requires Inv-loop μ-loop
-judge-item-requires c κs = let x = c .before .before .before .before .before .before .before in (x .pre .0, x .pre .1, omega arith, omega (arith, c .before .before .loop .inv .long))
+judge-item-requires c κs = let x = c .before .before .before .before .before .before .before .before in (x .pre .0, omega arith, omega (arith, x .pre .1, c .before .before .loop .inv .long))
 
-enum-known-p : tie.Need-enum-known-p Inv-loop μ-loop
-enum-known-p c = search needs
+enum-known-r : tie.Need-enum-known-r Inv-loop μ-loop
+enum-known-r c = search needs
 
 same-length : tie.Need-same-length Inv-loop μ-loop
 same-length c = c .before .before .before .before .before .judge-item .ensures .long ∙ c .before .before .before .before .before .before .before .before .loop .inv .long
 
 returns : tie.Need-returns Inv-loop μ-loop
 returns c =
-    let x = c .before .before .before .before .before .before .before .before .before .before .before .before .before in
+    let x = c .before .before .before .before .before .before .before .before .before .before .before .before .before .before in
     let a = x .args in
     let l = c .before .before .before .before .before .before .before .before .loop in
     let n = length (a .items .now) / 56 in
     let es = manifest (a .slip .now) (entriesIn (a .entries) (a .slip .now) 7) in
-    going-bad es (a .names .now) (a .items .now) (a .matched .now) n (l .matched) (l .i) (l .inv) (omega arith) (c .before .before .before .before .before .judge-item .result) _ (c .before .before .before .before .before .judge-item .ensures) (c .before .p .given .0 .0) (c .before .p .given .1)
+    going-bad es (a .names .now) (a .items .now) (a .matched .now) n (l .matched) (l .i) (l .inv) (omega arith) (c .before .before .before .before .before .judge-item .result) _ (c .before .before .before .before .before .judge-item .ensures) (c .before .r .given .0 .0) (c .before .r .given .1)
 
 enum-told : tie.Need-enum-told Inv-loop μ-loop
 enum-told c = search needs
@@ -51,7 +51,7 @@ loop-less c = omega arith
 
 loop-again : tie.Need-loop-again Inv-loop μ-loop
 loop-again c =
-    let x = c .before .before .before .before .before .before .before .before .before .before .before .before in
+    let x = c .before .before .before .before .before .before .before .before .before .before .before .before .before in
     let a = x .args in
     let l = c .before .before .before .before .before .before .before .loop in
     let n = length (a .items .now) / 56 in
@@ -63,7 +63,7 @@ same-length-2 c = c .before .loop .inv .long
 
 returns-2 : tie.Need-returns-2 Inv-loop μ-loop
 returns-2 c =
-    let x = c .before .before .before .before .before .before in
+    let x = c .before .before .before .before .before .before .before in
     let a = x .args in
     let l = c .before .loop in
     let n = length (a .items .now) / 56 in
@@ -78,7 +78,7 @@ judge-items-spec =
     μ-loop
     loop-holds
     judge-item-requires
-    enum-known-p
+    enum-known-r
     same-length
     returns
     enum-told

@@ -1,7 +1,7 @@
 -- The walk, then the entries.
 use mathlib.Core.Path.{sym, _∙_}
 use borrow.Author.Tests.{not-true, not-false}
-use Rattle.stick_rules.specs.Rows.{itemsIn}
+use Rattle.stick_rules.specs.Records.{itemsIn}
 use Rattle.stick_judge.proofs.Whole.{rest-absent, rest-unfinished, rest-no-figure, rest-good}
 use borrow.Author.Needs.{needs}
 use Rattle.stick_judge.proofs.judge_rest.Statement.{statement}
@@ -19,8 +19,8 @@ returns c =
 judge-entries-requires : tie.Need-judge-entries-requires
 judge-entries-requires c κs = search needs
 
-enum-known-p : tie.Need-enum-known-p
-enum-known-p c = search needs
+enum-known-r : tie.Need-enum-known-r
+enum-known-r c = search needs
 
 enum-told : tie.Need-enum-told
 enum-told c = search needs
@@ -42,7 +42,7 @@ returns-3 c =
     let ts = itemsIn (a .names .now) (a .items .now) in
     let j = c .before .before .before .judge-entries in
     let w = sym (c .before .before .before .before .before .is-whole .ensures) ∙ not-false _ (c .before .before .before .before .if1 .left) in
-    rest-absent (a .n) ts (a .matched .now) w (j .result) (j .ensures) (c .before .p .given .0 .0) (c .before .p .given .1)
+    rest-absent (a .n) ts (a .matched .now) w (j .result) (j .ensures) (c .before .r .given .0 .0) (c .before .r .given .1)
 
 returns-4 : tie.Need-returns-4
 returns-4 c =
@@ -59,7 +59,7 @@ judge-rest-spec =
     is-whole-requires
     returns
     judge-entries-requires
-    enum-known-p
+    enum-known-r
     enum-told
     has-figure-requires
     returns-2

@@ -22,8 +22,8 @@ returns-2 c =
 judge-root-requires : tie.Need-judge-root-requires
 judge-root-requires c κs = omega (arith, c .before .if1 .left, c .if2 .left)
 
-enum-known-p : tie.Need-enum-known-p
-enum-known-p c = search needs
+enum-known-r : tie.Need-enum-known-r
+enum-known-r c = search needs
 
 enum-told : tie.Need-enum-told
 enum-told c = search needs
@@ -35,7 +35,7 @@ returns-3 : tie.Need-returns-3
 returns-3 c =
     let a = c .before .before .before .before .before .before .before .before .before .args in
     let es = entriesIn (a .entries) (a .slip .now) 7 in
-    sym (root-refused (a .slip .now) es (a .names .now) (a .items .now) (c .before .before .before .before .before .if1 .left) (c .before .before .before .judge-root .result) (c .before .before .before .judge-root .ensures) (c .before .p .given .0 .0) (c .before .p .given .1))
+    sym (root-refused (a .slip .now) es (a .names .now) (a .items .now) (c .before .before .before .before .before .if1 .left) (c .before .before .before .judge-root .result) (c .before .before .before .judge-root .ensures) (c .before .r .given .0 .0) (c .before .r .given .1))
 
 returns-4 : tie.Need-returns-4
 returns-4 c =
@@ -50,7 +50,7 @@ judge-stick-spec =
     returns
     returns-2
     judge-root-requires
-    enum-known-p
+    enum-known-r
     enum-told
     judge-all-requires
     returns-3

@@ -1,20 +1,23 @@
--- The loop's invariant: the names are alike exactly where what follows their first i bytes is.
+-- The loop's invariant: the names are alike exactly where their first `left` bytes are.
 use mathlib.Core.Path.{sym, _∙_}
 use Prim.Native.Nat.{_+_, _-_}
 use native.Mathlib.Omega.{arith}
 use borrow.Author.Needs.{needs}
-use Rattle.stick_names.proofs.Alike.{AlikeFor, alike-none, alike-on, alike-off, alike-end}
+use Rattle.stick_names.proofs.Alike.{AlikeFor, alike-all, alike-on, alike-off, alike-end}
 use Rattle.stick_names.proofs.equal_bytes.Statement.{statement}
 use Rattle.stick_names.proofs.equal_bytes.Tie as tie
 
 abbrev Inv-loop : tie.InvT-loop
-Inv-loop s a q b n i₀ i = AlikeFor s a q b n i
+Inv-loop s a q b n left₀ left = AlikeFor s a q b n left
 
 abbrev μ-loop : tie.MeasureT-loop
-μ-loop s a q b n i₀ i = n - i
+μ-loop s a q b n left₀ left = left
 
 loop-holds : tie.Need-loop-holds Inv-loop μ-loop
-loop-holds c = alike-none _ _ _ _ _
+loop-holds c = alike-all _ _ _ _ _
+
+sub-left : tie.Need-sub-left Inv-loop μ-loop
+sub-left c = omega arith
 
 add-lower : tie.Need-add-lower Inv-loop μ-loop
 add-lower c = omega arith
@@ -38,13 +41,11 @@ returns : tie.Need-returns Inv-loop μ-loop
 returns c =
     let x = c .before .before .before .before .before in
     let l = x .before .loop in
-    let a = x .before .before .before .before .args in
+    let s = x .before .before .before .before in
+    let a = s .args in
     let u = c .before .before .before .lower .ensures in
     let v = c .before .lower2 .ensures in
-    sym (l .inv .rest ∙ alike-off (a .s .now) (a .q .now) (a .a + l .i) (a .b + l .i) (a .n - l .i) (omega arith) (omega arith) (omega arith) (λ e. c .if1 .taken (u ∙ e ∙ sym v)))
-
-add-i : tie.Need-add-i Inv-loop μ-loop
-add-i c = omega arith
+    sym (alike-off (a .s .now) (a .a) (a .q .now) (a .b) (a .n) (s .pre .0) (s .pre .1) (l .left) (omega arith) (l .inv) (λ e. c .if1 .taken (u ∙ e ∙ sym v)))
 
 loop-less : tie.Need-loop-less Inv-loop μ-loop
 loop-less c = omega arith
@@ -57,13 +58,13 @@ loop-again c =
     let a = s .args in
     let u = c .before .before .before .lower .ensures in
     let v = c .before .lower2 .ensures in
-    alike-on (a .s .now) (a .q .now) (a .a) (a .b) (a .n) (l .i) (s .pre .0) (s .pre .1) (l .inv) (omega arith) (sym u ∙ c .if1 .left ∙ v)
+    alike-on (a .s .now) (a .a) (a .q .now) (a .b) (a .n) (s .pre .0) (s .pre .1) (l .left) (omega arith) (l .inv) (sym u ∙ c .if1 .left ∙ v)
 
 returns-2 : tie.Need-returns-2 Inv-loop μ-loop
 returns-2 c =
     let a = c .before .before .before .before .args in
     let l = c .before .loop in
-    sym (alike-end (a .s .now) (a .q .now) (a .a) (a .b) (a .n) (l .i) (l .inv) (omega arith))
+    sym (alike-end (a .s .now) (a .a) (a .q .now) (a .b) (a .n) (l .left) (omega arith) (l .inv))
 
 pub equal-bytes-spec : {M : Type 1} → statement M
 equal-bytes-spec =
@@ -72,6 +73,7 @@ equal-bytes-spec =
     Inv-loop
     μ-loop
     loop-holds
+    sub-left
     add-lower
     shared-slice-read-lower
     lower-requires
@@ -79,7 +81,6 @@ equal-bytes-spec =
     shared-slice-read-lower-2
     lower-requires-2
     returns
-    add-i
     loop-less
     loop-again
     returns-2)
