@@ -30,18 +30,20 @@ use Rattle.studio_rescue_rules.specs.declared.Mended.{Mended}
 use Rattle.studio_rescue_rules.specs.Rescue.{Cut, Rescued, beyond, saved, rescue}
 use Rattle.studio_rescue_rules.specs.Call.{Lent, callOf, rescueCall}
 use Rattle.shared_words.specs.declared.Written.{Written}
+use Rattle.shared_words.specs.declared.Judged.{Judged}
 use Rattle.shared_words.specs.declared.Written.the-variants.{Size, Refused}
 use Rattle.studio_write_judge.specs.Judged.{judged}
 use Rattle.studio_figure_rules.specs.Described.{judgedFlat, writeFlat}
 use Rattle.studio_write.specs.Write.{writing, writeCall}
 use Rattle.slip_rules.specs.Walk.{verdict as slipVerdict}
 use Rattle.slip_rules.specs.Calls.{writeConditions, slipReadCall, slipWriteCall}
+use Rattle.stick_rules.specs.Records.{judgeCall}
 use Rattle.cob_rules.specs.declared.Answered.{Answered as CobAnswered}
 use Rattle.cob_rules.specs.Walk.{verdict as cobVerdict}
 use Rattle.cob_rules.specs.Calls.{checkCall as cobCheckCall, give, listCall as cobListCall, sizesOf as cobSizesOf, sizesCall, tablesOf as cobTablesOf, tablesCall as cobTablesCall}
 use Rattle.c4d_rules.specs.Walk.{verdict as c4dVerdict}
 use Rattle.c4d_rules.specs.Calls.{objectsCall, c4dCheckCall, c4dListCall}
-use Rattle.claim_demands.specs.Demand1.{Answered, AnsweredOn, around, mended, Demand1}
+use Rattle.claim_demands.specs.Demand1.{Answered, AnsweredOn, around, mended, good, Demand1}
 use Rattle.claim_demands.proofs.Refused.{Apart, refuses, leaves}
 use Rattle.claim_demands.proofs.Formats.{summed, matched, slip-given, slip-written, cob-leaves, cob-checked, cob-given, cob-listed, cob-tabled, cob-by-mesh, c4d-checked, c4d-listed}
 use Rattle.shared_words.proofs.Bools.{by-test}
@@ -68,6 +70,9 @@ mended-apart r q e = cc
 
 write-apart : Apart Written.Refused
 write-apart r q e = cc
+
+judged-apart : Apart Judged.Refused
+judged-apart r q e = cc
 
 -- ---- what holds of each line of a fold holds of the fold
 
@@ -124,6 +129,10 @@ written : (file out : List ℕ) (w : Written) → AnsweredOn Size Refused out (w
 written file out (Refused r) = leaves Size Refused write-apart out r
 written file out (Size size) = inl (size, refl)
 
+stick-judged : (j : Judged) → Answered good Judged.Refused j
+stick-judged Judged.Good = inl (tt, refl)
+stick-judged (Judged.Refused r) = refuses good Judged.Refused judged-apart r
+
 -- ---- the demand
 
 pub demand1 : Demand1
@@ -147,6 +156,7 @@ demand1 = record {
   matches = matched;
   slip-read = λ e s row. slip-given e row (slipVerdict s);
   slip-write = λ names given out. slip-written _ out (broken (writeConditions names given (length out)));
+  stick-judge = λ slip names items. stick-judged (judgeCall slip names items);
   cob-check = λ s. cob-checked (cobVerdict s);
   cob-list = λ e s row. cob-listed e row (cobVerdict s);
   cob-sizes = λ e s mesh row.

@@ -26,6 +26,7 @@ use Rattle.studio_rescue_rules.specs.declared.Mended.{Mended}
 use Rattle.studio_rescue_rules.specs.Rescue.{Cut}
 use Rattle.studio_rescue_rules.specs.Call.{Lent, rescueCall}
 use Rattle.shared_words.specs.declared.Written.{Written}
+use Rattle.shared_words.specs.declared.Judged.{Judged}
 use Rattle.studio_write.specs.Write.{writeCall}
 use Rattle.studio_figure_rules.specs.Described.{Flat, writeFlat}
 use Rattle.slip_sums.specs.declared.Sum.{Sum}
@@ -35,6 +36,7 @@ use Rattle.slip_sums.specs.Passes.{sumsCall, matchOf}
 use Rattle.slip_rules.specs.declared.Numbers.{Numbers}
 use Rattle.slip_rules.specs.declared.Found.{Found as SlipFound}
 use Rattle.slip_rules.specs.Calls.{Given, slipReadCall, slipWriteCall}
+use Rattle.stick_rules.specs.Records.{judgeCall}
 use Rattle.cob_rules.specs.declared.Record.{Record as CobRecord}
 use Rattle.cob_rules.specs.declared.Answered.{Answered as CobAnswered}
 use Rattle.cob_rules.specs.Calls.{checkCall as cobCheckCall, listCall as cobListCall, sizesCall, Rows as CobRows, tablesCall as cobTablesCall}
@@ -68,6 +70,10 @@ around b = Boxed.Around (b .0) (b .1)
 abbrev pub mended : ℕ × ℕ → Mended
 mended x = Mended.Written (x .0) (x .1)
 
+-- nothing is wrong with a stick
+abbrev pub good : Unit {0} → Judged
+good u = Judged.Good
+
 -- a file passes against its entry
 abbrev pub passes : Unit {0} → Matched
 passes u = Matched.Same
@@ -93,6 +99,8 @@ pub record Demand1 : Type 1 where
   pub matches : (a : Sum) (length first second : ℕ) → Answered passes Matched.Refused (matchOf a length first second)
   pub slip-read : (e : Encoding Numbers ℕ) (s row : List ℕ) → AnsweredOn SlipFound.Entries SlipFound.Refused row (slipReadCall e s row)
   pub slip-write : (names : List ℕ) (given : Given) (out : List ℕ) → AnsweredOn Written.Size Written.Refused out (slipWriteCall names given out)
+  -- a stick against its slip. (The evidence for a file: SticksTold of crate claim_numbers.)
+  pub stick-judge : (slip names items : List ℕ) → Answered good Judged.Refused (judgeCall slip names items)
   -- Caligari files
   pub cob-check : (s : List ℕ) → Answered CobAnswered.Count CobAnswered.Refused (cobCheckCall s)
   pub cob-list : (e : Encoding CobRecord ℕ) (s row : List ℕ) → AnsweredOn CobAnswered.Count CobAnswered.Refused row (cobListCall e s row)

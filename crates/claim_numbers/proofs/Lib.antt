@@ -8,6 +8,7 @@ pub mod StudioRescues
 pub mod Studio
 pub mod SlipPlaces
 pub mod Slips
+pub mod Sticks
 pub mod CaligariPlaces
 pub mod CaligariBodies
 pub mod CaligariMeshes
