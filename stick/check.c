@@ -6,9 +6,10 @@
 #include <string.h>
 #include <strings.h>
 
-#include "slip.h"
+#include "judging.h"
 #include "stop.h"
 #include "tell.h"
+#include "top.h"
 #include "walk.h"
 
 enum { MOST_IN_A_ROW = 3 }; /* so often the stick may fail to answer before it is given up */
@@ -22,13 +23,18 @@ struct check {
     struct slip slip;
     struct presence in_master;
     struct presence on_slip;
-    struct manifest *files; /* gets all files, if not NULL */
-    struct manifest unread; /* the folders in which nothing could be looked at */
-    bool in_folder;         /* the root is a folder, not one file */
-    bool readable;          /* its names could be read */
+    struct evidence evidence;
+    size_t item;              /* of what was met last */
+    struct manifest compared; /* the master's files that were found the same, as they were read */
+    struct misfits misfits;   /* what is not as the slip says */
+    struct manifest *files;   /* gets all files, if not NULL */
+    struct manifest unread;   /* the folders in which nothing could be looked at */
+    bool in_folder;           /* the root is a folder, not one file */
+    bool readable;            /* its names could be read */
     bool given_up;
     unsigned in_a_row;
     unsigned long figures; /* met so far, checked or not */
+    unsigned long met;     /* files but for the slip */
 };
 
 /* Something could not be looked at; where the stick itself is gone, nothing more is tried. */
@@ -50,14 +56,22 @@ static void could_not_for_words(struct check *check, const char *path, const cha
     could_not(check, path, &trouble);
 }
 
-/* Takes a file up for a slip. */
-static void collect(struct check *check, const struct subject *subject) {
-    unsigned long long length = subject->sum >> 16;
-    if (length > UINT32_MAX) {
-        could_not_for_words(check, subject->path, "it is too big for a slip", "leave it off");
-    } else {
-        manifest_add(check->files, subject->below, strlen(subject->below), (uint32_t)length,
-                     (uint32_t)(subject->sum & 0xFFFF));
+/* Adds a file to a list for a slip; one that is too long for that is left out. */
+static void list_file(struct manifest *list, const char *name, uint64_t sum) {
+    if (sum >> 16 <= UINT32_MAX) {
+        manifest_add(list, name, strlen(name), (uint32_t)(sum >> 16), (uint32_t)(sum & 0xFFFF));
+    }
+}
+
+/* Takes what was found out about a file. */
+static void take_evidence(struct check *check, const struct subject *subject) {
+    const struct comparison *comparison = &subject->comparison;
+    evidence_take(&check->evidence, check->item, subject->item);
+    if (comparison->wanted && !comparison->different && !is_slip(subject->below)) {
+        list_file(&check->compared, subject->in_master->name, comparison->sum);
+    }
+    if (check->files != NULL) {
+        list_file(check->files, subject->below, subject_number(subject, TDS_ITEM_SUM));
     }
 }
 
@@ -70,14 +84,12 @@ static void check_file(struct check *check, struct subject *subject) {
         return;
     }
     check->in_a_row = 0;
-    check->report->grounds.unread += !subject->settled;
+    report_medium(check->report, subject->medium);
     if (stopped()) {
         return; /* it may not have been read to its end */
     }
-    tell_of(check->report, subject, check->against->again);
-    if (check->files != NULL) {
-        collect(check, subject);
-    }
+    take_evidence(check, subject);
+    tell_of(check->report, &check->misfits, subject, check->against->remedies);
 }
 
 /* Whether it is said of a file that the master has none of its name. */
@@ -96,8 +108,10 @@ static bool is_extra(struct check *check, const struct subject *subject) {
         return true;
     }
     if (check->on_slip.manifest != NULL && subject->entry == NULL) {
-        report_found(check->report, FOUND_EXTRA, subject->path, "not on the slip",
-                     "delete it, unless it belongs there and the slip is an old one");
+        misfits_add(&check->misfits, FOUND_EXTRA, subject->path, "not on the slip",
+                    subject->master == NULL
+                        ? check->against->remedies->not_on_slip
+                        : "the master has it, so the slip is wrong: copy the slip again");
         return true;
     }
     return false;
@@ -122,62 +136,100 @@ static void judge_file(struct check *check, struct subject *subject) {
     }
 }
 
-/* Whether this slip is the one that was read when the check began. */
-static bool was_seen(const struct check *check, const struct subject *subject) {
-    return check->slip.path != NULL && strcmp(last_name(check->slip.path), subject->below) == 0;
-}
-
-/* The slip has been read already; here it is only compared with the master's. */
+/* The slip is a file that is expected like any other, of the bytes that were read when the check
+ * began. */
 static void look_at_slip(struct check *check, struct subject *subject) {
-    subject->summed = false;
-    subject->entry = NULL;
-    if (check->slip.state == SLIP_UNREADABLE) {
-        return; /* which was said */
-    }
-    if (!was_seen(check, subject)) { /* a stick may fail to answer once, and then go on */
+    if (check->slip.state == SLIP_GOOD) {
+        judge_file(check, subject);
+    } else if (check->slip.state == SLIP_NONE) { /* a stick may fail to answer once, and go on */
         check->report->bare = 0;
         could_not_for_words(check, subject->path,
                             "this slip was not to be seen when the check began", "check again");
-        return;
-    }
-    if (!is_strange(check, subject) && subject->master != NULL) {
+    } else if (check->slip.state == SLIP_BROKEN && !is_strange(check, subject) &&
+               subject->master != NULL) {
         check_file(check, subject);
     }
 }
 
-/* The path of the master's file of the same name, or NULL if there is none. */
-static char *master_of(struct check *check, const char *name) {
-    const struct expected *file = presence_meet(&check->in_master, name);
-    struct text path = {0};
-    if (file != NULL) {
-        text_path(&path, check->against->folder, file->name);
+/* A slip that lost its name or its place: what it says of the stick is not known. */
+static void look_at_near_slip(struct check *check, const struct subject *subject) {
+    bool exact = is_slip(last_name(subject->path));
+    const char *remedy = exact ? "check the folder it stands in by itself, or delete it"
+                               : "call it " SLIP_NAME " if it is the slip, else delete it";
+    if (subject->master != NULL || subject->entry != NULL) {
+        remedy = "give it another name, here and in the edition, and write its slip again";
     }
-    return path.bytes;
+    could_not_for_words(check, subject->path,
+                        exact ? "it is a slip, and stands below the top of the stick"
+                              : "it is almost named as a slip",
+                        remedy);
 }
 
-static void look_at_file(struct check *check, const struct entry *entry) {
-    const char *below = check->in_folder ? entry->below : last_name(entry->path);
-    char *master = master_of(check, below);
+/* The file that is to stand in the master for one on the stick. */
+static const struct expected *master_of(struct check *check, const char *name, struct text *path) {
+    const struct expected *file = presence_meet(&check->in_master, name);
+    if (file != NULL) {
+        text_path(path, check->against->folder, file->name);
+    }
+    return file;
+}
+
+/* What is to be found out about a file. */
+static struct subject subject_of(struct check *check, const struct entry *entry, const char *below,
+                                 struct text *master) {
     struct subject subject = {.path = entry->path,
                               .below = below,
                               .kind = kind_of(entry->path),
                               .format = format_of(last_name(entry->path)),
+                              .read_as = entry->path,
                               .list = check->report->style->list,
-                              .master = master,
+                              .in_master = master_of(check, below, master),
                               .entry = presence_meet(&check->on_slip, below)};
+    subject.master = subject.in_master == NULL ? NULL : master->bytes;
     subject.summed = subject.entry != NULL || check->files != NULL;
+    return subject;
+}
+
+static void look_at_file(struct check *check, const struct entry *entry) {
+    struct text master = {0};
+    struct subject subject = subject_of(check, entry, entry->below, &master);
+    check->met += !is_slip(entry->below);
     if (subject.kind == KIND_LEFT_BEHIND) {
         report_found(check->report, FOUND_LEFT_BEHIND, entry->path, NULL, "delete it");
-    } else if (check->in_folder && is_slip(below)) {
+    } else if (is_slip(entry->below)) {
         look_at_slip(check, &subject);
+    } else if (is_near_slip(entry->path) && !is_half_slip(entry->path)) {
+        look_at_near_slip(check, &subject);
     } else {
-        if (!check->in_folder && subject.format == NULL) { /* it was asked for, whatever its name */
+        judge_file(check, &subject);
+    }
+    text_free(&master);
+}
+
+/* A file that was named alone: it was asked for, whatever its name. */
+static void look_at_alone(struct check *check, const struct entry *entry) {
+    bool compared = check->in_master.manifest != NULL;
+    char *below = compared ? path_from_top(entry->path) : need_copy(last_name(entry->path));
+    struct text master = {0};
+    if (below == NULL) {
+        could_not_for_words(check, entry->path,
+                            "it cannot be told which file of the master this one is",
+                            "give the folder of the stick");
+        return;
+    }
+    struct subject subject = subject_of(check, entry, below, &master);
+    if (subject.kind == KIND_LEFT_BEHIND) {
+        report_found(check->report, FOUND_LEFT_BEHIND, entry->path, NULL, "delete it");
+    } else {
+        if (subject.format == NULL && !compared) {
             subject.kind = KIND_FIGURE;
             subject.format = studio_format();
+            subject.read_as = subject.format->ending;
         }
         judge_file(check, &subject);
     }
-    free(master);
+    text_free(&master);
+    free(below);
 }
 
 /* Whether a file of this name should be there; it is then not missing too. */
@@ -191,7 +243,13 @@ static void look_at_folder(struct check *check, const struct entry *entry) {
     if (*entry->below != '\0' && kind == KIND_LEFT_BEHIND) {
         walk_pass_over(&check->walk);
         report_found(check->report, FOUND_LEFT_BEHIND, entry->path, NULL, "delete it");
-    } else if (is_expected(check, entry->below)) {
+        return;
+    }
+    evidence_folder(&check->evidence, check->item);
+    if (is_slip(entry->below) && check->slip.state == SLIP_UNREADABLE) {
+        return; /* which was said */
+    }
+    if (is_expected(check, entry->below) || is_slip(entry->below)) {
         could_not_for_words(check, entry->path,
                             "it is a folder, and a file of this name belongs here",
                             "take it off the stick, and copy again");
@@ -207,7 +265,9 @@ static void look_at_folder(struct check *check, const struct entry *entry) {
  */
 static void look_at_other(struct check *check, const struct entry *entry) {
     struct trouble trouble;
-    is_expected(check, entry->below);
+    if (!is_slip(entry->below)) { /* beside a link of its name the slip itself may stand */
+        is_expected(check, entry->below);
+    }
     check->figures += kind_of(entry->path) == KIND_FIGURE;
     if (entry->kind == ENTRY_LINK) {
         trouble_of_system(&trouble, ELOOP);
@@ -225,13 +285,24 @@ static void look_at_other(struct check *check, const struct entry *entry) {
     }
 }
 
+/* Each thing has its item before anything is tried. */
 static void look_at(struct check *check, const struct entry *entry) {
+    if (!entry->known) {
+        check->item = evidence_add(&check->evidence, entry->below);
+    }
     switch (entry->kind) {
     case ENTRY_FILE:
-        look_at_file(check, entry);
+        if (check->in_folder) {
+            look_at_file(check, entry);
+        } else {
+            look_at_alone(check, entry);
+        }
         break;
     case ENTRY_FOLDER:
         look_at_folder(check, entry);
+        break;
+    case ENTRY_LISTED:
+        evidence_listed(&check->evidence, check->item, entry->names);
         break;
     default:
         look_at_other(check, entry);
@@ -251,54 +322,77 @@ static bool is_unseen(const struct check *check, const char *name) {
     return false;
 }
 
-static void say_missing(struct check *check, const char *name, const char *words,
-                        const char *remedy) {
-    struct text path = {0};
-    if (is_unseen(check, name)) {
-        return;
-    }
-    text_path(&path, check->root, name);
-    report_found(check->report, FOUND_MISSING, path.bytes, words, remedy);
-    text_free(&path);
-}
-
 static void say_missing_of_master(struct check *check) {
     const struct presence *master = &check->in_master;
+    struct text path = {0};
     for (size_t i = 0; master->manifest != NULL && i < master->manifest->count; i++) {
-        if (!master->met[i]) {
-            say_missing(check, master->manifest->entries[i].name, NULL, "copy it again");
+        const char *name = master->manifest->entries[i].name;
+        if (!master->met[i] && !is_unseen(check, name)) {
+            text_path(&path, check->root, name);
+            report_found(check->report, FOUND_MISSING, path.bytes, NULL,
+                         check->against->remedies->missing);
         }
     }
+    text_free(&path);
 }
 
 /* After that of the master: meeting a name there now tells that it was said. */
 static void say_missing_of_slip(struct check *check) {
     const struct presence *slip = &check->on_slip;
     bool alone = check->in_master.manifest == NULL;
+    struct text path = {0};
     for (size_t i = 0; slip->manifest != NULL && i < slip->manifest->count; i++) {
         const char *name = slip->manifest->entries[i].name;
-        if (!slip->met[i] && presence_meet(&check->in_master, name) == NULL) {
-            say_missing(check, name,
+        if (!slip->met[i] && presence_meet(&check->in_master, name) == NULL &&
+            !is_unseen(check, name)) {
+            text_path(&path, check->root, name);
+            misfits_add(&check->misfits, FOUND_MISSING, path.bytes,
                         alone ? NULL : "missing here and in the master, though it is on the slip",
-                        alone ? "copy it again"
+                        alone ? check->against->remedies->missing
                               : "see that it is the right master, and the slip no old one");
         }
     }
+    text_free(&path);
 }
 
-/* What only the whole walk can tell. */
-static void at_end(struct check *check) {
+/* Whether some file that belongs on the stick stands in a folder, by all that tells of it. */
+static bool leads(const struct check *check, const char *folder) {
+    const struct manifest *slip = check->on_slip.manifest, *master = check->in_master.manifest;
+    return (slip == NULL || manifest_leads(slip, folder)) &&
+           (master == NULL || manifest_leads(master, folder));
+}
+
+/* An empty folder belongs to no edition: a slip has files only. */
+static void say_empty_folder(struct check *check, const char *below) {
+    struct text path = {0};
+    text_path(&path, check->root, below);
+    if (check->files != NULL && check->slip.state == SLIP_NONE) {
+        could_not_for_words(check, path.bytes, "the folder is empty, and a slip has files only",
+                            "delete it");
+    } else if (!leads(check, below)) {
+        report_found(check->report, FOUND_EXTRA, path.bytes,
+                     "an empty folder, in which nothing belongs", "delete it");
+    }
+    text_free(&path);
+}
+
+static void say_empty_folders(struct check *check) {
+    const struct evidence *evidence = &check->evidence;
+    struct text below = {0};
+    for (size_t i = 1; i < evidence->count; i++) {
+        if (tds_get_item(evidence->items, i, TDS_ITEM_KIND) == TDS_ITEM_FOLDER &&
+            tds_get_item(evidence->items, i, TDS_ITEM_SIZE) == 1) {
+            text_cut(&below, 0);
+            evidence_path(evidence, i, &below);
+            say_empty_folder(check, below.bytes);
+        }
+    }
+    text_free(&below);
+}
+
+/* What only the whole walk of a folder can tell. */
+static void at_end_of_folder(struct check *check) {
     struct trouble trouble;
-    if (stopped()) {
-        check->report->unfinished = true;
-    }
-    if (check->report->unfinished || !check->readable) {
-        return;
-    }
-    check->report->grounds.whole = true;
-    if (!check->in_folder) {
-        return;
-    }
     if (!walk_root_stands(&check->walk, check->root)) {
         trouble_of_stick(&trouble);
         could_not(check, check->root, &trouble);
@@ -310,15 +404,43 @@ static void at_end(struct check *check) {
     }
     say_missing_of_master(check);
     say_missing_of_slip(check);
+    say_empty_folders(check);
+}
+
+/* What is known when the walk has ended, however it did. */
+static void at_end(struct check *check) {
+    struct report *report = check->report;
+    struct grounds *grounds = &report->grounds;
+    report->unfinished = report->unfinished || stopped();
+    grounds->alone = !check->in_folder;
+    grounds->accepted = evidence_accepted(&check->evidence);
+    if (!report->unfinished && check->readable) {
+        grounds->whole = evidence_is_whole(&check->evidence);
+        if (check->in_folder) {
+            at_end_of_folder(check);
+        }
+    }
+    misfits_say(&check->misfits, report, check->slip.path, check->met);
+    if (grounds->whole && check->in_folder) {
+        judge_gathered(&(struct gathered){check->root, &check->evidence, check->in_master.manifest,
+                                          &check->compared, &check->slip, check->misfits.count > 0},
+                       report);
+    }
 }
 
 /* The slip of this stick, if it has one that can be used. */
 static void take_slip(struct check *check) {
     struct slip *slip = &check->slip;
     slip_read(slip, check->root);
-    check->report->grounds.unread += !slip->settled;
+    if (slip->medium != MEDIUM_UNKNOWN) {
+        report_medium(check->report, slip->medium);
+    }
     if (slip->state == SLIP_UNREADABLE) {
         could_not(check, slip->path, &slip->trouble);
+    } else if (slip->state == SLIP_BROKEN && !TDS_REFUSED(slip->answer)) {
+        report_found(check->report, FOUND_BROKEN_SLIP, slip->path,
+                     "the slip names itself, or a file twice",
+                     "delete it, and copy the right slip");
     } else if (slip->state == SLIP_BROKEN) {
         struct text words = {0};
         text_format(&words, "the slip itself is broken (%d), at byte %lu",
@@ -343,6 +465,18 @@ static void say_how_much(const struct check *check) {
                  manifest == NULL ? 0 : manifest->count, bytes);
 }
 
+static void check_free(struct check *check) {
+    walk_free(&check->walk);
+    checker_free(&check->checker);
+    presence_free(&check->in_master);
+    presence_free(&check->on_slip);
+    evidence_free(&check->evidence);
+    manifest_free(&check->compared);
+    misfits_free(&check->misfits);
+    manifest_free(&check->unread);
+    slip_free(&check->slip);
+}
+
 void check_stick(const char *root, const struct against *against, struct manifest *files,
                  struct report *report) {
     struct check check = {
@@ -357,13 +491,6 @@ void check_stick(const char *root, const struct against *against, struct manifes
         check.in_folder = check.in_folder || entry.kind == ENTRY_FOLDER;
         look_at(&check, &entry);
     }
-    report->grounds.alone = !check.in_folder;
-    report->grounds.compared = check.on_slip.manifest != NULL || check.in_master.manifest != NULL;
     at_end(&check);
-    walk_free(&check.walk);
-    checker_free(&check.checker);
-    presence_free(&check.in_master);
-    presence_free(&check.on_slip);
-    manifest_free(&check.unread);
-    slip_free(&check.slip);
+    check_free(&check);
 }

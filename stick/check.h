@@ -3,13 +3,14 @@
 #define STICK_CHECK_H
 
 #include "manifest.h"
+#include "remedies.h"
 #include "report.h"
 
 /* What a stick is compared with. */
 struct against {
     const char *folder;              /* the master's, or NULL */
     const struct manifest *manifest; /* what is in it */
-    const char *again;               /* what to do about a file that differs */
+    const struct remedies *remedies; /* what to do about a file that is not as it should be */
 };
 
 /*

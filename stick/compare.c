@@ -43,6 +43,7 @@ bool comparison_add(struct comparison *comparison, const uint8_t *bytes, size_t 
     if (!reading_block(&comparison->master, comparison->block, length, &other, trouble)) {
         return blame_master(trouble);
     }
+    comparison->sum = tds_sum_add(comparison->sum, comparison->block, other);
     if (other != length || memcmp(bytes, comparison->block, length) != 0) {
         comparison->different = true;
         comparison->at = before + first_difference(bytes, length, comparison->block, other);

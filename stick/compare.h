@@ -8,6 +8,7 @@ struct comparison {
     bool wanted;
     bool different;
     unsigned long long at; /* the first byte that differs, or where one of the two ends */
+    uint64_t sum;          /* of the master's file so far, as tds_sum_add has it */
     struct reading master;
     uint8_t *block;
 };

@@ -17,7 +17,10 @@ static int status_of(const struct grounds *grounds) {
         int status = i == FOUND_OK || grounds->count[i] == 0 ? 0 : wrong[i] ? 1 : 2;
         worst = status > worst ? status : worst;
     }
-    if (!grounds->whole || grounds->unread > 0 || (worst == 0 && grounds->accepted == 0)) {
+    if (!grounds->whole || grounds->unread > 0) {
+        return 2;
+    }
+    if (worst == 0 && (grounds->alone ? grounds->count[FOUND_OK] : grounds->accepted) == 0) {
         return 2;
     }
     return worst;
@@ -28,8 +31,11 @@ struct result decide(const struct grounds *grounds) {
     if (status != 0) {
         return (struct result){DO_NOT_SEAL, status};
     }
-    if (grounds->alone || !grounds->compared) {
+    if (grounds->alone || grounds->manifests == 0) {
         return (struct result){STRUCTURE_ONLY, grounds->alone || grounds->asked ? 0 : 2};
+    }
+    if (grounds->agreed != grounds->manifests) {
+        return (struct result){DO_NOT_SEAL, 2};
     }
     return (struct result){PASS, 0};
 }

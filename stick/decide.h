@@ -27,8 +27,9 @@ struct grounds {
     unsigned long count[OUTCOMES]; /* of all that was met */
     unsigned long accepted;        /* figures that their readers accepted */
     unsigned long unread;          /* files that were perhaps not read from the stick itself */
-    bool whole;                    /* the walk came to its end */
-    bool compared;                 /* every file, with a slip or a master */
+    bool whole;                    /* all names were listed, and all that was listed was met */
+    unsigned long manifests;       /* what must be there, by a slip or by a master */
+    unsigned long agreed;          /* those by which the library judges the stick good */
     bool alone;                    /* a file was named, not a folder: no word on a stick */
     bool asked;                    /* to look at the structure only */
 };

@@ -1,4 +1,4 @@
-/* The check of one figure: the reader decides, this only carries bytes there and answers back. */
+/* What is in a figure that its reader accepted, for --list. */
 #include "figure.h"
 
 #include <stdlib.h>
@@ -36,8 +36,8 @@ static struct totals totals_of(const uint8_t *records, size_t count) {
 }
 
 /* The list of an accepted file that has this many records. */
-static uint64_t list_figure(struct checker *checker, size_t length, size_t count,
-                            struct totals *totals) {
+static void list_figure(struct checker *checker, size_t length, size_t count,
+                        struct totals *totals) {
     uint64_t answer;
     if (count > checker->records_room) {
         checker->records = need_memory(checker->records, count * TDS_RECORD_BYTES);
@@ -45,21 +45,14 @@ static uint64_t list_figure(struct checker *checker, size_t length, size_t count
     }
     answer = tds_list(checker->block, length, checker->records,
                       checker->records_room * TDS_RECORD_BYTES);
-    if (!TDS_REFUSED(answer)) {
-        *totals = totals_of(checker->records, (size_t)answer);
-    }
-    return answer;
+    *totals = totals_of(checker->records, TDS_REFUSED(answer) ? 0 : (size_t)answer);
 }
 
-uint64_t judge_figure(struct checker *checker, const struct format *format, size_t length,
-                      struct totals *totals) {
-    uint64_t answer = format->check(checker->block, length);
-    if (TDS_REFUSED(answer) || totals == NULL) {
-        return answer;
-    }
+void count_figure(struct checker *checker, const struct format *format, size_t length,
+                  uint64_t answer, struct totals *totals) {
     if (format == studio_format()) {
-        return list_figure(checker, length, (size_t)answer, totals);
+        list_figure(checker, length, (size_t)answer, totals);
+    } else {
+        *totals = (struct totals){{{format->one, format->many, (unsigned long)answer}}, 1};
     }
-    *totals = (struct totals){{{format->one, format->many, (unsigned long)answer}}, 1};
-    return answer;
 }

@@ -1,4 +1,4 @@
-/* The check of one figure in memory. */
+/* What is in a figure in memory that its reader accepted. */
 #ifndef STICK_FIGURE_H
 #define STICK_FIGURE_H
 
@@ -18,11 +18,8 @@ struct checker {
 void checker_start(struct checker *checker, struct report *report);
 void checker_free(struct checker *checker);
 
-/*
- * Judges the figure in the block, by the reader of its format; if it is good and totals are wanted
- * (not NULL), counts them.
- */
-uint64_t judge_figure(struct checker *checker, const struct format *format, size_t length,
-                      struct totals *totals);
+/* Counts what is in the accepted figure in the block, for which its reader had this answer. */
+void count_figure(struct checker *checker, const struct format *format, size_t length,
+                  uint64_t answer, struct totals *totals);
 
 #endif

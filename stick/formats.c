@@ -1,16 +1,16 @@
-/* The formats of figures: the one table of them. A reader for another one is a call in its row. */
+/* The formats of figures: the one table of them. Which reader has a file is the library's to say.
+ */
 #include "formats.h"
 
 #include <stdbool.h>
 #include <string.h>
+#include <stddef.h>
 #include <strings.h>
 
-#include "tds.h"
-
 static const struct format formats[] = {
-    {".3ds", tds_check, "chunk", "chunks"},
-    {".cob", tds_cob_check, "chunk", "chunks"},
-    {".c4d", tds_c4d_check, "object", "objects"},
+    {".3ds", "chunk", "chunks"},
+    {".cob", "chunk", "chunks"},
+    {".c4d", "object", "objects"},
 };
 enum { FORMATS = sizeof formats / sizeof formats[0] };
 
@@ -40,7 +40,7 @@ static bool is_letter(char byte) {
 }
 
 /* With a letter behind it, the ending would be part of another word: notes.cobalt.txt. */
-static bool holds(const char *name, const char *ending) {
+bool name_holds(const char *name, const char *ending) {
     size_t length = strlen(ending);
     for (; *name != '\0'; name++) {
         if (strncasecmp(name, ending, length) == 0 && !is_letter(name[length])) {
@@ -52,7 +52,7 @@ static bool holds(const char *name, const char *ending) {
 
 const struct format *format_near(const char *name) {
     for (size_t i = 0; i < FORMATS; i++) {
-        if (holds(name, formats[i].ending)) {
+        if (name_holds(name, formats[i].ending)) {
             return &formats[i];
         }
     }

@@ -1,14 +1,12 @@
-/* The formats of figures, and who reads each. */
+/* The formats of figures. */
 #ifndef STICK_FORMATS_H
 #define STICK_FORMATS_H
 
-#include <stddef.h>
-#include <stdint.h>
+#include <stdbool.h>
 
 struct format {
-    const char *ending; /* of names, in letters of either case */
-    uint64_t (*check)(const uint8_t *file, size_t file_len);
-    const char *one, *many; /* what the check answers the count of */
+    const char *ending;     /* of names, in letters of either case */
+    const char *one, *many; /* what its reader answers the count of */
 };
 
 /* The format of 3D Studio's figures: what is named as no figure is read as one if it must be. */
@@ -18,5 +16,8 @@ const struct format *studio_format(void);
  * own; NULL if none. */
 const struct format *format_of(const char *name);
 const struct format *format_near(const char *name);
+
+/* Whether an ending stands anywhere in a name as a word of its own, in letters of either case. */
+bool name_holds(const char *name, const char *ending);
 
 #endif

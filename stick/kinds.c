@@ -66,6 +66,14 @@ bool is_half_slip(const char *path) {
            name[length + strspn(name + length, "0123456789")] == '\0';
 }
 
+/* With a letter behind it, the ending would be part of another word. The last is what a stick
+ * makes of the name where it keeps none of more than eight and three letters: STICK~1.SLI. */
+bool is_near_slip(const char *path) {
+    const char *name = last_name(path);
+    size_t length = strlen(name);
+    return name_holds(name, ".slip") || (length >= 4 && strcasecmp(name + length - 4, ".sli") == 0);
+}
+
 enum kind kind_of(const char *path) {
     const char *name = last_name(path);
     const struct format *format = format_of(name);

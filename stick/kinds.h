@@ -16,6 +16,10 @@ enum kind {
  */
 enum kind kind_of(const char *path);
 
+/* Whether a file may be a slip that lost its name or its place: rtick.slip, stick.slip~, a
+ * stick.slip in a folder below. The slip itself is asked for before. */
+bool is_near_slip(const char *path);
+
 /* Whether a path is what the writing of a slip leaves when it is broken off: stick.slip.part. */
 bool is_half_slip(const char *path);
 

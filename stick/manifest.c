@@ -68,6 +68,27 @@ static size_t place_of(const struct manifest *manifest, const char *name) {
     return low;
 }
 
+const struct expected *manifest_twice(const struct manifest *manifest) {
+    for (size_t i = 1; i < manifest->count; i++) {
+        if (strcasecmp(manifest->entries[i - 1].name, manifest->entries[i].name) == 0) {
+            return &manifest->entries[i];
+        }
+    }
+    return NULL;
+}
+
+bool manifest_leads(const struct manifest *manifest, const char *folder) {
+    struct text below = {0};
+    size_t place;
+    bool leads;
+    text_format(&below, "%s/", folder);
+    place = place_of(manifest, below.bytes);
+    leads = place < manifest->count &&
+            strncasecmp(manifest->entries[place].name, below.bytes, below.length) == 0;
+    text_free(&below);
+    return leads;
+}
+
 void presence_start(struct presence *presence, const struct manifest *manifest) {
     size_t count = manifest == NULL ? 0 : manifest->count;
     *presence = (struct presence){manifest, need_memory(NULL, count * sizeof *presence->met)};
@@ -99,7 +120,7 @@ const struct expected *presence_meet(struct presence *presence, const char *name
 /* What the walk met that is no file: all but folders is a problem. */
 static bool is_folder(struct report *report, const struct entry *entry) {
     struct trouble trouble;
-    if (entry->kind == ENTRY_FOLDER) {
+    if (entry->kind == ENTRY_FOLDER || entry->kind == ENTRY_LISTED) {
         return true;
     }
     if (entry->kind == ENTRY_ERROR) {

@@ -24,6 +24,13 @@ void manifest_add(struct manifest *manifest, const char *name, size_t name_lengt
 void manifest_sort(struct manifest *manifest);
 void manifest_free(struct manifest *manifest);
 
+/* The first file of a sorted manifest whose name is there before, or NULL: on a stick two names
+ * that differ only in their letters' case are one. */
+const struct expected *manifest_twice(const struct manifest *manifest);
+
+/* Whether any file of a sorted manifest stands below this folder. */
+bool manifest_leads(const struct manifest *manifest, const char *folder);
+
 /* All files below a folder, but for what other computers leave. Answers whether all could be read;
  * what cannot is reported. */
 bool manifest_of_folder(struct manifest *manifest, const char *folder, struct report *report);

@@ -30,7 +30,10 @@ static bool begin(struct reading *reading, enum source source, struct trouble *t
         trouble_of_system(trouble, error);
         return false;
     }
-    reading->settled = error == 0;
+    reading->medium = error != 0                          ? MEDIUM_MEMORY
+                      : source == FROM_ANYWHERE           ? MEDIUM_UNKNOWN
+                      : is_held_by_program(reading->file) ? MEDIUM_PROGRAM
+                                                          : MEDIUM_STICK;
     reading->size = (unsigned long long)status.st_size;
     return true;
 }

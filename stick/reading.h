@@ -12,12 +12,20 @@
 /* One byte over the longest figure shows the reader that a file is too long. */
 enum { MOST_READ = TDS_LONGEST_FILE + 1 };
 
+/* Where the bytes of a file come from. */
+enum medium {
+    MEDIUM_UNKNOWN,
+    MEDIUM_STICK,
+    MEDIUM_MEMORY, /* of this computer, or so it may be */
+    MEDIUM_PROGRAM /* or of the program that is the file system */
+};
+
 struct reading {
     int file;
     unsigned long long size; /* when it was opened */
     unsigned long long read; /* so far */
     bool ended;              /* its end was met */
-    bool settled;            /* what is read comes from the stick */
+    enum medium medium;
 };
 
 /* Where a file is to be read from. A master may well be in memory; a stick's file may not. */

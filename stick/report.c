@@ -170,6 +170,11 @@ void report_unknown(struct report *report, const char *path) {
     }
 }
 
+void report_medium(struct report *report, enum medium medium) {
+    report->grounds.unread += medium != MEDIUM_STICK;
+    report->by_program += medium == MEDIUM_PROGRAM;
+}
+
 void report_end(struct report *report) {
     report->files = report->grounds.alone;
     report->result = decide(&report->grounds);
@@ -191,6 +196,8 @@ void report_join(struct report *sum, const struct report *report) {
     sum->slip_files += report->slip_files;
     sum->copied += report->copied;
     sum->there += report->there;
+    sum->kept += report->kept;
+    sum->by_program += report->by_program;
     sum->unfinished = sum->unfinished || report->unfinished;
     names_join(&sum->near, &report->near);
     names_join(&sum->unknown, &report->unknown);

@@ -7,6 +7,7 @@
 
 #include "decide.h"
 #include "names.h"
+#include "reading.h"
 #include "screen.h"
 #include "trouble.h"
 
@@ -61,6 +62,8 @@ struct report {
     unsigned long slip_files; /* on them */
     unsigned long copied;     /* files that were copied, */
     unsigned long there;      /* and those that were there already */
+    unsigned long kept;       /* slips that were to be written, and are there and good */
+    unsigned long by_program; /* files that a program which is a file system may hold */
     bool unfinished;
 };
 
@@ -86,6 +89,9 @@ void report_unknown(struct report *report, const char *path);
 
 /* All has been found out: the verdict is decided. */
 void report_end(struct report *report);
+
+/* A file was read, from the stick or perhaps from elsewhere. */
+void report_medium(struct report *report, enum medium medium);
 
 /* Adds what is in a report that has ended to another. */
 void report_join(struct report *sum, const struct report *report);

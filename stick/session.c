@@ -46,7 +46,7 @@ static void say_not_done(struct report *report, const char *folder, const char *
 
 /* The edition must be well itself: its faults would be on every stick. */
 static int check_edition(const struct options *options) {
-    struct against nothing = {0};
+    struct against nothing = {.remedies = &edition_remedies};
     struct report report;
     struct screen screen;
     enum verdict verdict;
@@ -78,7 +78,8 @@ static void read_master(struct session *session, const char *folder) {
     single_start(&screen, &report, session->options);
     session->unread = !manifest_of_folder(&session->manifest, folder, &report);
     session->against =
-        (struct against){session->unread ? NULL : folder, &session->manifest, "copy it again"};
+        (struct against){session->unread ? NULL : folder, &session->manifest,
+                         session->options->edition == NULL ? &stick_remedies : &copy_remedies};
     screen_end(&screen);
     report_free(&report);
 }
@@ -86,15 +87,12 @@ static void read_master(struct session *session, const char *folder) {
 int session_start(struct session *session, const struct options *options) {
     const char *folder = options->edition != NULL ? options->edition : options->against;
     int status = 0;
-    *session = (struct session){.options = options};
+    *session = (struct session){.options = options, .against = {.remedies = &stick_remedies}};
     if (options->edition != NULL) {
         status = check_edition(options);
     }
     if (status == 0 && folder != NULL) {
         read_master(session, folder);
-    }
-    if (options->edition != NULL) {
-        session->against.again = "delete it there, then copy again";
     }
     return status;
 }
@@ -114,20 +112,22 @@ static bool is_file(const char *path) {
  */
 static void check_and_write_slip(const struct session *session, const char *folder,
                                  struct report *report) {
+    const struct against nothing = {.remedies = &edition_remedies};
     const char *label = "no slip was written";
     struct manifest files = {0};
+    enum verdict verdict;
     if (!session->options->any_folder && volume_of(folder, NULL) == VOLUME_STICK) {
         say_not_done(report, folder, label, "it is on a stick, and a slip is for the edition",
                      "write it there, then copy (--any-folder writes it anywhere)");
         return;
     }
-    check_stick(folder, &session->against, &files, report);
+    check_stick(folder, &nothing, &files, report);
     manifest_sort(&files);
-    if (decide(&report->grounds).verdict == DO_NOT_SEAL) {
+    verdict = decide(&report->grounds).verdict;
+    if (verdict == DO_NOT_SEAL) {
         say_not_done(report, folder, label, "not all is well in it", "see the other lines");
-    } else if (report->bare == 0) {
-        say_not_done(report, folder, label, "there is one already, and it is left alone",
-                     "delete it first");
+    } else if (verdict == PASS) { /* a good one is there */
+        report->kept = 1;
     } else if (slip_write(folder, &files, report)) {
         report->grounds.asked = true; /* there was nothing to compare with, as it must be */
         report->bare = 0;

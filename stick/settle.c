@@ -2,7 +2,7 @@
  * Reading the medium, not the memory: just after copying, this computer has all figures in its own
  * memory, and a bit that was turned on the way to the stick would not be seen.
  */
-#define _DEFAULT_SOURCE /* mincore, syscall */
+#define _GNU_SOURCE /* mincore, syscall, SEEK_DATA */
 #include "settle.h"
 
 #include <errno.h>
@@ -12,6 +12,7 @@
 #include <stdint.h>
 #include <sys/mman.h>
 #include <sys/stat.h>
+#include <sys/statvfs.h>
 #include <sys/syscall.h>
 #include <sys/sysmacros.h>
 #include <sys/vfs.h>
@@ -32,6 +33,12 @@ enum { FUSE = 0x65735546 }; /* the kind of a file system that is a program */
  */
 static bool can_be_asked(const struct stat *status) {
     return major(status->st_dev) != 0 && (geteuid() == 0 || geteuid() == status->st_uid);
+}
+
+bool is_held_by_program(int file) {
+    struct statfs system;
+    return fstatfs(file, &system) != 0 ||
+           (system.f_type == FUSE && (system.f_flags & ST_RDONLY) == 0);
 }
 
 /*
@@ -69,19 +76,27 @@ static bool piece_is_held(int file, off_t from, size_t length) {
     return held;
 }
 
+/* Where the next bytes stand that are on the medium, at a page: a file may be almost all holes, and
+ * so long that asking about each of them takes for ever. */
+static off_t next_data(int file, off_t from) {
+    off_t data = lseek(file, from, SEEK_DATA);
+    return data < 0 ? (errno == ENXIO ? -1 : from) : data - data % sysconf(_SC_PAGESIZE);
+}
+
 /* What another program uses at the same time stays in memory, and dropping it is no error. */
 static bool is_held(int file) {
-    off_t most = (off_t)PAGES * sysconf(_SC_PAGESIZE);
+    off_t most = (off_t)PAGES * sysconf(_SC_PAGESIZE), from;
     struct stat status;
     bool held = false;
     if (fstat(file, &status) != 0 || !can_be_asked(&status)) {
         return false;
     }
-    for (off_t from = 0; from < status.st_size && !held; from += most) {
+    for (from = next_data(file, 0); from >= 0 && from < status.st_size && !held;
+         from = next_data(file, from + most)) {
         off_t left = status.st_size - from;
         held = piece_is_held(file, from, (size_t)(left < most ? left : most));
     }
-    return held;
+    return lseek(file, 0, SEEK_SET) != 0 || held;
 }
 
 /* What is not written out cannot be dropped. */

@@ -57,54 +57,60 @@ static void find(struct slip *slip, const char *folder) {
 }
 
 /* Reads the file; one byte over the longest slip shows that it is none. */
-static bool read_bytes(struct slip *slip, uint8_t *bytes, size_t *length) {
+static bool read_bytes(struct slip *slip) {
     struct reading reading;
     bool good;
     if (!reading_open(&reading, slip->path, FROM_STICK, &slip->trouble)) {
         return false;
     }
-    slip->settled = reading.settled;
-    good = reading_block(&reading, bytes, TDS_LONGEST_SLIP + 1, length, &slip->trouble);
+    slip->medium = reading.medium;
+    slip->bytes = need_memory(NULL, TDS_LONGEST_SLIP + 1);
+    good =
+        reading_block(&reading, slip->bytes, TDS_LONGEST_SLIP + 1, &slip->length, &slip->trouble);
     return reading_close(&reading, &slip->trouble) && good;
 }
 
-/* Takes the entries over. */
-static void take_entries(struct slip *slip, const uint8_t *bytes, const uint8_t *entries,
-                         size_t count) {
+/* Takes the entries over, and the slip itself: it is a file that must be there like any other, of
+ * these very bytes. */
+static void take_entries(struct slip *slip, const uint8_t *entries, size_t count) {
+    uint64_t sum = tds_sum_add(0, slip->bytes, slip->length);
     for (size_t i = 0; i < count; i++) {
         uint32_t at = tds_get_entry(entries, i, TDS_ENTRY_NAME);
         uint32_t length = tds_get_entry(entries, i, TDS_ENTRY_NAME_LENGTH);
-        manifest_add(&slip->manifest, (const char *)bytes + at, length,
+        manifest_add(&slip->manifest, (const char *)slip->bytes + at, length,
                      tds_get_entry(entries, i, TDS_ENTRY_LENGTH),
                      tds_get_entry(entries, i, TDS_ENTRY_SUMS));
     }
+    manifest_add(&slip->manifest, SLIP_NAME, strlen(SLIP_NAME), (uint32_t)slip->length,
+                 (uint32_t)(sum & 0xFFFF));
     manifest_sort(&slip->manifest);
 }
 
 void slip_read(struct slip *slip, const char *folder) {
-    uint8_t *bytes, *entries;
-    size_t length;
-    *slip = (struct slip){.settled = true};
+    uint8_t *entries;
+    *slip = (struct slip){0};
     find(slip, folder);
     if (slip->path == NULL || slip->state == SLIP_UNREADABLE) {
         return;
     }
-    bytes = need_memory(NULL, TDS_LONGEST_SLIP + 1);
-    entries = need_memory(NULL, TDS_MOST_ENTRIES * TDS_ENTRY_BYTES);
     slip->state = SLIP_UNREADABLE;
-    if (read_bytes(slip, bytes, &length)) {
-        slip->answer = tds_slip_read(bytes, length, entries, TDS_MOST_ENTRIES * TDS_ENTRY_BYTES);
-        slip->state = TDS_REFUSED(slip->answer) ? SLIP_BROKEN : SLIP_GOOD;
+    if (!read_bytes(slip)) {
+        return;
     }
-    if (slip->state == SLIP_GOOD) {
-        take_entries(slip, bytes, entries, (size_t)slip->answer);
+    entries = need_memory(NULL, TDS_MOST_ENTRIES * TDS_ENTRY_BYTES);
+    slip->answer =
+        tds_slip_read(slip->bytes, slip->length, entries, TDS_MOST_ENTRIES * TDS_ENTRY_BYTES);
+    slip->state = SLIP_BROKEN;
+    if (!TDS_REFUSED(slip->answer)) {
+        take_entries(slip, entries, (size_t)slip->answer);
+        slip->state = manifest_twice(&slip->manifest) == NULL ? SLIP_GOOD : SLIP_BROKEN;
     }
-    free(bytes);
     free(entries);
 }
 
 void slip_free(struct slip *slip) {
     manifest_free(&slip->manifest);
+    free(slip->bytes);
     free(slip->path);
     *slip = (struct slip){0};
 }

@@ -1,7 +1,6 @@
-/* Writing the slip of a folder: a new file, whole or not at all. */
+/* Making the slip of a folder, and writing it: a new file, whole or not at all. */
 #include <stdlib.h>
 #include <string.h>
-#include <strings.h>
 
 #include "slip.h"
 #include "tds.h"
@@ -42,12 +41,6 @@ static void lay_out(struct making *making) {
     making->slip = need_memory(NULL, making->size);
 }
 
-static void making_free(struct making *making) {
-    text_free(&making->names);
-    free(making->entries);
-    free(making->slip);
-}
-
 /* Whether a path is fit for a slip: tds_slip_write would not say which file is meant. */
 static bool fits_slip(const char *name) {
     size_t length = strlen(name);
@@ -69,14 +62,30 @@ static const struct expected *unfit(const struct manifest *manifest) {
     return NULL;
 }
 
-/* On a stick two names that differ only in their letters' case are one. */
-static const struct expected *twice(const struct manifest *manifest) {
-    for (size_t i = 1; i < manifest->count; i++) {
-        if (strcasecmp(manifest->entries[i - 1].name, manifest->entries[i].name) == 0) {
-            return &manifest->entries[i];
-        }
+static const struct expected *first_unfit(const struct manifest *manifest) {
+    const struct expected *bad = unfit(manifest);
+    return bad == NULL ? manifest_twice(manifest) : bad;
+}
+
+uint8_t *slip_make(const struct manifest *manifest, size_t *length, const struct expected **at) {
+    struct making making = {.manifest = manifest};
+    uint64_t answer;
+    *at = first_unfit(manifest);
+    if (*at != NULL || manifest->count > TDS_MOST_ENTRIES) {
+        return NULL;
     }
-    return NULL;
+    lay_out(&making);
+    answer =
+        tds_slip_write((const uint8_t *)making.names.bytes, making.names.length, making.entries,
+                       manifest->count * TDS_ENTRY_BYTES, making.slip, making.size);
+    text_free(&making.names);
+    free(making.entries);
+    if (answer != making.size) { /* what it refuses was asked above */
+        free(making.slip);
+        return NULL;
+    }
+    *length = making.size;
+    return making.slip;
 }
 
 /* Says why no slip can be written, of a file below the folder or of the folder itself. */
@@ -92,15 +101,26 @@ static bool not_written(struct report *report, const char *folder, const char *n
     return false;
 }
 
-/* Whether the files can stand on a slip at all; else it is said why not. */
-static bool can_be_listed(const struct manifest *manifest, const char *folder,
-                          struct report *report) {
-    const struct expected *bad = unfit(manifest), *again = twice(manifest);
+/* All files whose paths are not fit, each with its line. */
+static void say_unfit(const struct manifest *manifest, const char *folder, struct report *report) {
     struct trouble trouble;
-    if (bad != NULL) {
-        trouble_of_words(&trouble, "its path does not fit on the slip",
-                         "give it a path of at most 63 plain characters, without accents");
-        return not_written(report, folder, bad->name, &trouble);
+    trouble_of_words(&trouble, "its path does not fit on the slip",
+                     "give it a path of at most 63 plain characters, without accents");
+    for (size_t i = 0; i < manifest->count; i++) {
+        if (!fits_slip(manifest->entries[i].name)) {
+            not_written(report, folder, manifest->entries[i].name, &trouble);
+        }
+    }
+}
+
+/* Why these files cannot stand on a slip. */
+static bool cannot_be_listed(const struct manifest *manifest, const char *folder,
+                             struct report *report) {
+    const struct expected *again = manifest_twice(manifest);
+    struct trouble trouble;
+    if (unfit(manifest) != NULL) {
+        say_unfit(manifest, folder, report);
+        return false;
     }
     if (again != NULL) {
         trouble_of_words(&trouble, "its name and another are one on a stick", "rename one of them");
@@ -109,12 +129,15 @@ static bool can_be_listed(const struct manifest *manifest, const char *folder,
     if (manifest->count > TDS_MOST_ENTRIES) {
         trouble_of_words(&trouble, "there are more than 1,000 files, and a slip takes no more",
                          "put fewer files on the stick");
-        return not_written(report, folder, NULL, &trouble);
+    } else {
+        trouble_of_words(&trouble, "the library refuses it",
+                         "tell whoever looks after this program");
     }
-    return true;
+    return not_written(report, folder, NULL, &trouble);
 }
 
-static bool write_file(struct making *making, const char *folder, struct report *report) {
+static bool write_file(const uint8_t *slip, size_t size, const char *folder,
+                       struct report *report) {
     struct writing writing;
     struct trouble trouble;
     struct text path = {0};
@@ -122,7 +145,7 @@ static bool write_file(struct making *making, const char *folder, struct report 
     text_path(&path, folder, SLIP_NAME);
     good = writing_open(&writing, path.bytes, &trouble);
     if (good) {
-        bool added = writing_add(&writing, making->slip, making->size, &trouble);
+        bool added = writing_add(&writing, slip, size, &trouble);
         struct trouble later;
         good = writing_close(&writing, added, added ? &trouble : &later);
     }
@@ -131,24 +154,11 @@ static bool write_file(struct making *making, const char *folder, struct report 
 }
 
 bool slip_write(const char *folder, const struct manifest *manifest, struct report *report) {
-    struct making making = {.manifest = manifest};
-    struct trouble trouble;
-    uint64_t answer;
-    bool good;
-    if (!can_be_listed(manifest, folder, report)) {
-        return false;
-    }
-    lay_out(&making);
-    answer =
-        tds_slip_write((const uint8_t *)making.names.bytes, making.names.length, making.entries,
-                       manifest->count * TDS_ENTRY_BYTES, making.slip, making.size);
-    if (TDS_REFUSED(answer)) { /* what it refuses was asked above */
-        trouble_of_words(&trouble, "the library refuses it",
-                         "tell whoever looks after this program");
-        good = not_written(report, folder, NULL, &trouble);
-    } else {
-        good = write_file(&making, folder, report);
-    }
-    making_free(&making);
+    const struct expected *at;
+    size_t length;
+    uint8_t *slip = slip_make(manifest, &length, &at);
+    bool good = slip == NULL ? cannot_be_listed(manifest, folder, report)
+                             : write_file(slip, length, folder, report);
+    free(slip);
     return good;
 }

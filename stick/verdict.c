@@ -62,6 +62,9 @@ static const char *bare_words(const struct report *report) {
 /* That there was nothing to compare with, where the verdict does not say so itself. */
 static void add_bare(struct text *line, const struct report *report) {
     bool all = report->bare == report->folders;
+    if (report->files > 0 && report->bare < report->files && report->figures > 0) {
+        text_add(line, "; files named one by one: what is missing or more is not seen");
+    }
     if (report->bare == 0 || report->figures == 0) {
         return;
     }
@@ -91,10 +94,18 @@ static void add_uncovered(struct text *line, const struct report *report) {
         text_format(line, "; %lu slips were written, with %lu files", report->slips,
                     report->slip_files);
     }
+    if (report->kept > 0) {
+        text_format(line, "; %s left alone",
+                    report->kept == 1 ? "the slip that is there is good, and was"
+                                      : "the slips that are there are good, and were");
+    }
     if (report->unknown.count > 0) {
         text_format(line, "; %lu of no known kind not looked at", report->unknown.count);
     }
-    if (report->grounds.unread > 0) {
+    if (report->by_program > 0) {
+        text_add(line, "; this file system is a program and holds what it wrote: mount the stick "
+                       "read-only, check again");
+    } else if (report->grounds.unread > 0) {
         text_add(line, "; read from this computer's memory, not from the stick: take the stick "
                        "out, put it in again, check again");
     }

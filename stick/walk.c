@@ -80,7 +80,8 @@ static const char *below_of(const struct walk *walk) {
 }
 
 static void set_entry(struct walk *walk, struct entry *entry, enum entry_kind kind, int error) {
-    *entry = (struct entry){kind, walk->path.bytes, below_of(walk), error};
+    *entry = (struct entry){
+        .kind = kind, .path = walk->path.bytes, .below = below_of(walk), .error = error};
     walk->enter = kind == ENTRY_FOLDER;
 }
 
@@ -103,9 +104,11 @@ static void look(struct walk *walk, struct entry *entry) {
 }
 
 bool walk_next(struct walk *walk, struct entry *entry) {
-    int error = walk->enter ? enter(walk) : 0;
-    if (error != 0) {
-        set_entry(walk, entry, ENTRY_ERROR, error);
+    if (walk->enter) {
+        int error = enter(walk);
+        set_entry(walk, entry, error == 0 ? ENTRY_LISTED : ENTRY_ERROR, error);
+        entry->known = true;
+        entry->names = walk->top->folder.count;
         return true;
     }
     if (walk->begun && !move_on(walk)) {

@@ -10,6 +10,7 @@
 enum entry_kind {
     ENTRY_FILE,
     ENTRY_FOLDER, /* is walked next, unless walk_pass_over is called */
+    ENTRY_LISTED, /* all names of the folder that was met last are known now */
     ENTRY_LINK,   /* is never followed */
     ENTRY_OTHER,  /* a pipe, a device or the like */
     ENTRY_ERROR   /* could not be looked at */
@@ -21,6 +22,8 @@ struct entry {
     const char *path;
     const char *below; /* the path below the folder that is walked; "" for that itself */
     int error;         /* for ENTRY_ERROR */
+    bool known;        /* it is the folder that was met last, again */
+    size_t names;      /* for ENTRY_LISTED: how many */
 };
 
 struct level;

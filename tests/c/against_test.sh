@@ -30,9 +30,11 @@ same 'two checks of the same folders' "$T/first" "$T/again"
 try 'more folders than readers'
 many=
 i=0
+mkdir "$T/many"
 while [ "$i" -lt 60 ]; do
     i=$((i + 1))
-    many="$many samples/edition/adze.3ds"
+    cp samples/edition/adze.3ds "$T/many/$i.3ds"
+    many="$many $T/many/$i.3ds"
 done
 # shellcheck disable=SC2086
 stick $many
@@ -154,8 +156,10 @@ has err "$F/adze.3ds: not checked: it is a link"
 lacks out missing
 
 try 'one file against the master'
-stick --against "$M" "$T/good/adze.3ds"
+sample with_top
+stick --against "$M" "$F/adze.3ds"
 status_is 0
+structure 1
 lines out 1
 
 try 'a master that is not there, and one that cannot be read'

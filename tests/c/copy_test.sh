@@ -165,6 +165,9 @@ refused() {
 try 'a stick inside the edition, by whatever name: each copy would be copied again'
 cp -R "$E" "$T/around"
 mkdir -p "$T/around/deep/stick"
+echo x >"$T/around/deep/stick/x"
+slip "$T/around"
+cp "$T/slip" "$T/around/stick.slip"
 ln -s "$T/around/deep/stick" "$T/to-inside"
 ln -s "$T/around" "$T/to-around"
 inside='it lies inside the edition: give the folder of the stick'
@@ -403,7 +406,8 @@ matches err "stick: $T/caseless/(adze|ADZE).3ds: not copied: its name and anothe
 lines err 1
 mkdir "$T/cased_too"
 copy "$F" --no-slip "$T/cased_too"
-status_is 0
+status_is 2
+has err "$T/cased_too/adze.3ds: not judged: no slip takes this path, or it is there twice"
 
 try 'a name that the stick cannot have'
 mkdir "$T/new_names"

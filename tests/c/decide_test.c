@@ -21,7 +21,8 @@ static void expect(const char *what, const struct grounds *grounds, enum verdict
 
 /* The record of a stick that passes. */
 static struct grounds good(void) {
-    return (struct grounds){.count[FOUND_OK] = 3, .accepted = 2, .whole = true, .compared = true};
+    return (struct grounds){
+        .count[FOUND_OK] = 3, .accepted = 2, .whole = true, .manifests = 1, .agreed = 1};
 }
 
 /* Every outcome alone, beside a record that is good otherwise. */
@@ -61,13 +62,29 @@ static void without(void) {
     one.unread = 1;
     expect("a file was read from memory", &one, DO_NOT_SEAL, 2);
     one = good();
-    one.compared = false;
+    one.agreed = 0;
+    expect("the library does not agree", &one, DO_NOT_SEAL, 2);
+    one.asked = true;
+    expect("nor where structure was asked for", &one, DO_NOT_SEAL, 2);
+    one = good();
+    one.manifests = 2;
+    expect("the library agrees by the slip, and not by the master", &one, DO_NOT_SEAL, 2);
+    one.agreed = 2;
+    expect("and by both", &one, PASS, 0);
+    one.manifests = 0;
+    expect("by more than there are", &one, STRUCTURE_ONLY, 2);
+    one = good();
+    one.agreed = one.manifests = 0;
     expect("there was nothing to compare with", &one, STRUCTURE_ONLY, 2);
     one.asked = true;
     expect("and that was asked for", &one, STRUCTURE_ONLY, 0);
     one = good();
     one.alone = true;
     expect("a file that was named alone", &one, STRUCTURE_ONLY, 0);
+    one.accepted = 0;
+    expect("one that is no figure", &one, STRUCTURE_ONLY, 0);
+    one.count[FOUND_OK] = 0;
+    expect("one that was not looked at", &one, DO_NOT_SEAL, 2);
     one = good();
     one.asked = true;
     expect("structure was asked for, and there was a slip", &one, PASS, 0);
@@ -75,20 +92,24 @@ static void without(void) {
 
 /* All records of these flags: few are good. */
 static void all_flags(void) {
-    for (unsigned bits = 0; bits < 64; bits++) {
+    for (unsigned bits = 0; bits < 128; bits++) {
+        bool whole = bits & 1, read = bits & 2, accepted = bits & 4, alone = bits & 8;
+        bool slip = bits & 16, agreed = bits & 32, asked = bits & 64;
         struct grounds one = {.count[FOUND_OK] = 3,
-                              .whole = bits & 1,
-                              .compared = bits & 2,
-                              .accepted = bits & 4,
-                              .unread = bits & 8,
-                              .alone = bits & 16,
-                              .asked = bits & 32};
-        bool sound = (bits & 13) == 5, pass = sound && (bits & 18) == 2;
+                              .whole = whole,
+                              .unread = !read,
+                              .accepted = accepted,
+                              .alone = alone,
+                              .manifests = slip,
+                              .agreed = agreed,
+                              .asked = asked};
+        bool sound = whole && read && (accepted || alone);
+        bool structure = sound && (alone || !slip), pass = sound && !alone && slip && agreed;
         expect("some flags", &one,
-               pass    ? PASS
-               : sound ? STRUCTURE_ONLY
-                       : DO_NOT_SEAL,
-               pass || (sound && (bits & 48) != 0) ? 0 : 2);
+               pass        ? PASS
+               : structure ? STRUCTURE_ONLY
+                           : DO_NOT_SEAL,
+               pass || (structure && (alone || asked)) ? 0 : 2);
     }
 }
 

@@ -8,7 +8,8 @@
  * 0, so many calls fail, and the others go well. So a stick can be drawn out, or be full, at a
  * moment that no luck is needed for. For the CALL "come", and any number but 0, a file comes to
  * stand there just before another is given its name. For the CALL "stop" the program gets the
- * signal of this number just before it writes.
+ * signal of this number just before it writes. For the CALL "fuse" the file lies on a file system
+ * that is a program, and that is mounted read-only where the number is 2.
  */
 #include <dirent.h>
 #include <dlfcn.h>
@@ -21,6 +22,8 @@
 #include <stdio.h>
 #include <stdlib.h>
 #include <string.h>
+#include <sys/statvfs.h>
+#include <sys/vfs.h>
 #include <unistd.h>
 
 static atomic_long calls;
@@ -128,6 +131,18 @@ static int failing(const char *call, int file, int (*real)(int)) {
         return -1;
     }
     return real(file);
+}
+
+int fstatfs(int file, struct statfs *status) {
+    typedef int (*function)(int, struct statfs *);
+    int number = fault("fuse", file), answer;
+    REAL("fstatfs64", function)
+    answer = real(file, status);
+    if (number != 0 && answer == 0) {
+        status->f_type = 0x65735546;
+        status->f_flags = number == 2 ? status->f_flags | ST_RDONLY : status->f_flags & ~ST_RDONLY;
+    }
+    return answer;
 }
 
 int fdatasync(int file) {

@@ -35,12 +35,18 @@ lines err 0
 matches out "$F/vice.3ds: missing: copy it again"
 matches out "$F/texts/README.TXT: missing: copy it again"
 matches out "$F/plane.3ds: differs from the slip \(another length\): copy it again"
-matches out "$F/new.3ds: not on the slip: delete it, unless it belongs there and the slip is an old one"
+matches out "$F/new.3ds: not on the slip: see that slip and edition belong together, and copy the slip again"
 matches out "$F/new.txt: not on the slip: .*"
 matches out "$F/triangle.3ds: differs from the slip \(other contents\): copy it again"
 matches out "$F/texts/film.bin: differs from the slip \(other contents\): copy it again"
 matches out "$F/empty: differs from the slip \(another length\): copy it again"
 last "DO NOT SEAL: 6 figures checked, 0 refused, 4 differ, 2 missing, 2 not expected here, $seconds: see above"
+try 'what is more alone is to be deleted'
+cp -R "$E" "$T/more"
+triangle >"$T/more/new.3ds"
+stick "$T/more"
+status_is 1
+matches out "$T/more/new.3ds: not on the slip: delete it, unless it belongs there and the slip is an old one"
 try 'without the slip none of it is seen'
 rm "$F/stick.slip"
 stick "$F"

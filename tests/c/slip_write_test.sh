@@ -70,7 +70,7 @@ for name in stick.slip.part stick.slip.part17 STICK.Slip.PART; do
     has out '"not_checked":1,'
     rm "$T/half/$name"
 done
-for name in stick.slip.party stick.slip.part2a; do echo 'no slip' >"$T/half/$name"; done
+for name in stick.slips stickslip.part2a; do echo 'no slip' >"$T/half/$name"; done
 stick --write-slip "$T/half"
 status_is 0
 has out 'a slip was written, with 3 files'
@@ -84,8 +84,7 @@ status_is 2
 try 'a slip that is there is left alone'
 cp "$E/stick.slip" "$T/kept"
 stick --write-slip "$E"
-status_is 2
-matches err "stick: $E: no slip was written: there is one already, and it is left alone: delete it first"
+status_is 0
 same 'the slip' "$T/kept" "$E/stick.slip"
 
 try 'names that do not fit on a slip'

@@ -606,7 +606,7 @@ status_is 1
 matches out 'samples/edition/adze.3ds: OK'
 matches out 'samples/damaged/short-length-of-five.3ds: refused: .*'
 has out 'samples/edition: PASS: 6 figures checked, 0 refused'
-lines out 9
+lines out 10
 stick samples/edition
 lacks out OK
 

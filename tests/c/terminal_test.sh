@@ -31,7 +31,7 @@ widest() {
 try 'progress on a terminal'
 terminal both samples/edition
 status_is 0
-has terminal 'checking file 1 of 6, 0 refused so far ...'
+has terminal 'checking file 1 of 7, 0 refused so far ...'
 left >"$T/out"
 lines out 1
 has out 'PASS'
