@@ -43,16 +43,19 @@
  * anything but the slices it was given, writes anything but the slices it was lent, touches files,
  * prints, or ends the program. So all calls may be made from any number of threads at once.
  *
- * COST. Every call is linear in the lengths it is given, whatever is in the bytes, but for
- * tds_write_figure of more than 36,864 objects or materials, which no file holds: names are then
- * compared two by two. Each call that reads a figure checks all of it first; the longest takes 0.02
- * to 3 milliseconds, by what is in it, and up to 10 if it is a .cob file made for that
- * (docs/BENCH.md). tds_list, tds_records, tds_meshes, tds_parts and those about one mesh take up to
- * twice as long as the check, and up to 0.1 milliseconds more where that mesh is large; tds_rescue
- * up to 10 milliseconds. So a call for each of many meshes costs the whole file each time, and one
- * tds_meshes for all of them once. tds_sum_join and tds_sum_matches read no bytes. Stack: at most
- * 20 kilobytes; tds_c4d_list needs 540, tds_write_figure 620 where there are more than 32 objects
- * or materials, the four calls on .cob files 850.
+ * COST. Every call is linear in the lengths it is given, whatever is in the bytes, but where names
+ * are compared with each other: names can be chosen, of one length and by their bytes, so that
+ * their number counts squared. A slip of 1,000 such names takes up to 14 milliseconds, and
+ * tds_write_figure up to 80 for as many as a file holds; over 36,864 objects or materials, which no
+ * file holds, all names are compared two by two, and 60,000 take seconds. Each call that reads a
+ * figure checks all of it first; the longest takes 0.02 to 3 milliseconds, by what is in it, and up
+ * to 12 if it is a .cob file made for that (docs/BENCH.md). tds_list, tds_records, tds_meshes,
+ * tds_parts and those about one mesh take up to twice as long as the check, and up to 0.1
+ * milliseconds more where that mesh is large; tds_rescue up to 10 milliseconds. So a call for each
+ * of many meshes costs the whole file each time, and one tds_meshes for all of them once.
+ * tds_sum_join and tds_sum_matches read no bytes. Stack: at most 20 kilobytes; tds_c4d_list needs
+ * 540, tds_write_figure 620 where there are more than 32 objects or materials, the four calls on
+ * .cob files 850.
  *
  * ORDER OF REFUSALS. First the faults of the file, which are 1 to 14, 23 and 24: 1; 2; 4, 5, 3 of
  * 4D4D; and then the first that is met, walking the file from its start. Of one chunk that is 6, 4,
