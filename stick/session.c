@@ -53,6 +53,7 @@ static int check_edition(const struct options *options) {
     int status = 0;
     single_start(&screen, &report, options);
     check_stick(options->edition, &nothing, NULL, &report);
+    report.grounds.unread = 0; /* it may well be in memory: the sticks are read back */
     verdict = decide(&report.grounds).verdict;
     if (verdict == DO_NOT_SEAL) {
         say_not_done(&report, options->edition, "not copied", "the edition itself is not well",

@@ -77,6 +77,12 @@ if traced calls "$T/calls" "$T/settled/adze.3ds" --any-folder --copy "$E" "$T/se
     if [ "$(cat "$T/seen")" = 'write out,drop,read,read,' ]; then pass; else fail "$(cat "$T/seen")"; fi
 fi
 
+try 'the edition may be read from memory: another copy may be at it'
+mkdir "$T/from-memory"
+faulty "fadvise:$EINVAL:edition/adze" --any-folder --copy "$E" "$T/from-memory"
+status_is 0
+as_edition "$T/from-memory"
+
 try 'what is there already is not written again'
 touch -d '2001-01-01' "$T/one/adze.3ds"
 copy "$E" "$T/one"
