@@ -268,6 +268,7 @@ static bool begin(struct batch *batch) {
     } else {
         text_add(&about, BATCH_BEGINS);
     }
+    good = good && log_open(&batch->log);
     if (good) {
         log_add(&batch->log, about.bytes, kind.bytes);
     }
@@ -284,9 +285,7 @@ int batch_run(struct session *session) {
                                     .edition = options->edition,
                                     .any_folder = options->any_folder}};
     int status = 2;
-    if (!log_open(&batch.log, options->log)) {
-        return status;
-    }
+    log_start(&batch.log, options->log);
     if (begin(&batch)) {
         while (!stopped() && !is_finished(&batch)) {
             next_stick(&batch);

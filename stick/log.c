@@ -43,17 +43,19 @@ static bool is_pipe(const char *path) {
     return pipe;
 }
 
-bool log_open(struct log *log, const char *path) {
+void log_start(struct log *log, const char *path) {
     *log = (struct log){0};
     if (path != NULL) {
         text_add(&log->name, path);
     } else { /* in the folder from which the program was started */
         add_date(&log->name, "stick-batch-%Y-%m-%d.log");
     }
+}
+
+bool log_open(struct log *log) {
     log->file = is_pipe(log->name.bytes) ? NULL : fopen(log->name.bytes, "a");
     if (log->file == NULL) {
         fails(log);
-        text_free(&log->name);
     }
     return log->file != NULL;
 }
@@ -86,7 +88,7 @@ void log_add(struct log *log, const char *about, const char *lines) {
 }
 
 void log_close(struct log *log) {
-    if (fclose(log->file) != 0) {
+    if (log->file != NULL && fclose(log->file) != 0) {
         fails(log);
     }
     text_free(&log->name);

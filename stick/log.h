@@ -19,12 +19,16 @@ struct log {
     bool failed; /* some of it could not be written, which was said */
 };
 
-/* Opens it, or the one of this day where the path is NULL. Answers false and says why not. */
-bool log_open(struct log *log, const char *path);
+/* Sets its name: this path, or where it is NULL the log of this day. */
+void log_start(struct log *log, const char *path);
+
+/* Opens it. Answers false and says why not. */
+bool log_open(struct log *log);
 
 /* Adds lines, each with the date and what it speaks of. */
 void log_add(struct log *log, const char *about, const char *lines);
 
+/* Closes it, if it is open. */
 void log_close(struct log *log);
 
 #endif

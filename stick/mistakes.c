@@ -10,6 +10,7 @@
 #include "escape.h"
 #include "kinds.h"
 #include "longpath.h"
+#include "volume.h"
 
 void mistake(struct options *options, const char *before, const char *word, const char *behind) {
     struct text escaped = {0};
@@ -53,6 +54,13 @@ static bool are_nested(const char *one, const char *other) {
     return long_lies_in(one, other) || long_lies_in(other, one);
 }
 
+/* Two folders of one stick are not two sticks. */
+static bool are_on_one_stick(const char *one, const char *other) {
+    struct stat first, second;
+    return long_stat(one, 0, &first) == 0 && long_stat(other, 0, &second) == 0 &&
+           first.st_dev == second.st_dev && volume_of(one, NULL) == VOLUME_STICK;
+}
+
 typedef bool test_of_two(const char *one, const char *other);
 
 /* Whether a folder and one that was named before it pass a test. */
@@ -92,6 +100,12 @@ static void judge_writing(struct options *options) {
     } else if (nested != NULL) {
         mistake(options, "no stick that is written may lie inside another: leave ", nested,
                 " away");
+    } else if (options->edition != NULL && !options->any_folder) {
+        const char *beside = first_with_earlier(options, are_on_one_stick);
+        if (beside != NULL) {
+            mistake(options, "one of the folders before it is on the same stick: leave ", beside,
+                    " away");
+        }
     }
 }
 

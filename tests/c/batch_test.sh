@@ -174,6 +174,7 @@ unknown() {
     same 'the log' "$T/before" "$T/log"
 }
 unknown --batch 2 --from 2 --log "$T/another.log"
+if [ -e "$T/another.log" ]; then fail 'it is there now'; else pass; fi
 unknown --batch 3 --from 2 --log "$T/log"
 unknown --batch 2 --from 2 --log "$T/log" --against samples/edition
 stick --any-folder --batch 2 --from 3 --log "$T/log" "$P"

@@ -443,6 +443,12 @@ else
     if [ -e "$T/mount/stick.slip" ]; then fail 'it was written'; else pass; fi
     stick --write-slip --any-folder "$T/mount"
     status_is 0
+    try 'two folders of one stick are not two sticks'
+    mkdir "$T/mount/a" "$T/mount/b"
+    stick --copy "$E" "$T/mount/a" "$T/mount/b"
+    status_is 2
+    has err "stick: one of the folders before it is on the same stick: leave $T/mount/b away"
+    if rmdir "$T/mount/a" "$T/mount/b"; then pass; else fail 'something was written'; fi
     try 'the edition and its copy on one stick'
     cp -R "$E" "$T/mount/edition"
     mkdir "$T/mount/copy"
