@@ -332,7 +332,7 @@ status_is 2
 has err "$T/folders/adze.3ds: not checked: it is a folder"
 
 try 'a copy that breaks off, wherever it does, is told by any later check'
-for fault in "write:$ENOSPC:new/chisel" "write:$EIO:new/mallet" "fdatasync:$EIO:new/texts/more/film"; do
+for fault in "write:$ENOSPC:new/chisel" "write:$EIO:new/mallet" 'stop:2:new/plane' "fdatasync:$EIO:new/texts/more/film"; do
     broken "$fault" 'not copied: '
     same 'the slip' "$E/stick.slip" "$T/new/stick.slip"
     stick "$T/new"
