@@ -61,6 +61,9 @@ static void say(const struct batch *batch, size_t number, bool named, const char
 /* For programs: a line for each stick. */
 static void say_as_json(const struct batch *batch, size_t number, const char *verdict) {
     struct text line = {0};
+    if (!batch->options->style.json) {
+        return;
+    }
     json_begin(&line);
     json_number(&line, "stick", number);
     json_number(&line, "sticks", batch->options->batch);
@@ -81,10 +84,21 @@ static void log_verdict(struct batch *batch, size_t number, struct result result
     text_free(&words);
 }
 
-static void work_on_stick(struct batch *batch, size_t number) {
+/* The verdict is on the stick that was looked at when it came in, and no other. */
+static struct result judge_stick(const struct batch *batch, size_t number, struct text *lines) {
+    const struct result bad = {DO_NOT_SEAL, 2};
     char *folder = batch->options->arguments[0];
+    struct result result = session_work(batch->session, &folder, 1, lines);
+    if (!place_holds(&batch->place)) {
+        say(batch, number, true, "DO NOT SEAL: it was taken out or exchanged meanwhile");
+        result = bad;
+    }
+    return result;
+}
+
+static void work_on_stick(struct batch *batch, size_t number) {
     struct text lines = {0}, about = {0};
-    struct result result = session_work(batch->session, &folder, 1, &lines);
+    struct result result = judge_stick(batch, number, &lines);
     add_stick(batch, &about, number, true);
     text_add(&about, ": ");
     log_add(&batch->log, about.bytes, lines.length == 0 ? "" : lines.bytes);
@@ -92,9 +106,7 @@ static void work_on_stick(struct batch *batch, size_t number) {
     if (!stopped()) { /* else it is the one to go on with */
         tally_set(&batch->tally, number, batch->place.name.bytes, result);
     }
-    if (batch->options->style.json) {
-        say_as_json(batch, number, verdict_word(result.verdict));
-    }
+    say_as_json(batch, number, verdict_word(result.verdict));
     text_free(&about);
     text_free(&lines);
 }
@@ -133,10 +145,12 @@ static bool is_passed_over(struct batch *batch, size_t before) {
         say(batch, next, true,
             "this computer cannot tell it from others, so it is not counted: take it out "
             "(--any-folder counts it)");
+        say_as_json(batch, next, "not counted");
         return true;
     }
     if (before > 0 && batch->tally.sticks[before - 1].result.verdict == PASS) {
         say(batch, before, true, "it has passed already, and is not counted again: take it out");
+        say_as_json(batch, before, "not counted again");
         return true;
     }
     return false;

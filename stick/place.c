@@ -1,6 +1,7 @@
 /* The place at which the sticks of a batch are put in: whether one is there, and which one. */
 #include "place.h"
 
+#include <string.h>
 #include <sys/stat.h>
 
 #include "folder.h"
@@ -65,7 +66,8 @@ bool place_holds(const struct place *place) {
     struct place now = *place;
     bool holds;
     now.name = (struct text){0};
-    holds = place_look(&now) && now.device == place->device && now.number == place->number;
+    holds = place_look(&now) && now.device == place->device && now.number == place->number &&
+            strcmp(now.name.bytes, place->name.bytes) == 0;
     place_free(&now);
     return holds;
 }

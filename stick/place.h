@@ -21,7 +21,7 @@ struct place {
 /* Whether a stick is in; it is then known to the place. */
 bool place_look(struct place *place);
 
-/* Whether it is still in. */
+/* Whether the same one is still in. */
 bool place_holds(const struct place *place);
 
 /* Whether a folder is there that has something in it, and is no stick. */

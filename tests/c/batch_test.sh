@@ -307,7 +307,7 @@ fi
 try 'real sticks, by the names of their file systems'
 rm -rf "$P"
 mkdir "$T/real"
-if [ "$(id -u)" -ne 0 ] || ! timeout 60 unshare -m sh tests/c/mounted.sh "$T/real" "$S" >"$T/out" 2>"$T/err"; then
+if [ "$(id -u)" -ne 0 ] || ! timeout 60 unshare -m sh tests/c/mounted.sh "$T/real" "$S" "$HELPERS/traced" >"$T/out" 2>"$T/err"; then
     skip "no image can be mounted here: $(head -n 1 "$T/err")"
 else
     has out "stick: $T/real/place is on no stick: put one in"
@@ -315,7 +315,15 @@ else
     has out 'stick 2 of 2 (no name): this computer cannot tell it from others, so it is not counted'
     has out 'stick 1 of 2 (AAAA-0001): it has passed already, and is not counted again: take it out'
     has out 'PASS: 2 of 2 sticks passed'
-    last 'status 0'
+    has out 'status 0'
+    try 'a real stick that is exchanged in the middle'
+    if grep -q 'exchanged: status 125' "$T/out"; then
+        skip 'nothing may be traced'
+    else
+        has out 'stick 1 of 1 (AAAA-0002): DO NOT SEAL: it was taken out or exchanged meanwhile'
+        has out 'DO NOT SEAL: 0 of 1 sticks passed'
+        last 'exchanged: status 2'
+    fi
     cp "$T/real/mounted.log" "$T/out"
     has out 'stick 2 of 2 (AAAA-0002) ends: PASS, 0'
 fi

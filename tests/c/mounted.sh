@@ -1,8 +1,9 @@
 #!/bin/sh
 # A batch with real sticks, each an image, in a world of its own: /dev has names for two of them.
-# Is run by batch_test.sh as: unshare -m sh tests/c/mounted.sh FOLDER STICK; says what the tool said.
+# Is run by batch_test.sh as: unshare -m sh tests/c/mounted.sh FOLDER STICK TRACED; says what the tool said.
 T=$1
 S=$2
+TRACED=$3
 P=$T/place
 mkdir "$T/dev" "$P" || exit 125
 mount -t tmpfs none "$T/dev" || exit 125
@@ -52,6 +53,10 @@ umount "$P"
 put_in two
 wait "$tool"
 echo "status $?" >>"$T/said"
+# The stick is exchanged for another while it is read, at the same place and device.
+rename='mv /dev/disk/by-uuid/AAAA-0002 /dev/disk/by-uuid/AAAA-0004'
+ASAN_OPTIONS=detect_leaks=0 "$TRACED" 'do' "$rename" "$P/vice.3ds" "$S" --batch 1 --log "$T/mounted.log" "$P" >>"$T/said" 2>&1
+echo "exchanged: status $?" >>"$T/said"
 umount "$P"
 for name in one two three; do losetup -d "$(cat "$T/$name.loop")"; done
 cat "$T/said"
