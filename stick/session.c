@@ -1,9 +1,11 @@
 /* One round of work: the folders that were named, at once, one reader for each. */
 #include "session.h"
 
+#include <fcntl.h>
 #include <stdatomic.h>
 #include <stdlib.h>
 #include <sys/stat.h>
+#include <unistd.h>
 
 #include "copy.h"
 #include "kinds.h"
@@ -179,17 +181,10 @@ static void say_not_compared(const char *folder, struct report *report) {
     report->uncompared = 1;
 }
 
-static void work_on(struct round *round, size_t job) {
-    const struct session *session = round->session;
-    const char *folder = round->folders[job];
-    struct report *report = &round->reports[job];
-    struct trouble trouble;
-    bool good = !is_unfit(round, job, &trouble);
-    report->grounds.asked = session->options->structure;
-    if (!good) {
-        report_trouble(report, folder, NULL, &trouble);
-    }
-    if (good && session->options->edition != NULL) {
+/* All that is to be done with one folder. */
+static void work_in(const struct session *session, const char *folder, struct report *report) {
+    bool good = true;
+    if (session->options->edition != NULL) {
         const struct edition edition = {session->options->edition, &session->manifest,
                                         session->options->any_folder};
         good = copy_edition(&edition, folder, report);
@@ -201,6 +196,26 @@ static void work_on(struct round *round, size_t job) {
     }
     if (good && session->unread) {
         say_not_compared(folder, report);
+    }
+}
+
+/*
+ * As long as its topmost folder is open, no stick that takes the place of this one has the same
+ * device number: else one could be begun with, and another ended with.
+ */
+static void work_on(struct round *round, size_t job) {
+    const char *folder = round->folders[job];
+    struct report *report = &round->reports[job];
+    int held = long_open(folder, O_RDONLY | O_DIRECTORY | O_CLOEXEC);
+    struct trouble trouble;
+    report->grounds.asked = round->session->options->structure;
+    if (is_unfit(round, job, &trouble)) {
+        report_trouble(report, folder, NULL, &trouble);
+    } else {
+        work_in(round->session, folder, report);
+    }
+    if (held >= 0) {
+        close(held);
     }
     report_end(report);
     if (round->count > 1 && *folder != '\0' && !is_file(folder)) {

@@ -62,6 +62,13 @@ faulty "fdatasync:$EIO:settled/adze" "$F"
 status_is 2
 has err "$F/adze.3ds: not checked: the stick stopped answering"
 
+try 'no other stick can take its place unseen: its folder is held open while it is read'
+held="ls -l /proc/\$PROCESS/fd | grep -q '$F\$' && echo held >'$T/held'; true"
+if traced 'do' "$held" "$F/vice.3ds" "$F"; then
+    status_is 0
+    if [ -s "$T/held" ]; then pass; else fail 'it is not open'; fi
+fi
+
 # What the packer's spring batch had: a bit that turned on the stick, after copying.
 try 'a mounted stick'
 trap 'umount "$T/mount" 2>/dev/null; rm -rf "$T"' EXIT
