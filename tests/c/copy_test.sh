@@ -348,6 +348,28 @@ stick --write-slip "$T/new"
 if [ "$status" -ne 0 ]; then pass; else fail 'it passes'; fi
 same 'the slip' "$E/stick.slip" "$T/new/stick.slip"
 
+try 'wherever the stick drops out, a later check passes what is whole and nothing else'
+folder sweep_edition
+cp samples/edition/adze.3ds samples/edition/chisel.3ds samples/edition/saw.3ds "$F"
+stick --write-slip "$F"
+halves=0
+for call in create write fdatasync fsync; do
+    for count in 0 1 2 3 4 5 6 7; do
+        rm -rf "$T/sweep"
+        mkdir "$T/sweep"
+        faulty "$call:$EIO:sweep/:$count" --any-folder --copy "$F" "$T/sweep"
+        copied=$status
+        stick "$T/sweep"
+        if diff -r "$F" "$T/sweep" >"$T/diff"; then
+            status_is 0
+        else
+            halves=$((halves + 1))
+            if [ "$status" -ne 0 ] && [ "$copied" -eq 2 ]; then pass; else fail "$call $count: $copied, then $status"; fi
+        fi
+    done
+done
+if [ "$halves" -ge 12 ]; then pass; else fail "only $halves halves"; fi
+
 try 'an edition without a slip is not copied, unless that is meant'
 mkdir "$T/from_bare"
 copy "$B" "$T/from_bare"
