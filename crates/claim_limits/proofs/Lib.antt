@@ -1,0 +1,5 @@
+pub mod Other
+pub mod Studio
+pub mod Caligari
+pub mod Cinema
+pub mod TooLong
