@@ -123,10 +123,11 @@ static const struct refusal table[] = {
     {TDS_DIFFERS,
      "The slip has the length and two sums of each file. Of this file one of them is\n"
      "another (place 0: the length, 1: the sums), so at least one of its bytes is. A\n"
-     "single turned bit is always found so; a byte 0 that became 255 is not.\n",
+     "single turned bit is always found so.\n",
      "copy it again",
      "Copy this file again from the master and check once more. If the new copy\n"
-     "differs too, the slip is older than the file: see that both are of one edition.\n"},
+     "differs too, the slip is older than the file: see that both are of one edition.\n"
+     "A byte 0 that became 255 keeps both sums: the slip misses it, --against sees it.\n"},
     {20,
      "A Caligari figure (.cob) begins with 32 bytes that say what it is, and how its\n"
      "numbers are written. Here they are others, or the file is shorter. The place is\n"

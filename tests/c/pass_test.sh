@@ -241,7 +241,7 @@ stick --against "$T/zeros" "$F"
 status_is 1
 matches out "$F/empty: differs from the master, at byte 0: copy it again"
 stick --explain differs
-has out 'a byte 0 that became 255'
+last 'A byte 0 that became 255 keeps both sums: the slip misses it, --against sees it.'
 
 # --- remedies that hold
 
@@ -374,4 +374,35 @@ last "DO NOT SEAL: .*; this file system is a program and holds what it wrote: mo
 faulty "fuse:2:program" "$F"
 status_is 0
 passes 7
+
+try 'the keys and values of --json are those of the manual page'
+fresh json
+rm "$F/saw.3ds"
+triangle >"$F/new.3ds"
+turn "$F/triangle.3ds" 42
+turn "$F/vice.3ds" 2
+echo x >"$F/.DS_Store"
+echo x >"$F/a.3ds.part"
+ln -s adze.3ds "$F/link"
+stick --json --list --against "$E" "$F"
+cp "$T/out" "$T/all"
+printf x >"$F/stick.slip"
+stick --json "$F"
+cat "$T/out" >>"$T/all"
+stick --json --structure samples/caligari samples/c4d samples/old
+cat "$T/out" >>"$T/all"
+stick --json --any-folder --batch 1 --log "$T/json.log" "$E"
+cat "$T/out" >>"$T/all"
+stick --json --write-slip samples/damaged
+cat "$T/out" >>"$T/all"
+grep -oE '"[a-z_]+":' "$T/all" | tr -d '":' | sort -u >"$T/keys"
+grep -oE '"(result|verdict)":"[^"]*"' "$T/all" | sed 's/.*:"//; s/"$//' | sort -u >"$T/values"
+sed -n '/^\.SH JSON/,/^\.SH "EXIT/p' stick/stick.1 >"$T/page"
+if [ "$(wc -l <"$T/keys")" -ge 30 ] && [ "$(wc -l <"$T/values")" -ge 11 ]; then pass; else fail "few keys: $(tr '\n' ' ' <"$T/keys" "$T/values")"; fi
+while read -r word; do
+    if grep -qE "(^|[ ,(])$word([ ,);.]|\$)" "$T/page"; then pass; else fail "the page has no $word"; fi
+done <"$T/keys"
+while read -r words; do
+    if grep -qF "$words" "$T/page"; then pass; else fail "the page has no $words"; fi
+done <"$T/values"
 finish pass_test
