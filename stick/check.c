@@ -376,17 +376,37 @@ static void say_empty_folder(struct check *check, const char *below) {
     text_free(&path);
 }
 
-static void say_empty_folders(struct check *check) {
+/* Two folders whose names differ only in their letters' case are one on a stick. */
+static void say_folder_twice(struct check *check, struct manifest *folders) {
+    const struct expected *twice;
+    struct text path = {0};
+    manifest_sort(folders);
+    twice = manifest_twice(folders);
+    if (twice != NULL && (check->on_slip.manifest != NULL || check->in_master.manifest != NULL)) {
+        text_path(&path, check->root, twice->name);
+        report_found(check->report, FOUND_EXTRA, path.bytes,
+                     "this folder's name and another are one on a stick", "put both into one");
+    }
+    text_free(&path);
+}
+
+/* What is wrong with folders, though all that is in them may be well. */
+static void say_folders(struct check *check) {
     const struct evidence *evidence = &check->evidence;
+    struct manifest folders = {0};
     struct text below = {0};
     for (size_t i = 1; i < evidence->count; i++) {
-        if (tds_get_item(evidence->items, i, TDS_ITEM_KIND) == TDS_ITEM_FOLDER &&
-            tds_get_item(evidence->items, i, TDS_ITEM_SIZE) == 1) {
+        if (tds_get_item(evidence->items, i, TDS_ITEM_KIND) == TDS_ITEM_FOLDER) {
             text_cut(&below, 0);
             evidence_path(evidence, i, &below);
-            say_empty_folder(check, below.bytes);
+            manifest_add(&folders, below.bytes, below.length, 0, 0);
+            if (tds_get_item(evidence->items, i, TDS_ITEM_SIZE) == 1) {
+                say_empty_folder(check, below.bytes);
+            }
         }
     }
+    say_folder_twice(check, &folders);
+    manifest_free(&folders);
     text_free(&below);
 }
 
@@ -404,7 +424,7 @@ static void at_end_of_folder(struct check *check) {
     }
     say_missing_of_master(check);
     say_missing_of_slip(check);
-    say_empty_folders(check);
+    say_folders(check);
 }
 
 /* What is known when the walk has ended, however it did. */

@@ -73,12 +73,13 @@ static void say_unfit(const struct gathered *gathered, const struct expected *un
     struct trouble trouble;
     struct text path = {0};
     add_whole(&path, gathered->root, unfit == NULL ? NULL : unfit->name);
-    trouble_of_words(&trouble,
-                     unfit == NULL ? "the master has more files than a slip takes (1,000)"
-                                   : "no slip takes this path, or it is there twice",
-                     unfit == NULL
-                         ? "put fewer files on the stick"
-                         : "give it a path of at most 63 plain characters, and in the master too");
+    if (unfit == NULL) {
+        trouble_of_words(&trouble, "no slip takes so many files (1,000), or such a long one (4 GB)",
+                         "put fewer on the stick, and into the master");
+    } else {
+        trouble_of_words(&trouble, "no slip takes this path, or it is there twice",
+                         "give it a path of at most 63 plain characters, and in the master too");
+    }
     report_trouble(report, path.bytes, "not judged", &trouble);
     text_free(&path);
 }
@@ -94,6 +95,7 @@ static size_t files_of(const struct manifest *master) {
 
 /* The master's files are laid out as a slip. Every one of them must have been compared. */
 static void judge_by_master(const struct gathered *gathered, struct report *report) {
+    bool all = gathered->compared->count == files_of(gathered->master);
     const struct expected *unfit;
     size_t length;
     uint8_t *list;
@@ -101,13 +103,11 @@ static void judge_by_master(const struct gathered *gathered, struct report *repo
         return;
     }
     list = slip_make(gathered->compared, &length, &unfit);
-    if (list == NULL) {
+    if (list == NULL || !all) {
         say_unfit(gathered, unfit, report);
     } else {
-        uint64_t answer = gathered->compared->count == files_of(gathered->master)
-                              ? evidence_judge_by_list(gathered->evidence, list, length)
-                              : 0;
-        take(gathered, true, false, answer, report);
+        take(gathered, true, false, evidence_judge_by_list(gathered->evidence, list, length),
+             report);
     }
     free(list);
 }

@@ -177,6 +177,20 @@ status_is 2
 has err "$F/extra: not checked: the folder is empty, and a slip has files only: delete it"
 if [ -e "$F/stick.slip" ]; then fail 'it was written'; else pass; fi
 
+try 'two folders that are one on a stick'
+fresh folders
+mkdir "$F/TEXTS"
+mv "$F/texts/README.TXT" "$F/TEXTS"
+if [ -e "$F/texts/README.TXT" ]; then skip 'they are one here'; else
+    stick "$F"
+    status_is 1
+    matches out "$F/(texts|TEXTS): this folder's name and another are one on a stick: put both into one"
+    lines err 0
+    stick --against "$E" "$F"
+    status_is 1
+    lines err 0
+fi
+
 # --- two keys
 
 # other ANSWER ARGUMENTS...: the tool where the library gives this answer.
@@ -227,6 +241,18 @@ stick --against "$T/master" "$T/accents"
 status_is 2
 matches err "stick: $T/accents/rabot-.*.txt: not judged: no slip takes this path, or it is there twice: give it a path of at most 63 plain characters, and in the master too"
 last 'DO NOT SEAL: .*'
+
+rm -rf "$T/master" "$T/accents"
+mkdir "$T/master"
+triangle >"$T/master/t.3ds"
+(cd "$T/master" && i=0 && while [ "$i" -lt 1000 ]; do i=$((i + 1)) && : >"$i"; done)
+cp -R "$T/master" "$T/accents"
+stick --against "$T/master" "$T/accents"
+status_is 2
+has err "stick: $T/accents: not judged: no slip takes so many files (1,000), or such a long one (4 GB): put fewer on the stick, and into the master"
+rm "$T/master/1" "$T/accents/1"
+stick --against "$T/master" "$T/accents"
+status_is 0
 
 try 'a byte 0 that became 255: a slip does not see it, a master does'
 fresh zero
