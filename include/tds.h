@@ -47,15 +47,17 @@
  * are compared with each other: names can be chosen, of one length and by their bytes, so that
  * their number counts squared. A slip of 1,000 such names takes up to 14 milliseconds, and
  * tds_write_figure up to 80 for as many as a file holds; over 36,864 objects or materials, which no
- * file holds, all names are compared two by two, and 60,000 take seconds. Each call that reads a
+ * file holds, all names are compared two by two, and 60,000 take seconds. tds_stick_judge looks for
+ * each item on the whole slip: a thousand files take it 1 millisecond, and each in a folder of its
+ * own 4 to 25. Each call that reads a
  * figure checks all of it first; the longest takes 0.02 to 3 milliseconds, by what is in it, and up
  * to 12 if it is a .cob file made for that (docs/BENCH.md). tds_list, tds_records, tds_meshes,
  * tds_parts and those about one mesh take up to twice as long as the check, and up to 0.1
  * milliseconds more where that mesh is large; tds_rescue up to 10 milliseconds. So a call for each
  * of many meshes costs the whole file each time, and one tds_meshes for all of them once.
- * tds_sum_join and tds_sum_matches read no bytes. Stack: at most 20 kilobytes; tds_c4d_list needs
- * 540, tds_write_figure 620 where there are more than 32 objects or materials, the four calls on
- * .cob files 850.
+ * tds_sum_join and tds_sum_matches read no bytes. Stack: at most 20 kilobytes; tds_stick_judge
+ * needs 90, tds_c4d_list 540, tds_write_figure 620 where there are more than 32 objects or
+ * materials, tds_stick_file and the four calls on .cob files 850.
  *
  * ORDER OF REFUSALS. First the faults of the file, which are 1 to 14, 23 and 24: 1; 2; 4, 5, 3 of
  * 4D4D; and then the first that is met, walking the file from its start. Of one chunk that is 6, 4,
@@ -805,7 +807,7 @@ enum tds_item_kind {
  *   34  a file of the slip is not there (place: its number)
  *   36  there is no figure (place 0)
  *
- * It needs 80 kilobytes of stack.
+ * It needs 90 kilobytes of stack.
  */
 uint64_t tds_stick_judge(const uint8_t *slip, size_t slip_len, const uint8_t *names,
                          size_t names_len, const uint8_t *items, size_t items_len);
@@ -814,7 +816,8 @@ uint64_t tds_stick_judge(const uint8_t *slip, size_t slip_len, const uint8_t *na
  * The evidence for a file: fills kind, size, sum, reader and answer of its item, from its path, its
  * length as the system tells it, and its bytes: all of them, or the first part. A figure of up to
  * TDS_LONGEST_FILE bytes must come in one part. Leaves the two numbers of its name. Answers 0, or
- * 15 with 56 where item_len is not TDS_ITEM_BYTES, and then changes nothing.
+ * 15 with 56 where item_len is not TDS_ITEM_BYTES, and then changes nothing. It needs 850 kilobytes
+ * of stack, whatever file it is.
  */
 uint64_t tds_stick_file(const uint8_t *path, size_t path_len, uint64_t size, const uint8_t *bytes,
                         size_t bytes_len, uint8_t *item, size_t item_len);

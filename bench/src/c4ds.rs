@@ -4,7 +4,7 @@
 
 use crate::calls::accepted;
 use crate::measure::{both, Times};
-use second::boundary::{Right, C4ds, Second};
+use second::boundary::{C4ds, Right, Second};
 use second::{read_c4d, LIMIT};
 use std::hint::black_box;
 

@@ -4,7 +4,7 @@
 
 use crate::calls::accepted;
 use crate::measure::{both, Times};
-use second::boundary::{Right, Cobs, Second};
+use second::boundary::{Cobs, Right, Second};
 use second::{read_cob, LIMIT};
 use std::hint::black_box;
 

@@ -8,6 +8,7 @@ mod figures;
 mod measure;
 mod rescues;
 mod slips;
+mod sticks;
 mod writers;
 
 use calls::{write, Call, Lent, CALLS};
@@ -58,6 +59,9 @@ fn limit(lent: &mut Lent) {
         lines(what, &vec![7; size], &[("Write", times)]);
     }
     slip();
+    for (what, size, times) in sticks::times(TURNS / 20) {
+        lines(what, &vec![7; size], &[("Judge", times)]);
+    }
 }
 
 /// The sums of a file, and the slip that takes longest.
@@ -115,12 +119,7 @@ fn growth(lent: &mut Lent) {
         each(times, size)
     });
     let cells: Vec<String> = sizes.collect();
-    println!(
-        "{:<26}{:<8}{}",
-        "a bare figure",
-        "Write",
-        cells.join("  ")
-    );
+    println!("{:<26}{:<8}{}", "a bare figure", "Write", cells.join("  "));
 }
 
 fn name(call: Call) -> String {

@@ -4,7 +4,7 @@
 use crate::calls::accepted;
 use crate::figures::{corners, vertices};
 use crate::measure::{both, Times};
-use second::boundary::{Right, Figures, Rows, Second};
+use second::boundary::{Figures, Right, Rows, Second};
 use second::LIMIT;
 use std::hint::black_box;
 

@@ -17,6 +17,7 @@
 /* As tds.h has it; a thread itself needs the least that there may be. */
 enum {
     PLAIN_STACK = 20 * 1024,
+    JUDGE_STACK = 90 * 1024,
     CINEMA_STACK = 540 * 1024,
     FIGURE_STACK = 620 * 1024,
     CALIGARI_STACK = 850 * 1024,
@@ -53,6 +54,7 @@ static void *plain_calls(void *unused) {
     made(tds_slip_read(file, length, first, sizeof first));
     made(tds_slip_write(file, length, file, length, second, sizeof second));
     made(tds_c4d_check(file, length));
+    made(tds_stick_more(file, length, second, TDS_ITEM_BYTES));
     return unused;
 }
 
@@ -69,6 +71,7 @@ static void *caligari_calls(void *unused) {
     made(tds_cob_list(file, length, first, sizeof first));
     made(tds_cob_sizes(file, length, 0, first, sizeof first));
     made(tds_cob_tables(file, length, 0, first, sizeof first, second, sizeof second));
+    made(tds_stick_file((const uint8_t *)"a.cob", 5, length, file, length, second, TDS_ITEM_BYTES));
     return unused;
 }
 
@@ -141,6 +144,44 @@ static int try_many_names(void) {
     return run_on(FIGURE_STACK, figure_calls) != 0 || written > sizeof file;
 }
 
+static uint8_t items[(TDS_MOST_ENTRIES + 2) * TDS_ITEM_BYTES];
+static uint64_t judged;
+
+static void *judge_call(void *unused) {
+    judged = tds_stick_judge(file, length, names, sizeof names, items, sizeof items);
+    made(judged);
+    return unused;
+}
+
+static void put_item(size_t i, const uint64_t numbers[TDS_ITEM_NUMBERS]) {
+    for (int n = 0; n < TDS_ITEM_NUMBERS; n++) {
+        tds_set_item(items, i, (enum tds_item)n, numbers[n]);
+    }
+}
+
+/* A good stick of as many files as a slip may have, all empty, but for the first a figure. */
+static int try_full_stick(void) {
+    static uint8_t entries[TDS_MOST_ENTRIES * TDS_ENTRY_BYTES];
+    static const char slip[] = "stick.slip";
+    uint64_t sum = tds_sum_add(0, first, 0);
+    memcpy(names, slip, 10);
+    for (size_t i = 0; i < TDS_MOST_ENTRIES; i++) {
+        char name[8];
+        size_t at = 10 + 7 * i;
+        snprintf(name, sizeof name, "%03u.%s", (unsigned)i % 1000, i == 0 ? "3ds" : "txt");
+        memcpy(names + at, name, 7);
+        tds_put4(entries + TDS_ENTRY_BYTES * i, (uint32_t)at);
+        tds_put4(entries + TDS_ENTRY_BYTES * i + 4, 7);
+        put_item(i + 1, (uint64_t[]){at, 7, TDS_ITEM_FILE, 0, sum, i == 0, 0});
+    }
+    length =
+        (size_t)tds_slip_write(names, sizeof names, entries, sizeof entries, file, sizeof file);
+    put_item(0, (uint64_t[]){0, 0, TDS_ITEM_FOLDER, TDS_MOST_ENTRIES + 2, 0, 0, 0});
+    put_item(TDS_MOST_ENTRIES + 1,
+             (uint64_t[]){0, 10, TDS_ITEM_FILE, length, tds_sum_add(0, file, length), 0, 0});
+    return run_on(JUDGE_STACK, judge_call) != 0 || judged != 1;
+}
+
 int main(int argc, char **argv) {
     for (int i = 1; i < argc; i++) {
         if (try_file(argv[i]) != 0) {
@@ -154,6 +195,10 @@ int main(int argc, char **argv) {
     }
     if (try_many_names() != 0) {
         fprintf(stderr, "small_stack: a figure of many names: not written\n");
+        return 2;
+    }
+    if (try_full_stick() != 0) {
+        fprintf(stderr, "small_stack: a stick of as many files as there may be: not good\n");
         return 2;
     }
     printf("%lu calls\n", (unsigned long)calls);
