@@ -3,6 +3,7 @@
 # make gate   what a merge needs: the same from nothing, and every must-fail edit refused
 # make prove  the proofs alone, in seconds where little has changed
 # make fuzz   both readers over COUNT files grown from SEED (KIND=slips: of one kind); make real FOLDER=…  over figures from elsewhere
+# make install, make release  the tool and the library for this machine; an archive and a .deb for others
 # make bench  the speed, against the second reader
 # make … V=1 shows the whole commands of the compiler
 .DEFAULT_GOAL := run
@@ -67,7 +68,7 @@ bench: target/staticlib/libtds.a
 bench-build: target/staticlib/libtds.a
 	cargo build $(CARGO_FLAGS) bench/Cargo.toml
 
-# ---- the C side: run, c-test, c-memcheck, samples; install, uninstall
+# ---- the C side: run, c-test, c-memcheck, samples; install, uninstall, release
 
 include stick/Makefile.inc
 include packaging/Makefile.inc

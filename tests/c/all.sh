@@ -27,6 +27,7 @@ one sh tests/c/samples_test.sh
 one sh tests/c/viewer_test.sh
 one sh tests/c/launch_test.sh
 one sh tests/c/install_test.sh
+one sh tests/c/release_test.sh
 one sh tests/c/readme_test.sh
 wait
 for test in $tool; do
