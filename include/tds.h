@@ -106,43 +106,69 @@ uint64_t tds_version(void);
  */
 enum tds_refusal {
     TDS_ACCEPTED = 0,      /* no refusal */
-    TDS_TOO_LONG = 1,      /* the file is over 1,048,576 bytes (place 0) */
-    TDS_NOT_A_FIGURE = 2,  /* under 6 bytes, or does not start with 4D 4D (place 0) */
-    TDS_TRAILING = 3,      /* bytes behind the end of 4D4D (place: where they start) */
-    TDS_SHORT = 4,         /* a length below 6 */
-    TDS_OVERRUN = 5,       /* a length beyond the end of the chunk around it, or of the file */
-    TDS_STRAY = 6,         /* 1 to 5 bytes where a chunk would start (place: the first of them) */
-    TDS_MISPLACED = 7,     /* a known chunk where it may not stand */
-    TDS_TWICE = 8,         /* a chunk that may be there only once (place: the later one) */
-    TDS_NAME = 9,          /* a name without the zero byte that ends it */
-    TDS_LENGTH = 10,       /* a chunk too long or too short for what it holds */
-    TDS_NUMBER = 11,       /* an infinite coordinate, or one that is not a number */
-    TDS_INDEX = 12,        /* a corner or face number that does not exist */
-    TDS_COUNT = 13,        /* more mapping pairs than vertices; from version 3 on, or fewer */
-    TDS_MISSING = 14,      /* a chunk that must be there is not (place: the chunk around it) */
-    TDS_NO_ROOM = 15,      /* a lent slice is too small (place: how much is needed) */
-    TDS_NO_SUCH_MESH = 16, /* the file is good but has no such mesh (place: how many it has) */
-    TDS_EMPTY = 17,        /* the file is good but the mesh has no vertices, so no box (place 0) */
-    TDS_SLIP = 18,         /* a slip that breaks its rules (place: see the calls about slips) */
-    TDS_DIFFERS = 19,      /* a file is not the one of an entry (place 0: length, 1: sums) */
-    TDS_HEADER = 20,       /* a Caligari file without the header that it must have (place 0) */
-    TDS_OWNER = 21,        /* an identifier that is 0 or used before, or an unknown parent */
-    TDS_SIZE = 22,         /* a negative size where there may be none */
-    TDS_FATHER = 23,       /* a part that hangs on none before it: see tds_parts (the B010) */
-    TDS_TEXT = 24,         /* a name that does not fit the label: see TDS_LONGEST_NAME */
-    TDS_FORM = 25,         /* a Cinema 4D file whose first 12 bytes are not right (place 0) */
-    TDS_ORDER = 26,        /* a chunk or sub-chunk of it out of order, repeated, or with no end */
-    TDS_COMBINATION = 27,  /* an object of none of the nine kinds, or a repeat (its T_END) */
-    TDS_MATERIAL = 28,     /* a texture whose material does not exist */
-    TDS_SAME_NAME = 29,    /* two objects, or two materials, of one name (place: the later) */
-    TDS_NO_MATERIAL = 30,  /* a face group that names no material (place: its number) */
-    TDS_UNCHECKED = 31,    /* of a stick: not looked at, or not whole (place: the item) */
-    TDS_BAD_FIGURE = 32,   /* of a stick: a figure that its reader refused (place: the item) */
-    TDS_UNEXPECTED = 33,   /* of a stick: more than the slip has (place: the item) */
-    TDS_ABSENT = 34,       /* of a stick: a file of the slip is not there (place: its number) */
-    TDS_INCOMPLETE = 35,   /* of a stick: not all names that were listed are items (place 0) */
-    TDS_NO_FIGURE = 36,    /* of a stick: there is no figure (place 0) */
-    TDS_CHANGED = 37       /* of a stick: another length or other sums (place: the item) */
+    TDS_TOO_LONG = 1,      /* the file is longer than a figure may be (1,048,576 bytes) (place 0) */
+    TDS_NOT_A_FIGURE = 2,  /* the file does not begin as a figure does: under 6 bytes, or it does
+                              not start with 4D 4D (place 0) */
+    TDS_TRAILING = 3,      /* bytes are left over behind the end of the figure (place: where they
+                              start) */
+    TDS_SHORT = 4,         /* a length is too small to be true: below 6 */
+    TDS_OVERRUN = 5,       /* a length runs past the end of the chunk around it, or past that of
+                              the file */
+    TDS_STRAY = 6,         /* a few bytes are left over where a chunk would begin: 1 to 5 of them
+                              (place: the first of them) */
+    TDS_MISPLACED = 7,     /* a chunk stands where it may not stand */
+    TDS_TWICE = 8,         /* a chunk is there twice that may be there only once (place: the
+                              later one) */
+    TDS_NAME = 9,          /* a name has no end: the zero byte is missing */
+    TDS_LENGTH = 10,       /* a chunk is too long or too short for what it holds */
+    TDS_NUMBER = 11,       /* a coordinate is infinite or not a number */
+    TDS_INDEX = 12,        /* a corner or a face is named that does not exist (place: the 4120 or
+                              4130) */
+    TDS_COUNT = 13,        /* the mapping coordinates do not fit the number of vertices: the
+                              mapping count exceeds the vertex count; from version 3 on it must
+                              equal it (place: the 4140) */
+    TDS_MISSING = 14,      /* a part that must be there is missing from this chunk (place: the
+                              chunk around it) */
+    TDS_NO_ROOM = 15,      /* the room lent to the reader is too small (place: how much is
+                              needed) */
+    TDS_NO_SUCH_MESH = 16, /* the figure has no mesh of this number (place: how many it has) */
+    TDS_EMPTY = 17,        /* the mesh has no vertices, so there is no box around it (place 0) */
+    TDS_SLIP = 18,         /* the slip breaks the rules of slips, or it cannot be written so
+                              (place: the entry: its offset, or its number in the writer) */
+    TDS_DIFFERS = 19,      /* a file is not the one that the slip speaks of (place 0: another
+                              length; 1: other sums) */
+    TDS_HEADER = 20,       /* the file does not begin as a Caligari figure does (place 0) */
+    TDS_OWNER = 21,        /* the number of a chunk is bad, or of the one that it hangs on: an
+                              identifier that is 0 or used before, or a parent that no earlier
+                              chunk has */
+    TDS_SIZE = 22,         /* a size is negative that may not be */
+    TDS_FATHER = 23,       /* a part hangs on none that stands before it: on itself, on a later
+                              part or on none that there is (place: its B010) */
+    TDS_TEXT = 24,         /* a name does not fit on the label (63 plain characters): over 63
+                              bytes, or one not from 32 to 126 (place: the chunk; in the writer
+                              the byte, or 63; on a slip the entry) */
+    TDS_FORM = 25,         /* the file does not begin as a Cinema 4D figure does: its first 12
+                              bytes, or the size there is not the file's (place 0) */
+    TDS_ORDER = 26,        /* chunks are out of order, are there twice or have no end */
+    TDS_COMBINATION = 27,  /* an object is made of parts that do not go together: none of the
+                              nine kinds, or a repeat (place: its T_END) */
+    TDS_MATERIAL = 28,     /* a texture names a material that does not exist (place: the texture) */
+    TDS_SAME_NAME = 29,    /* two objects, or two materials, have the same name: in a figure that
+                              is to be written (place: the number of the later one) */
+    TDS_NO_MATERIAL = 30,  /* a group of faces names a material that is not there: in a figure
+                              that is to be written (place: the number of the group in the
+                              figure) */
+    TDS_UNCHECKED = 31,    /* something on the stick was not looked at, or not whole (place: the
+                              item) */
+    TDS_BAD_FIGURE = 32,   /* a figure on the stick is refused by its reader (place: the item) */
+    TDS_UNEXPECTED = 33,   /* something is on the stick that the slip does not have (place: the
+                              item) */
+    TDS_ABSENT = 34,       /* a file of the slip is not on the stick (place: its number on the
+                              slip) */
+    TDS_INCOMPLETE = 35,   /* not everything that the stick listed was looked at (place 0) */
+    TDS_NO_FIGURE = 36,    /* there is no figure on the stick (place 0) */
+    TDS_CHANGED = 37       /* a file on the stick is not the one of the slip: another length, or
+                              other sums (place: the item) */
 };
 
 /*

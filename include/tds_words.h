@@ -22,7 +22,7 @@
 extern "C" {
 #endif
 
-/* Name and words of each refusal, by its number. */
+/* Name and words of each refusal, by its number: the one source, to which every page is held. */
 TDS_INLINE const char *const *tds_refusal_texts_(int refusal) {
     static const char *const texts[TDS_LAST_REFUSAL + 1][2] = {
         /* 0 */ {"UNKNOWN", "no refusal has this number"},

@@ -96,4 +96,36 @@ matches out '9 a name holds a zero byte'
 matches out '13 the count of a row is not what it must be'
 matches out '15 the room lent to the writer is too small'
 matches out '18 an entry cannot stand on a slip'
+# One source: tds_words.h. Every other page begins with its words, and may go on behind them.
+cat >"$T/list.c" <<'END'
+#include <stdio.h>
+#include "tds_words.h"
+int main(void) {
+    for (int i = 1; i <= TDS_LAST_REFUSAL; i++) {
+        printf("%d\t%s\t%s\n", i, tds_refusal_name(i), tds_refusal_words(i));
+    }
+    return 0;
+}
+END
+try 'the refusals in words are the same everywhere'
+if ${CC:-cc} -std=c99 -Wall -Wextra -Werror -Iinclude "$T/list.c" -o "$T/list" >"$T/out" 2>"$T/err" && "$T/list" >"$T/source"; then pass; else fail 'no words'; fi
+# number, name and text as each page has them, one line each
+sed -n '/^| number | in plain words/,/^$/s/^| \([0-9]*\) | \([^|]*\) |.*/\1\t\2/p' README.md >"$T/README.md"
+sed -n '/^enum tds_refusal/,/^};/p' include/tds.h | tr '\n' ' ' | sed 's/ \{1,\}/ /g; s/TDS_/\n/g' |
+    sed -n 's/^[A-Z_]* = \([1-9][0-9]*\),\{0,1\} \/\* \(.*\) \*\/.*/\1\t\2/p' >"$T/tds.h"
+sed -n '/^.SH REFUSALS/,/^.TE/p' include/tds.3 | sed -n 's/^\([0-9]*\)\tTDS_[A-Z_]*\tT{$/\1/p; /^T{\|^T}/d; /^[a-z]/p' | sed '/^r l/d; /^nokeep/d' | paste - - >"$T/tds.3"
+sed -n '/^.SH REFUSALS/,/^.SH [^R]/p' stick/stick.1 | sed -n 's/^\.B \([0-9]*\) .*/\1/p; /^[a-z].*\.$/p' | paste - - >"$T/stick.1"
+cut -f 1 "$T/source" | while read -r number; do "$BUILD/stick" --explain "$number" | sed -n 's/^Refusal \([0-9]*\), [A-Z 4]*: /\1\t/p'; done >"$T/explain"
+# (a check of a stick ends with some of them alone)
+if [ "$(wc -l <"$T/stick.1")" -ge 25 ]; then pass; else fail "stick.1 has few: $(cat "$T/stick.1")"; fi
+for page in README.md tds.h tds.3 stick.1 explain; do
+    while IFS='	' read -r number name words; do
+        text=$(sed -n "s/^$number	//p" "$T/$page")
+        case $page-$text in stick.1-) continue ;; esac
+        case $text in
+        "$words" | "$words"[.:,]* | "$words ("*) pass ;;
+        *) fail "$page has for $number $name: $text" ;;
+        esac
+    done <"$T/source"
+done
 finish words_test
