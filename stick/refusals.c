@@ -12,6 +12,12 @@
     "copy is refused with the same number at the same place, the copying is not to\n"              \
     "blame: the master is damaged, or a program made it that keeps other rules.\n"                 \
     "Leave it off the stick and tell whoever made the figure.\n"
+#define OTHERS "copy this figure again, or it is another program's file"
+#define OTHERS_ADVICE                                                                              \
+    "Copy this figure again from the master and check it once more. If the new\n"                  \
+    "copy is refused with the same number at the same place, another program wrote\n"              \
+    "it in its own way, as trueSpace does with most of its .cob files: ask whoever\n"              \
+    "made the figure for one that keeps the rules of the edition.\n"
 #define PROGRAM "tell whoever looks after this program"
 #define PROGRAM_ADVICE                                                                             \
     "The figure is good; the program that asked made the mistake. Tell whoever\n"                  \
@@ -132,13 +138,13 @@ static const struct refusal table[] = {
      "A Caligari figure (.cob) begins with 32 bytes that say what it is, and how its\n"
      "numbers are written. Here they are others, or the file is shorter. The place is\n"
      "always byte 0.\n",
-     AGAIN, ADVICE},
+     OTHERS, OTHERS_ADVICE},
     {21,
      "Each chunk of a Caligari figure has a number of its own, which is not 0, and\n"
      "names by number the chunk that it hangs on, or 0. Here a number is 0 or there\n"
      "twice, or a chunk hangs on one that does not stand before it. The place is where\n"
      "the chunk begins.\n",
-     AGAIN, ADVICE},
+     OTHERS, OTHERS_ADVICE},
     {22,
      "Each chunk of a Caligari figure says how many bytes follow. Some may say -1 and\n"
      "leave it to what they hold; no other size may be below 0. The place is where the\n"

@@ -86,7 +86,7 @@ structure 2
 turn "$F/a.COB" 0
 stick "$F"
 status_is 1
-matches out "$F/a.COB: refused: HEADER \(20\): the file does not begin as a Caligari figure does, at byte 0: copy this figure again"
+matches out "$F/a.COB: refused: HEADER \(20\): the file does not begin as a Caligari figure does, at byte 0: copy this figure again, or it is another program's file"
 unsealed 2 1 0
 caligari >"$T/one.cob"
 stick "$T/one.cob"
