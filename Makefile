@@ -9,7 +9,7 @@
 .DEFAULT_GOAL := run
 SHELL := /bin/bash
 .SHELLFLAGS := -o pipefail -c
-.PHONY: prove test gate rust-test differ fuzz real turned bench bench-build c-check clean
+.PHONY: prove test gate rust-test differ fuzz real real-lib3ds turned bench bench-build c-check clean
 
 prove:
 	rt check
@@ -54,6 +54,15 @@ real: export FOLDER_TO_READ = $(value FOLDER)
 real: differ
 	@test -n "$$FOLDER_TO_READ" || { echo 'make real FOLDER=folder-of-3ds-files (docs/REAL_FILES.md says where some are)'; exit 2; }
 	second/target/release/differ --real "$$FOLDER_TO_READ"
+	@if echo '#include <lib3ds/file.h>' | $(CC) -E - > /dev/null 2>&1; then $(MAKE) --no-print-directory -o target/staticlib/libtds.a real-lib3ds; \
+	else echo 'lib3ds is not here (Debian: lib3ds-dev): the files were not compared with what it reads'; fi
+
+# against lib3ds, another reader, where it is installed
+real-lib3ds: export FOLDER_TO_READ = $(value FOLDER)
+real-lib3ds: target/staticlib/libtds.a
+	@mkdir -p $(BUILD)
+	@$(C_COMPILE) tests/real/lib3ds.c $(C_LIBRARY) -l3ds -lm -o $(BUILD)/lib3ds
+	@find "$$FOLDER_TO_READ" -iname '*.3ds' -exec $(BUILD)/lib3ds {} +
 
 # what structure alone finds of turned bits, and that a slip finds all of them
 turned: differ samples
