@@ -9,35 +9,35 @@
  * says which rule and one place that says where. Chunks of unknown identifiers are stepped over and
  * never looked into.
  *
- * HOW TO USE IT. Read the file into memory; call tds_check; if it refuses, say so and stop. Else it
- * has answered how many records the list has: lend that much room to tds_list for the tree of
- * chunks. For the meshes, lend room to tds_meshes, which tells where the names, vertices, faces and
- * mapping pairs of all of them stand in the file, and read them there; or lend tables to tds_tables
- * for one of them. examples/viewer.c does just this.
+ * HOW TO USE IT. Read the file into memory; call tds_check (tds_kind tells a .3ds from the others);
+ * if it refuses, say so and stop. Otherwise its answer is how many records the list has: lend that
+ * much room to tds_list for the tree of chunks. For the meshes, lend room to tds_meshes, which
+ * tells where the names, vertices, faces and mapping pairs of all of them stand in the file, and
+ * read them there; or lend tables to tds_tables for one of them. examples/viewer.c does just this.
  *
- * You need check nothing beforehand: any bytes of any length have an answer.
+ * You need not check anything beforehand: every call has an answer for any bytes of any length.
  *
  * SLICES. Each pointer is followed by the length of what it points to: `..._len` is in BYTES,
  * `..._count` is in ELEMENTS, as tds_records, tds_write and tds_write_figure take them. (`sizeof
  * row` for a count hands over the memory behind the row: TDS_ROW has both right.) A pointer to
  * bytes may have any alignment, and (NULL, 0) is an empty slice. NULL with a length above 0, or any
  * pointer to less memory than its length says, is undefined behaviour, usually a crash: no call can
- * look for it. The slices of a call must not overlap:
- * neither two slices lent to be filled, nor one of them and the file (or, for the calls that write,
- * what is to be written). The slices that are only read may overlap one another.
+ * look for it. A slice that is lent to be filled must not overlap any other slice of the call.
+ * Those that are only read may overlap one another.
  *
- * ANSWERS. Each call answers one 64-bit number. Below 2^32 it is the answer proper, as each call
- * says; from 2^32 on it is a refusal: its number (enum tds_refusal) times 2^32, plus its place. The
- * macros TDS_REFUSED, TDS_REFUSAL and TDS_PLACE take it apart; tds_words.h has the numbers in
- * words. (tds_sum_add and tds_sum_join alone never refuse: all 64 bits of theirs are the answer.)
+ * ANSWERS. Each call returns one 64-bit number, its answer. Below 2^32 it is the result, as each
+ * call says; from 2^32 on it is a refusal: its number (enum tds_refusal) times 2^32, plus its
+ * place. The macros TDS_REFUSED, TDS_REFUSAL and TDS_PLACE take it apart; tds_words.h has the
+ * refusals in words. (tds_sum_add and tds_sum_join never refuse: all 64 bits are the result.)
  *
- * WHAT IS FILLED. Numbers go out little-endian, on every machine: four bytes each, corners two
+ * WHAT IS FILLED. Numbers are written little-endian, on every machine: four bytes each, corners two
  * bytes. Floats are the 4 bytes of an IEEE 754 single, bit for bit as in the file. tds_get2,
  * tds_get4 and tds_get_float read them back. Where the machine itself is little-endian and the
  * memory suitably aligned, you may lend a table of float (uint16_t for corners) cast to uint8_t *.
- * tds_records alone fills the machine's own numbers, and is lent those.
- *   A part of a record or of a number at the end of a slice is no room, and is left alone; so is
- * all room beyond what the answer says was filled. A call that refuses changes no lent memory.
+ * (tds_records alone fills the machine's own numbers, and is lent those.)
+ *   Room is counted in whole records or numbers: what remains at the end of a slice is not written
+ * to, nor is anything beyond what the answer says was filled. A call that refuses changes no lent
+ * memory.
  *
  * WHAT IS NEVER DONE. No call allocates memory, keeps or uses any state between calls, reads
  * anything but the slices it was given, writes anything but the slices it was lent, touches files,
@@ -59,18 +59,19 @@
  * needs 90, tds_c4d_list 540, tds_write_figure 620 where there are more than 32 objects or
  * materials, tds_stick_file and the four calls on .cob files 850.
  *
- * ORDER OF REFUSALS. First the faults of the file, which are 1 to 14, 23 and 24: 1; 2; 4, 5, 3 of
- * 4D4D; and then the first that is met, walking the file from its start. Of one chunk that is 6, 4,
- * 5, 7, 8, 9, 24, 10, 11, 12, 23, in this order; then those of the chunks inside it; and at its end
- * 14 and, of a mesh, 12 for its corners and 13. Then 16; then 17; then 15. So a damaged file is
- * refused as damaged whatever mesh was asked for and whatever room was lent. (Caligari and Cinema
- * 4D figures have an order of their own: see there.)
+ * ORDER OF REFUSALS. A call answers with the first refusal that applies. First come the faults of
+ * the file (1 to 14, 23 and 24): 1; 2; of the chunk 4D4D 4, 5, 3; and then the first that is met
+ * when the file is walked from its start. For each chunk that is 6, 4, 5, 7, 8, 9, 24, 10, 11, 12,
+ * 23, in this order; then those of the chunks inside it; and at its end 14 and, of a mesh, 12 for
+ * its corners and 13. After the faults of the file come 16, 17 and 15. So a damaged file is refused
+ * as damaged whatever mesh was asked for and whatever room was lent. (Caligari and Cinema 4D
+ * figures have an order of their own: see there.)
  *
- *   Of two slices that are lent a 15 speaks of the first that is too small, in the order of the
- * parameters; of the second only where the first has room. (Its number alone does not always tell
- * which. What to lend is known before: tds_meshes has the sizes for tds_tables, tds_cob_sizes those
- * for tds_cob_tables, tds_c4d_check the objects for tds_c4d_list, and for tds_rescue file_len
- * does.)
+ * WHICH SLICE. Where two slices are lent, 15 is about the first that is too small, in the order of
+ * the parameters: about the second only if the first has room. The number alone does not always
+ * tell which, but the room needed can be known before: tds_meshes has the sizes for tds_tables,
+ * tds_cob_sizes those for tds_cob_tables, tds_c4d_check the objects for tds_c4d_list; for
+ * tds_rescue file_len / 6 cuts and file_len bytes always do.
  *
  * LANGUAGE. C89 and later, and C++. <stdint.h> came only with C99, but is there with every compiler
  * this library is built for, in C89 mode too, and is the one thing beyond C89 that is used here.
