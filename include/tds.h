@@ -49,15 +49,14 @@
  * tds_write_figure up to 80 for as many as a file holds; over 36,864 objects or materials, which no
  * file holds, all names are compared two by two, and 60,000 take seconds. tds_stick_judge looks for
  * each item on the whole slip: a thousand files take it 1 millisecond, and each in a folder of its
- * own 4 to 25. Each call that reads a
- * figure checks all of it first; the longest takes 0.02 to 3 milliseconds, by what is in it, and up
- * to 12 if it is a .cob file made for that (docs/BENCH.md). tds_list, tds_records, tds_meshes,
- * tds_parts and those about one mesh take up to twice as long as the check, and up to 0.1
- * milliseconds more where that mesh is large; tds_rescue up to 10 milliseconds. So a call for each
- * of many meshes costs the whole file each time, and one tds_meshes for all of them once.
- * tds_sum_join and tds_sum_matches read no bytes. Stack: at most 20 kilobytes; tds_stick_judge
- * needs 90, tds_c4d_list 540, tds_write_figure 620 where there are more than 32 objects or
- * materials, tds_stick_file and the four calls on .cob files 850.
+ * own 4 to 25. Each call that reads a figure checks all of it first; the longest takes 0.02 to 3
+ * milliseconds, by what is in it, and up to 12 if it is a .cob file made for that (docs/BENCH.md).
+ * tds_list, tds_records, tds_meshes, tds_parts and those about one mesh take up to twice as long as
+ * the check, and up to 0.1 milliseconds more where that mesh is large; tds_rescue up to 10
+ * milliseconds. So a call for each of many meshes costs the whole file each time, and one
+ * tds_meshes for all of them once. tds_sum_join and tds_sum_matches read no bytes. Stack: at most
+ * 20 kilobytes; tds_stick_judge needs 90, tds_c4d_list 540, tds_write_figure 620 where there are
+ * more than 32 objects or materials, tds_stick_file and the four calls on .cob files 850.
  *
  * ORDER OF REFUSALS. A call answers with the first refusal that applies. First come the faults of
  * the file (1 to 14, 23 and 24): 1; 2; of the chunk 4D4D 4, 5, 3; and then the first that is met
