@@ -127,7 +127,7 @@ void check_at_end(struct check *check) {
     struct grounds *grounds = &report->grounds;
     report->unfinished = report->unfinished || stopped();
     grounds->alone = !check->in_folder;
-    grounds->accepted = evidence_accepted(&check->evidence);
+    grounds->figures = evidence_figures(&check->evidence, &grounds->accepted);
     if (!report->unfinished && check->readable) {
         grounds->whole = evidence_is_whole(&check->evidence);
         if (check->in_folder) {

@@ -10,6 +10,13 @@ static const bool wrong[OUTCOMES] = {
     [FOUND_EXTRA] = true,   [FOUND_LEFT_BEHIND] = true, [FOUND_BROKEN_SLIP] = true,
 };
 
+/* Whether there are figures and all of them were accepted; of a file that was named alone, whether
+ * it was found well. */
+static bool has_figures(const struct grounds *grounds) {
+    return grounds->alone ? grounds->count[FOUND_OK] > 0
+                          : grounds->accepted > 0 && grounds->accepted == grounds->figures;
+}
+
 /* The worst of all that was met. */
 static int status_of(const struct grounds *grounds) {
     int worst = 0;
@@ -20,10 +27,7 @@ static int status_of(const struct grounds *grounds) {
     if (!grounds->whole || grounds->unread > 0) {
         return 2;
     }
-    if (worst == 0 && (grounds->alone ? grounds->count[FOUND_OK] : grounds->accepted) == 0) {
-        return 2;
-    }
-    return worst;
+    return worst == 0 && !has_figures(grounds) ? 2 : worst;
 }
 
 struct result decide(const struct grounds *grounds) {

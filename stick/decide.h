@@ -3,6 +3,7 @@
 #define STICK_DECIDE_H
 
 #include <stdbool.h>
+#include <stddef.h>
 
 /* From bad to good, so that what nobody decided is not good. */
 enum verdict { DO_NOT_SEAL, STRUCTURE_ONLY, PASS };
@@ -25,7 +26,8 @@ enum outcome {
 /* What a verdict rests on. Zero everywhere is: nothing was looked at. */
 struct grounds {
     unsigned long count[OUTCOMES]; /* of all that was met */
-    unsigned long accepted;        /* figures that their readers accepted */
+    size_t figures;                /* things that are named as figures */
+    size_t accepted;               /* figures that their readers accepted */
     unsigned long unread;          /* files that were perhaps not read from the stick itself */
     bool whole;                    /* all names were listed, and all that was listed was met */
     unsigned long manifests;       /* what must be there, by a slip or by a master */

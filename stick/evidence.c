@@ -8,6 +8,8 @@
 #include <string.h>
 #include <strings.h>
 
+#include "formats.h"
+#include "kinds.h"
 #include "slip.h"
 
 void evidence_free(struct evidence *evidence) {
@@ -43,11 +45,14 @@ void evidence_take(struct evidence *evidence, size_t item, const uint8_t found[T
     memcpy(evidence->items + item * TDS_ITEM_BYTES + FROM, found + FROM, TDS_ITEM_BYTES - FROM);
 }
 
-bool item_is_accepted(const uint8_t item[TDS_ITEM_BYTES]) {
+static bool is_read_whole(const uint8_t item[TDS_ITEM_BYTES]) {
     return tds_get_item(item, 0, TDS_ITEM_KIND) == TDS_ITEM_FILE &&
-           tds_get_item(item, 0, TDS_ITEM_READER) != 0 &&
-           !TDS_REFUSED(tds_get_item(item, 0, TDS_ITEM_ANSWER)) &&
            tds_get_item(item, 0, TDS_ITEM_SUM) >> 16 == tds_get_item(item, 0, TDS_ITEM_SIZE);
+}
+
+bool item_is_accepted(const uint8_t item[TDS_ITEM_BYTES]) {
+    return is_read_whole(item) && tds_get_item(item, 0, TDS_ITEM_READER) != 0 &&
+           !TDS_REFUSED(tds_get_item(item, 0, TDS_ITEM_ANSWER));
 }
 
 void evidence_path(const struct evidence *evidence, size_t item, struct text *path) {
@@ -55,12 +60,18 @@ void evidence_path(const struct evidence *evidence, size_t item, struct text *pa
                    (size_t)tds_get_item(evidence->items, item, TDS_ITEM_NAME_LENGTH));
 }
 
-size_t evidence_accepted(const struct evidence *evidence) {
-    size_t count = 0;
+size_t evidence_figures(const struct evidence *evidence, size_t *accepted) {
+    struct text path = {0};
+    size_t figures = 0;
+    *accepted = 0;
     for (size_t i = 0; i < evidence->count; i++) {
-        count += item_is_accepted(evidence->items + i * TDS_ITEM_BYTES);
+        text_cut(&path, 0);
+        evidence_path(evidence, i, &path);
+        figures += format_of(last_name(path.bytes)) != NULL;
+        *accepted += item_is_accepted(evidence->items + i * TDS_ITEM_BYTES);
     }
-    return count;
+    text_free(&path);
+    return figures;
 }
 
 bool evidence_is_whole(const struct evidence *evidence) {
@@ -82,7 +93,7 @@ uint64_t evidence_judge(const struct evidence *evidence, const uint8_t *slip, si
                            evidence->count * TDS_ITEM_BYTES);
 }
 
-/* The item of the slip; the count of all where there is none. */
+/* The number of the slip's item; the count of all where there is none. */
 static size_t slip_item(const struct evidence *evidence) {
     size_t item = 0, length = strlen(SLIP_NAME);
     while (item < evidence->count &&
@@ -104,25 +115,34 @@ static void copy_to(struct evidence *copy, const struct evidence *evidence) {
     text_add_bytes(&copy->names, evidence->names.bytes, evidence->names.length);
 }
 
-uint64_t evidence_judge_by_list(const struct evidence *evidence, const uint8_t *list,
-                                size_t length) {
+/* Puts a list in the place of the slip, which was read whole; without one it is one name more. */
+static void put_list(struct evidence *copy, const uint8_t *list, size_t length,
+                     bool may_have_slip) {
     uint8_t found[TDS_ITEM_BYTES] = {0};
+    size_t item = slip_item(copy);
+    bool whole =
+        item < copy->count && may_have_slip && is_read_whole(copy->items + item * TDS_ITEM_BYTES);
+    if (item == copy->count) {
+        uint64_t listed = tds_get_item(copy->items, 0, TDS_ITEM_SIZE);
+        tds_set_item(copy->items, 0, TDS_ITEM_SIZE, listed == 0 ? 0 : listed + 1);
+        whole = evidence_add(copy, SLIP_NAME) == item;
+    }
+    tds_stick_file((const uint8_t *)SLIP_NAME, strlen(SLIP_NAME), length, list, length, found,
+                   sizeof found);
+    if (whole) {
+        evidence_take(copy, item, found);
+    }
+}
+
+uint64_t evidence_judge_by_list(const struct evidence *evidence, const uint8_t *list, size_t length,
+                                bool may_have_slip) {
     struct evidence copy = {0};
     uint64_t answer;
-    size_t item;
     if (evidence->count == 0) {
         return 0;
     }
     copy_to(&copy, evidence);
-    item = slip_item(&copy);
-    if (item == copy.count) { /* one name more, in the stick's own folder */
-        uint64_t listed = tds_get_item(copy.items, 0, TDS_ITEM_SIZE);
-        tds_set_item(copy.items, 0, TDS_ITEM_SIZE, listed == 0 ? 0 : listed + 1);
-        item = evidence_add(&copy, SLIP_NAME);
-    }
-    tds_stick_file((const uint8_t *)SLIP_NAME, strlen(SLIP_NAME), length, list, length, found,
-                   sizeof found);
-    evidence_take(&copy, item, found);
+    put_list(&copy, list, length, may_have_slip);
     answer = evidence_judge(&copy, list, length);
     evidence_free(&copy);
     return answer;

@@ -35,16 +35,18 @@ bool item_is_accepted(const uint8_t item[TDS_ITEM_BYTES]);
 /* Adds the path of an item to a text. */
 void evidence_path(const struct evidence *evidence, size_t item, struct text *path);
 
-/* How many such figures there are, and whether every name that was listed is an item. */
-size_t evidence_accepted(const struct evidence *evidence);
+/* How many items are named as figures, and how many such figures there are. */
+size_t evidence_figures(const struct evidence *evidence, size_t *accepted);
+
+/* Whether every name that was listed is an item. */
 bool evidence_is_whole(const struct evidence *evidence);
 
 /* The library's judgement by the slip of the stick: 1 is good, and nothing else is. */
 uint64_t evidence_judge(const struct evidence *evidence, const uint8_t *slip, size_t length);
 
 /* The same by a list of files that is laid out as a slip and stands on no stick: in the place of
- * the stick's own slip, where there is one. */
-uint64_t evidence_judge_by_list(const struct evidence *evidence, const uint8_t *list,
-                                size_t length);
+ * the stick's own slip, where there is one and may be one beside these files. */
+uint64_t evidence_judge_by_list(const struct evidence *evidence, const uint8_t *list, size_t length,
+                                bool may_have_slip);
 
 #endif

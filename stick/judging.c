@@ -95,7 +95,8 @@ static size_t files_of(const struct manifest *master) {
 
 /* The master's files are laid out as a slip. Every one of them must have been compared. */
 static void judge_by_master(const struct gathered *gathered, struct report *report) {
-    bool all = gathered->compared->count == files_of(gathered->master);
+    size_t files = files_of(gathered->master);
+    bool all = gathered->compared->count == files;
     const struct expected *unfit;
     size_t length;
     uint8_t *list;
@@ -106,7 +107,9 @@ static void judge_by_master(const struct gathered *gathered, struct report *repo
     if (list == NULL || !all) {
         say_unfit(gathered, unfit, report);
     } else {
-        take(gathered, true, false, evidence_judge_by_list(gathered->evidence, list, length),
+        take(gathered, true, false,
+             evidence_judge_by_list(gathered->evidence, list, length,
+                                    files < gathered->master->count),
              report);
     }
     free(list);
@@ -114,12 +117,14 @@ static void judge_by_master(const struct gathered *gathered, struct report *repo
 
 void judge_gathered(const struct gathered *gathered, struct report *report) {
     const struct slip *slip = gathered->slip;
-    bool by_slip = slip->state == SLIP_GOOD, by_master = gathered->master != NULL;
+    const struct manifest *master = gathered->master;
+    bool has_slip = slip->state == SLIP_GOOD, by_master = master != NULL;
+    bool by_slip = has_slip || (by_master && files_of(master) < master->count);
     report->grounds.manifests = (unsigned long)by_slip + (unsigned long)by_master;
-    if (by_slip) {
+    if (by_slip) { /* also where the master alone has one: then there is nothing to judge by */
         take(gathered, is_clean(gathered, report),
              gathered->unlike_slip || report->grounds.count[FOUND_REFUSED] > 0,
-             evidence_judge(gathered->evidence, slip->bytes, slip->length), report);
+             has_slip ? evidence_judge(gathered->evidence, slip->bytes, slip->length) : 0, report);
     }
     if (by_master) {
         judge_by_master(gathered, report);

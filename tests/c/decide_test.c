@@ -21,8 +21,12 @@ static void expect(const char *what, const struct grounds *grounds, enum verdict
 
 /* The record of a stick that passes. */
 static struct grounds good(void) {
-    return (struct grounds){
-        .count[FOUND_OK] = 3, .accepted = 2, .whole = true, .manifests = 1, .agreed = 1};
+    return (struct grounds){.count[FOUND_OK] = 3,
+                            .figures = 2,
+                            .accepted = 2,
+                            .whole = true,
+                            .manifests = 1,
+                            .agreed = 1};
 }
 
 /* Every outcome alone, beside a record that is good otherwise. */
@@ -58,6 +62,12 @@ static void without(void) {
     one = good();
     one.accepted = 0;
     expect("no figure was accepted", &one, DO_NOT_SEAL, 2);
+    one.accepted = 1;
+    expect("not all figures were accepted", &one, DO_NOT_SEAL, 2);
+    one.accepted = 3;
+    expect("more than there are", &one, DO_NOT_SEAL, 2);
+    one.accepted = one.figures = 0;
+    expect("there is no figure", &one, DO_NOT_SEAL, 2);
     one = good();
     one.unread = 1;
     expect("a file was read from memory", &one, DO_NOT_SEAL, 2);
@@ -98,6 +108,7 @@ static void all_flags(void) {
         struct grounds one = {.count[FOUND_OK] = 3,
                               .whole = whole,
                               .unread = !read,
+                              .figures = 1,
                               .accepted = accepted,
                               .alone = alone,
                               .manifests = slip,
