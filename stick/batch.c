@@ -8,6 +8,7 @@
 #include <unistd.h>
 
 #include "escape.h"
+#include "fold.h"
 #include "json.h"
 #include "log.h"
 #include "place.h"
@@ -190,15 +191,20 @@ static struct result result_of(const struct batch *batch) {
 }
 
 static void add_plain_end(const struct batch *batch, struct text *lines) {
-    add_verdict_word(lines, result_of(batch).verdict);
-    text_format(lines, ": %s%zu of %lu sticks passed\n",
-                is_finished(batch) ? "" : "not finished: ", tally_passed(&batch->tally),
-                batch->options->batch);
+    size_t passed = tally_passed(&batch->tally);
+    struct text words = {0};
+    text_format(&words, ": %s%zu of %lu sticks passed",
+                is_finished(batch) ? "" : "not finished: ", passed, batch->options->batch);
     if (!is_finished(batch) && !batch->log.failed) {
-        text_format(lines, "go on with --from %zu\n", batch->tally.count + 1);
+        text_format(&words, "; go on with --from %zu", batch->tally.count + 1);
     }
-    text_add(lines, batch->log.failed ? "the log is not whole\n" : "");
-    add_not_passed(lines, &batch->tally, true);
+    text_add(&words, batch->log.failed ? "; the log is not whole" : "");
+    if (passed < batch->tally.count) {
+        text_add(&words, "; not these: ");
+        add_not_passed(&words, &batch->tally, true);
+    }
+    add_folded(lines, add_verdict_word(lines, result_of(batch).verdict), words.bytes);
+    text_free(&words);
 }
 
 static void add_json_end(const struct batch *batch, struct text *line) {

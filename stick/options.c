@@ -55,7 +55,7 @@ void print_help(void) {
            "       stick --copy EDITION [OPTION]... FOLDER...\n"
            "       stick --rescue DAMAGED MENDED\n"
            "Checks every figure (.3ds, .cob, .c4d) in each FOLDER and below it, and says in\n"
-           "plain words which are damaged, where, and what to do. The last line begins with\n"
+           "plain words which are damaged, where, and what to do. The last lines begin with\n"
            "PASS, STRUCTURE ONLY (there was nothing to compare with) or DO NOT SEAL.\n"
            "Several FOLDERs are worked on at once; one may also be a file.\n"
            "\n"

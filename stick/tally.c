@@ -4,8 +4,6 @@
 #include <stdlib.h>
 #include <string.h>
 
-enum { WIDTH = 80 };
-
 size_t tally_find(const struct tally *tally, const char *name) {
     for (size_t i = 0; *name != '\0' && i < tally->count; i++) {
         if (strcmp(tally->sticks[i].name, name) == 0) {
@@ -51,37 +49,18 @@ struct result tally_result(const struct tally *tally) {
     return result;
 }
 
-/* One that did not pass, behind the others, or on a new line where there is no room for it. */
-static void add_to_lines(struct text *lines, size_t *column, const char *one) {
-    static const char first[] = "not these: ";
-    bool fits = *column > 0 && *column + strlen(", ,") + strlen(one) < WIDTH;
-    text_add(lines, fits ? ", " : *column > 0 ? ",\n" : "");
-    text_add(lines, fits ? "" : first);
-    text_add(lines, one);
-    *column = (fits ? *column + strlen(", ") : strlen(first)) + strlen(one);
-}
-
-void add_not_passed(struct text *text, const struct tally *tally, bool as_lines) {
-    struct text one = {0};
-    size_t column = 0;
+void add_not_passed(struct text *text, const struct tally *tally, bool named) {
+    const char *between = "";
     for (size_t i = 0; i < tally->count; i++) {
         const struct judged *stick = &tally->sticks[i];
-        if (stick->result.verdict == PASS) {
-            continue;
+        if (stick->result.verdict != PASS) {
+            text_format(text, "%s%zu", between, i + 1);
+            if (named && *stick->name != '\0') {
+                text_format(text, " (%s)", stick->name);
+            }
+            between = ", ";
         }
-        text_cut(&one, 0);
-        text_format(&one, "%zu", i + 1);
-        if (!as_lines) {
-            text_format(text, "%s%s", text->length == 0 ? "" : ", ", one.bytes);
-            continue;
-        }
-        if (*stick->name != '\0') {
-            text_format(&one, " (%s)", stick->name);
-        }
-        add_to_lines(text, &column, one.bytes);
     }
-    text_add(text, column > 0 ? "\n" : "");
-    text_free(&one);
 }
 
 void tally_free(struct tally *tally) {

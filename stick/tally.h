@@ -30,8 +30,8 @@ size_t tally_passed(const struct tally *tally);
 /* The worst of all. */
 struct result tally_result(const struct tally *tally);
 
-/* Adds the numbers of those that did not pass; as lines also their names, in 80 columns. */
-void add_not_passed(struct text *text, const struct tally *tally, bool as_lines);
+/* Adds the numbers of those that did not pass, as 3, 17; with their names as 3 (3F2A-91BC), 17. */
+void add_not_passed(struct text *text, const struct tally *tally, bool named);
 
 void tally_free(struct tally *tally);
 

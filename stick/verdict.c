@@ -11,18 +11,21 @@
 
 #include "colour.h"
 #include "escape.h"
+#include "fold.h"
 #include "json.h"
 
 const char *verdict_word(enum verdict verdict) {
     return verdict == PASS ? "PASS" : verdict == STRUCTURE_ONLY ? "STRUCTURE ONLY" : "DO NOT SEAL";
 }
 
-void add_verdict_word(struct text *line, enum verdict verdict) {
-    if (in_colour(STDOUT_FILENO)) {
-        text_format(line, "%s  %s  %s", colour_of(verdict), verdict_word(verdict), COLOUR_ENDS);
-    } else {
-        text_add(line, verdict_word(verdict));
+size_t add_verdict_word(struct text *line, enum verdict verdict) {
+    const char *word = verdict_word(verdict);
+    if (!in_colour(STDOUT_FILENO)) {
+        text_add(line, word);
+        return strlen(word);
     }
+    text_format(line, "%s  %s  %s", colour_of(verdict), word, COLOUR_ENDS);
+    return strlen(word) + 4;
 }
 
 static void add_word(struct text *line, const struct report *report) {
@@ -147,24 +150,27 @@ static bool is_said(const struct report *sum) {
     return !sum->style->quiet || sum->result.verdict != PASS;
 }
 
+/* The verdict first, then how many, and below it what it does not speak of. */
 static void add_plain(struct text *lines, const struct report *sum, double seconds) {
     bool bad = sum->result.verdict == DO_NOT_SEAL;
+    struct text words = {0};
     add_names(lines, sum);
     if (!is_said(sum)) {
         return;
     }
-    add_word(lines, sum);
+    text_add(&words, sum->unfinished ? ": not finished: " : ": ");
     if (sum->folders > 1 && bad) {
-        text_format(lines, "%lu of ", sum->unwell);
+        text_format(&words, "%lu of ", sum->unwell);
     }
     if (sum->folders > 1) {
-        text_format(lines, "%lu %s, ", sum->folders,
+        text_format(&words, "%lu %s, ", sum->folders,
                     sum->files == sum->folders ? "files" : "folders");
     }
-    add_counts(lines, sum);
-    text_format(lines, ", in %.1f seconds%s", seconds, bad ? ": see above" : "");
-    add_uncovered(lines, sum);
-    text_add(lines, "\n");
+    add_counts(&words, sum);
+    text_format(&words, ", in %.1f seconds%s", seconds, bad ? ": see above" : "");
+    add_uncovered(&words, sum);
+    add_folded(lines, add_verdict_word(lines, sum->result.verdict), words.bytes);
+    text_free(&words);
 }
 
 static void add_json(struct text *lines, const struct report *sum, double seconds) {

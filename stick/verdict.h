@@ -4,9 +4,10 @@
 
 #include "report.h"
 
-/* The word itself; as it is added to a line it has its colour. */
+/* The word itself; as it is added to a line it has its colour. Answers how many columns it takes.
+ */
 const char *verdict_word(enum verdict verdict);
-void add_verdict_word(struct text *line, enum verdict verdict);
+size_t add_verdict_word(struct text *line, enum verdict verdict);
 
 /* The verdict on one of several folders, as a line of its job. */
 void verdict_of_folder(struct report *report, const char *folder);

@@ -22,9 +22,9 @@ unsealed 200 200 0
 grep -o 'test[^/]*/[a-j]' "$T/out" | uniq | tr -d '\n' | sed 's/test[^/]*\///g' >"$T/seen"
 if [ "$(cat "$T/seen")" = abcdefghij ]; then pass; else fail "$(cat "$T/seen")"; fi
 matches out "$T/a: DO NOT SEAL: 20 figures checked, 20 refused; structure only: no slip on this stick"
-sed "s/$seconds//" "$T/out" | sed '$d' >"$T/first"
+sed "s/$seconds//" "$T/out" | sed '/^DO NOT SEAL/,$d' >"$T/first"
 stick "$@"
-sed '$d' "$T/out" >"$T/again"
+sed '/^DO NOT SEAL/,$d' "$T/out" >"$T/again"
 same 'two checks of the same folders' "$T/first" "$T/again"
 
 try 'more folders than readers'

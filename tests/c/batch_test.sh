@@ -44,8 +44,7 @@ await "$T/out" 'stick 3 of 3: put it in'
 mv "$T/three" "$P"
 ended
 status_is 1
-matches out 'DO NOT SEAL: 2 of 3 sticks passed'
-last "not these: 2 \(folder $(stat -c %i "$T/two")\)"
+last "DO NOT SEAL: 2 of 3 sticks passed; not these: 2 \(folder $(stat -c %i "$T/two")\)"
 date='[0-9]{4}-[0-9]{2}-[0-9]{2} [0-9]{2}:[0-9]{2}:[0-9]{2}'
 matches log "$date batch of 3 begins: to be checked"
 matches log "$date $(named '1 of 3' "$T/one"): PASS: 6 figures checked, .*"
@@ -54,7 +53,7 @@ matches log "$date $(named '2 of 3' "$T/two"): $P/adze.3ds: refused: .*"
 matches log "$date $(named '2 of 3' "$T/two"): DO NOT SEAL: 6 figures checked, 1 refused, .*"
 matches log "$date $(named '2 of 3' "$T/two") ends: DO NOT SEAL, 1"
 matches log "$date batch of 3 ends: DO NOT SEAL: 2 of 3 sticks passed"
-matches log "$date batch of 3 ends: not these: 2 \(folder [0-9]+\)"
+matches log "$date batch of 3 ends:   not these: 2 \(folder [0-9]+\)"
 lines log 10
 mv "$P" "$T/three"
 
@@ -114,12 +113,10 @@ mv "$T/adze" "$P/adze.3ds"
 ended
 status_is 2
 try 'a batch counts PASS alone'
-matches out 'STRUCTURE ONLY: 0 of 1 sticks passed'
-last 'not these: 1 \(folder [0-9]+\)'
+last 'STRUCTURE ONLY: 0 of 1 sticks passed; not these: 1 \(folder [0-9]+\)'
 batch 1 --structure --log "$T/log" "$P"
 status_is 0
-matches out 'STRUCTURE ONLY: 0 of 1 sticks passed'
-last 'not these: 1 \(folder [0-9]+\)'
+last 'STRUCTURE ONLY: 0 of 1 sticks passed; not these: 1 \(folder [0-9]+\)'
 rm -r "$P"
 
 try 'copied and checked, one after another'
@@ -143,8 +140,7 @@ kill -TERM "$tool"
 # (timeout passes it on)
 ended
 status_is 2
-matches out 'DO NOT SEAL: not finished: 1 of 2 sticks passed'
-last 'go on with --from 2'
+last 'DO NOT SEAL: not finished: 1 of 2 sticks passed; go on with --from 2'
 mv "$P" "$T/one"
 
 try 'a batch that was broken off goes on where it was'
@@ -155,7 +151,7 @@ await "$T/out" "$(named '1 of 2' "$P"): it has passed already, and is not counte
 mv "$P" "$T/one" && mv "$T/two" "$P"
 ended
 status_is 1
-matches out 'DO NOT SEAL: 1 of 2 sticks passed'
+last 'DO NOT SEAL: 1 of 2 sticks passed; not these: 2 .*'
 matches log "$date batch of 2 goes on from 2: to be checked"
 mv "$P" "$T/two"
 try 'and once more, where the last one did not pass'
@@ -163,6 +159,19 @@ mv "$T/four" "$P"
 batch 2 --from 2 --log "$T/log" "$P"
 status_is 0
 last 'PASS: 2 of 2 sticks passed'
+try 'many that did not pass, on lines that fit'
+{
+    echo '2026-11-18 01:00:00 batch of 40 begins: to be checked'
+    i=0
+    while [ "$i" -lt 39 ]; do
+        i=$((i + 1))
+        echo "2026-11-18 01:00:00 stick $i of 40 (AAAA-00$i) ends: DO NOT SEAL, 1"
+    done
+} >"$T/long.log"
+batch 40 --from 40 --log "$T/long.log" "$P"
+status_is 1
+last 'DO NOT SEAL: 1 of 40 sticks passed; not these: 1 \(AAAA-001\), 2 .*, 39 \(AAAA-0039\)'
+if [ "$(grep -c '^    ' "$T/out")" -eq 9 ]; then pass; else fail "$(grep -c '^    ' "$T/out") lines"; fi
 try 'but only by the log of just this batch'
 # unknown WORDS ARGUMENTS...: nothing is checked, and the log stays as it is.
 unknown() {
@@ -252,8 +261,7 @@ if [ -w /dev/full ]; then
     status_is 2
     matches err "stick: the log /dev/full $no_log \(No space left on device\)"
     lines err 1
-    matches out 'DO NOT SEAL: 2 of 2 sticks passed'
-    last 'the log is not whole'
+    last 'DO NOT SEAL: 2 of 2 sticks passed; the log is not whole'
     batch 1 --json --log /dev/full "$P"
     status_is 2
     last '\{"verdict":"DO NOT SEAL","sticks":1,"passed":1,"log":"not whole","not_finished":0\}'

@@ -106,7 +106,7 @@ else
     turn "$T/image" $((place / 1024 * 1024 + 2))
     stick --structure "$T/mount"
     status_is 2
-    has out "; read from this computer's memory, not from the stick: take the stick out, put it in again, check again"
+    last ".*; read from this computer's memory, not from the stick: take the stick out, put it in again, check again"
     let_go
     stick "$T/mount"
     status_is 1

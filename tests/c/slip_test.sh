@@ -192,7 +192,7 @@ status_is 2
 lines err 1
 matches err "stick: $F/stick.slip: not checked: it is a link, and links are not followed: put the file itself there"
 unsealed 6 0 1
-has out '; structure only: no slip on this stick'
+has out '  structure only: no slip on this stick'
 rm "$F/stick.slip"
 mkfifo "$F/stick.slip"
 stick "$F"

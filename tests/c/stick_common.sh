@@ -49,8 +49,17 @@ unsealed() {
     if [ "$3" -eq 0 ]; then more=; else more="$3 could not be checked, "; fi
     last "DO NOT SEAL: ([0-9]+ of [0-9]+ (folders|files), )?$1 figures? checked, $2 refused, $more$seconds: see above(; .*)?"
 }
+# last PATTERN: of the last line, with those that are set in below it: its details behind a semicolon.
 last() {
-    if tail -n 1 "$T/out" | grep -qxE -e "$1"; then pass; else fail "the last line is not: $1"; fi
+    if awk '/^    / { line = line substr($0, 4); next } /^  / { line = line "; " substr($0, 3); next } { line = $0 } END { print line }' \
+        "$T/out" | grep -qxE -e "$1"; then pass; else fail "the last line is not: $1"; fi
+    if awk 'length > 80 && /^(PASS|STRUCTURE ONLY|DO NOT SEAL|  )/ { bad = 1 } END { exit bad }' "$T/out"; then pass; else fail 'over 80 columns'; fi
+}
+
+# lines out|err COUNT: as in common.sh, but for the lines that are set in below another.
+lines() {
+    seen=$(grep -cv '^  ' "$T/$1")
+    if [ "$seen" -eq "$2" ]; then pass; else fail "$seen lines of $1 instead of $2"; fi
 }
 
 # folder NAME: a new empty folder, in $F.

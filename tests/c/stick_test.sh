@@ -36,7 +36,7 @@ stick --structure "$F"
 status_is 0
 structure 6
 matches out "not looked at: 3 files of no known kind: $F/f.txt, $F/g3ds, $F/i.3d"
-has out '; 3 of no known kind not looked at'
+has out '  3 of no known kind not looked at'
 lines out 2
 
 try 'many files of no known kind are not all named, but with --verbose'

@@ -21,7 +21,7 @@ left() {
     awk 'BEGIN { RS = "\n" } {
         count = split($0, part, "\r"); line = ""
         for (i = 1; i <= count; i++) line = part[i] substr(line, length(part[i]) + 1)
-        sub(/ +$/, "", line); print line }' "$T/terminal" | sed "s/$(printf '\033')\\[[0-9;]*m//g"
+        sub(/ +$/, "", line); print line }' "$T/terminal" | sed "s/$(printf '\033')\\[[0-9;]*m//g; s/^  \([A-Z]\)/\1/"
 }
 # widest: the longest run of bytes between the starts of lines, of all that begins with checking.
 widest() {
@@ -40,9 +40,9 @@ try 'progress leaves the lines readable'
 terminal both samples/damaged
 status_is 1
 has terminal 'checking file 1, '
-left | sed '$d' >"$T/on"
+left | sed '/^DO NOT SEAL/,$d' >"$T/on"
 stick samples/damaged
-sed '$d' "$T/out" >"$T/off"
+sed '/^DO NOT SEAL/,$d' "$T/out" >"$T/off"
 same 'what is left on the terminal' "$T/on" "$T/off"
 
 try 'progress when only standard error is a terminal'
