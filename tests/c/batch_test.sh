@@ -14,6 +14,11 @@ start() {
     timeout 120 $RUN "$S" --any-folder "$@" >"$T/out" 2>"$T/err" &
     tool=$!
 }
+# stop: by hand; the tool itself, for timeout(1) may not know yet that it has a child.
+stop() {
+    # shellcheck disable=SC2046
+    kill -TERM $(cat "/proc/$tool/task/$tool/children" 2>/dev/null || echo "$tool")
+}
 # batch N ARGUMENTS...: one that needs no hand.
 batch() {
     stick --any-folder --batch "$@"
@@ -136,8 +141,7 @@ start --batch 2 --log "$T/log" "$P"
 await "$T/out" 'stick 1 of 2: put it in'
 mv "$T/one" "$P"
 await "$T/out" "$(named '1 of 2' "$P"): take it out"
-kill -TERM "$tool"
-# (timeout passes it on)
+stop
 ended
 status_is 2
 last 'DO NOT SEAL: not finished: 1 of 2 sticks passed; go on with --from 2'
@@ -207,7 +211,7 @@ timeout 120 "$S" --batch 1 --log "$T/log" "$P" >"$T/out" 2>"$T/err" &
 tool=$!
 await "$T/out" 'stick 1 of 1: put it in'
 await "$T/err" "stick: $P is on no stick: put one in \(--any-folder takes any folder\)"
-kill -TERM "$tool"
+stop
 ended
 status_is 2
 matches out 'DO NOT SEAL: not finished: 0 of 1 sticks passed'
