@@ -6,6 +6,14 @@ S=$2
 TRACED=$3
 P=$T/place
 mkdir "$T/dev" "$P" || exit 125
+clean() {
+    umount "$P" 2>/dev/null
+    for name in one two three; do
+        if [ -s "$T/$name.loop" ]; then losetup -d "$(cat "$T/$name.loop")"; fi
+    done
+}
+trap clean EXIT
+trap 'exit 2' HUP INT TERM
 mount -t tmpfs none "$T/dev" || exit 125
 cp -a /dev/null /dev/tty /dev/loop* "$T/dev" || exit 125
 mkdir -p "$T/dev/disk/by-uuid"
@@ -14,12 +22,13 @@ mount --bind "$T/dev" /dev || exit 125
 # image NAME: one with the sample edition on it, on a device that has this name.
 image() {
     truncate -s 4M "$T/$1.image"
-    mke2fs -q -F "$T/$1.image" && loop=$(losetup --find --show "$T/$1.image") && mount "$loop" "$P" || exit 125
+    mke2fs -q -F "$T/$1.image" && losetup --find --show "$T/$1.image" >"$T/$1.loop" || exit 125
+    loop=$(cat "$T/$1.loop")
+    mount "$loop" "$P" || exit 125
     rmdir "$P/lost+found"
     cp samples/edition/* "$P"
     umount "$P"
     [ "$2" = none ] || ln -s "$loop" "/dev/disk/by-uuid/$2"
-    echo "$loop" >"$T/$1.loop"
 }
 put_in() {
     mount "$(cat "$T/$1.loop")" "$P"
@@ -57,6 +66,4 @@ echo "status $?" >>"$T/said"
 rename='mv /dev/disk/by-uuid/AAAA-0002 /dev/disk/by-uuid/AAAA-0004'
 ASAN_OPTIONS=detect_leaks=0 "$TRACED" 'do' "$rename" "$P/vice.3ds" "$S" --batch 1 --log "$T/mounted.log" "$P" >>"$T/said" 2>&1
 echo "exchanged: status $?" >>"$T/said"
-umount "$P"
-for name in one two three; do losetup -d "$(cat "$T/$name.loop")"; done
 cat "$T/said"
