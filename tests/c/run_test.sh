@@ -89,7 +89,7 @@ has out 'PASS: 6 figures checked'
 make_run "$T/kit" 'STICK=x; echo hi'
 status_is 2
 has err 'stick: x; echo hi: not checked: there is no such file or folder'
-lines out 1
+lines out 2
 # shellcheck disable=SC2016
 make_run "$T/kit" "STICK=\$(shell touch '$T/ran')\`touch '$T/ran'\`"
 status_is 2

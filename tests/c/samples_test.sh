@@ -50,7 +50,7 @@ while read -r file number place; do
     name=$(echo "$file" | sed 's/-.*//' | tr '[:lower:]' '[:upper:]')
     matches out "samples/damaged/$file: refused: $name.* \($number\): .*, at byte $place: .*"
 done <samples/damaged/expected.txt
-lines out $(($(wc -l <samples/damaged/expected.txt) + 2))
+lines out $(($(wc -l <samples/damaged/expected.txt) + 4)) # what was not looked at, and a verdict of three lines
 
 try 'the one that is too long'
 mkdir "$T/long"
