@@ -120,7 +120,8 @@ static void check_and_write_slip(const struct session *session, const char *fold
     struct manifest files = {0};
     enum verdict verdict;
     if (!session->options->any_folder && volume_of(folder, NULL) == VOLUME_STICK) {
-        say_not_done(report, folder, label, "it is on a stick, and a slip is for the edition",
+        say_not_done(report, folder, label,
+                     "it is on a disk of its own, as a stick is, and a slip is for the edition",
                      "write it there, then copy (--any-folder writes it anywhere)");
         return;
     }

@@ -461,7 +461,7 @@ else
     rm "$T/mount/stick.slip" "$T/mount/saw.3ds"
     stick --write-slip "$T/mount"
     status_is 2
-    matches err "stick: $T/mount: no slip was written: it is on a stick, and a slip is for the edition: write it there, then copy .*"
+    matches err "stick: $T/mount: no slip was written: it is on a disk of its own, as a stick is, and a slip is for the edition: write it there, then copy .*"
     if [ -e "$T/mount/stick.slip" ]; then fail 'it was written'; else pass; fi
     stick --write-slip --any-folder "$T/mount"
     status_is 0
