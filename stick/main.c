@@ -12,7 +12,7 @@
 #include "roomy.h"
 #include "stop.h"
 
-#define VERSION "2.0"
+#define VERSION "3.0"
 
 static int work(const struct options *options) {
     struct session session;
