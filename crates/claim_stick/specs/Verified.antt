@@ -34,7 +34,8 @@ pub record InFormat (format : ℕ) (s : List ℕ) : Type 0 where
 abbrev pub entrySum : Entry → Sum
 entrySum e = record { length = e .file; first = e .first; second = e .second }
 
--- a file of which these bytes were given to the sum and the reader: it has an entry, these are its length and sums, and it meets the rules of the format that it is named as
+-- a file of which these bytes were given to the sum and the reader: it has an entry, these are its length and sums, and it meets the rules
+-- of the format that it is named as
 pub record VerifiedFile (es : List Entry) (s : List ℕ) (t : Item) : Type 0 where
   pub entry : Entry
   pub its-own : entryOf es (t .path) ≡ some entry

@@ -11,6 +11,7 @@ use borrow.Author.Tests.{eqb-true, eq-eqb, ne-eqb, lt-ltb, ltb-true, le-ltb, leb
 use Rattle.shared_words.proofs.Bools.{both, and-parts}
 use Rattle.slip_rules.specs.Slip.{Entry}
 use Rattle.slip_check.specs.Entries.{nextAt, entriesIn}
+use Rattle.stick_names.proofs.Alike.{part-length}
 use Rattle.shared_words.specs.declared.Refusal.{Refusal}
 use Rattle.shared_words.specs.declared.Refusal.the-variants.{Unchecked, Unexpected}
 use Rattle.shared_words.specs.declared.Judged.{Judged}
@@ -19,7 +20,7 @@ use Rattle.shared_words.specs.Conditions.{answered, broken}
 use Rattle.stick_rules.proofs.Answers.{never}
 use Rattle.stick_rules.specs.Items.{Item, isFile, isFolder, isShort, isListed}
 use Rattle.stick_rules.specs.Judge.{manifest, entryIndex, Target, isTarget, isMatched, isNoEntry, itemConditions}
-use Rattle.stick_rules.specs.Records.{seen}
+use Rattle.stick_rules.specs.Records.{seen, itemOf}
 use Rattle.stick_judge.specs.declared.Sought.{Sought}
 use Rattle.stick_judge.specs.Judging.{Finds, evidence, Flags, JudgesItem}
 
@@ -175,3 +176,64 @@ module _ (es : List Entry) (n : ℕ) (t : Item) (flags : List ℕ) where
                     let a = flag-unset flags matched m (x .entry) (x .upTo) (ltb-true _ _ s) l g in
                     record { is = rw (z, i, b, s, f, o, a, y); marks = λ _. rw z (marks-more flags matched x (ltb-true _ _ s) l m) };
               }
+
+-- ---- a folder by the numbers of its record, where its path is no entry's
+
+module _ (slip names : List ℕ) (entries : ℕ) (it : ItemRecord) (n : ℕ) (flags : List ℕ) where
+  abbrev es : List Entry
+  es = manifest slip (entriesIn entries slip 7)
+
+  abbrev t : Item
+  t = itemOf names it
+
+  -- what is known of it before its entry is looked for
+  pub record Leading : Type 0 where
+    pub is-folder : it .kind ≡ 2
+    pub within : it .name + it .len ≤ length names
+    pub below : 1 ≤ it .len
+    pub short : it .len < 64
+    pub no-entry : isNoEntry es t ≡ true
+    pub room : 64 * entries + 64 ≤ length flags
+
+  module _ (g : Leading) (r : Sought) (d : Finds false es (t .path) r) where
+    long : length (t .path) ≡ it .len
+    long = part-length names (it .name) (it .len) (g .within)
+
+    no-file : isFile t ≡ false
+    no-file = ne-eqb (it .kind) 1 (λ q. omega (arith, g .is-folder, q))
+
+    folder-is : isFolder t ≡ true
+    folder-is = eq-eqb (it .kind) 2 (g .is-folder)
+
+    has-path : eqb (length (t .path)) 0 ≡ false
+    has-path = ne-eqb (length (t .path)) 0 (λ q. omega (arith, long, q, g .below))
+
+    is-short : isShort t ≡ true
+    is-short = lt-ltb (length (t .path)) 64 (omega (arith, long, g .short))
+
+    pub leads-nowhere : entries < r .number → Stops es n t flags (Unexpected n)
+    leads-nowhere l =
+        folder-off es n t flags no-file folder-is has-path is-short (g .no-entry)
+        (le-ltb (entryIndex false es (t .path)) (length es) (omega (arith, length-expected slip entries, d .numbered)))
+
+    module _ (l : r .number ≤ entries) where
+      leads : ltb (entryIndex false es (t .path)) (length es) ≡ true
+      leads = lt-ltb (entryIndex false es (t .path)) (length es) (omega (arith, length-expected slip entries, d .numbered))
+
+      flag-is : 64 * r .number + it .len ≡ 64 * entryIndex false es (t .path) + length (t .path)
+      flag-is = omega (arith, d .numbered, long)
+
+      flag-within : 64 * entryIndex false es (t .path) + length (t .path) < length flags
+      flag-within = omega (arith, d .numbered, long, g .short, g .room)
+
+      pub leads-again : (getD flags (64 * r .number + it .len) 0 ≡ 0 → ⊥) → Stops es n t flags (Unexpected n)
+      leads-again f = folder-again es n t flags no-file folder-is has-path is-short (g .no-entry) leads flag-within (rw flag-is at f)
+
+      pub leads-unlisted : getD flags (64 * r .number + it .len) 0 ≡ 0 → it .size ≡ 0 →
+          JudgesItem es n t flags (Judged.Refused (Unchecked n)) (set flags (64 * r .number + it .len) 1)
+      leads-unlisted f u =
+          rw flag-is (folder-unlisted es n t flags no-file folder-is has-path is-short (g .no-entry) leads flag-within (rw flag-is at f) (ap not (eq-eqb (it .size) 0 u)))
+
+      pub leads-good : getD flags (64 * r .number + it .len) 0 ≡ 0 → (it .size ≡ 0 → ⊥) → JudgesItem es n t flags Judged.Good (set flags (64 * r .number + it .len) 1)
+      leads-good f u =
+          rw flag-is (folder-good es n t flags no-file folder-is has-path is-short (g .no-entry) leads flag-within (rw flag-is at f) (ap not (ne-eqb (it .size) 0 u)))

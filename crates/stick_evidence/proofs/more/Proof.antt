@@ -38,9 +38,11 @@ same-length c = search needs
 
 returns-2 : tie.Need-returns-2
 returns-2 c =
-    let a = c .before .before .before .before .before .before .before .before .before .before .before .before .before .before .before .before .args in
-    let n = more-numbers (a .part .now) (a .item .now) _ _ _ _ _ (c .before .before .before .before .before .before .before .before .before .before .before .eight-at .ensures) (c .before .before .before .before .before .before .before .before .before .before .sum-add .ensures) (c .before .before .before .before .before .before .before .before .eight-at2 .ensures) (c .before .before .before .before .before .before .eight-at3 .ensures) (c .before .before .before .before .before .more-answer .ensures) in
-    right-length (a .item .now) _ _ (c .before .before .before .before .before .before .before .before .before .before .before .before .before .if1 .left) (c .before .before .put-numbers .ensures ∙ ap (ending (a .item .now) 32) n)
+    let asked = c .before .before .before .before .before in
+    let begun = asked .before .before .before .before .before .before in
+    let a = begun .before .before .before .before .before .args in
+    let n = more-numbers (a .part .now) (a .item .now) _ _ _ _ _ (begun .eight-at .ensures) (asked .before .before .before .before .before .sum-add .ensures) (asked .before .before .before .eight-at2 .ensures) (asked .before .eight-at3 .ensures) (asked .more-answer .ensures) in
+    right-length (a .item .now) _ _ (begun .before .before .if1 .left) (c .before .before .put-numbers .ensures ∙ ap (ending (a .item .now) 32) n)
 
 pub more-spec : {M : Type 1} → statement M
 more-spec =

@@ -60,21 +60,26 @@ add-is-entry-of : tie.Need-add-is-entry-of Inv-loop μ-loop
 add-is-entry-of c = omega (arith, within (c .before))
 
 mul-is-entry-of : tie.Need-mul-is-entry-of Inv-loop μ-loop
-mul-is-entry-of c = omega (arith, c .before .before .before .before .before .before .before .before .before .pre .0 .few)
+mul-is-entry-of c =
+    let round = c .before in
+    omega (arith, round .before .before .before .before .before .before .before .before .pre .0 .few)
 
 shared-slice-read-is-entry-of : tie.Need-shared-slice-read-is-entry-of Inv-loop μ-loop
-shared-slice-read-is-entry-of c = omega (arith, c .before .before .before .before .before .before .before .before .before .before .pre .0 .room)
+shared-slice-read-is-entry-of c =
+    let round = c .before .before in
+    omega (arith, round .before .before .before .before .before .before .before .before .pre .0 .room)
 
 is-entry-of-requires : tie.Need-is-entry-of-requires Inv-loop μ-loop
 is-entry-of-requires c κs =
-    let x = c .before .before .before .before .before .before .before .before .before .before in
+    let round = c .before .before in
+    let x = round .before .before .before .before .before .before .before .before in
     let a = x .args in
-    let l = c .before .before .before .loop in
+    let l = round .before .loop in
     let b = c .before .byte-at .ensures .0 in (
-      omega (arith, within (c .before .before), b),
+      omega (arith, within (round), b),
       x .pre .1,
       digest-is (a .slip .now) (a .entries) (a .digests .now) (l .k) (l .o) (c .before .byte-at .result) (x .pre .0) (omega arith) (l .inv .stands) b,
-      c .before .before .before .before .digest .ensures,
+      round .before .before .digest .ensures,
     )
 
 add-entry : tie.Need-add-entry Inv-loop μ-loop
@@ -85,8 +90,9 @@ entry-requires c κs = within (c .before .before .before .before)
 
 returns-2 : tie.Need-returns-2 Inv-loop μ-loop
 returns-2 c =
-    let a = c .before .before .before .before .before .before .before .before .before .before .before .before .before .args in
-    let l = c .before .before .before .before .before .before .loop in
+    let round = c .before .before .before .before .before in
+    let a = round .before .before .before .before .before .before .before .before .args in
+    let l = round .before .loop in
     let e = named (a .file) (a .slip .now) (l .o) (c .before .before .before .before .byte-at .result) _ _ (c .before .before .before .before .byte-at .ensures .0) (c .before .before .is-entry-of .ensures) in
     seeks-found (a .file) (a .slip .now) (take (a .len) (drop (a .at) (a .names .now))) (a .entries) (l .k) (l .o) (l .inv) (omega arith) _ (sym e ∙ c .before .if2 .taken) (c .entry .ensures)
 
@@ -104,8 +110,9 @@ loop-less c = omega arith
 
 loop-again : tie.Need-loop-again Inv-loop μ-loop
 loop-again c =
-    let a = c .before .before .before .before .before .before .before .before .before .before .before .before .args in
-    let l = c .before .before .before .before .before .loop in
+    let round = c .before .before .before .before in
+    let a = round .before .before .before .before .before .before .before .before .args in
+    let l = round .before .loop in
     let b = c .before .before .before .byte-at .ensures .0 in
     let e = named (a .file) (a .slip .now) (l .o) (c .before .before .before .byte-at .result) _ _ b (c .before .is-entry-of .ensures) in
     rw b (seeks-on (a .file) (a .slip .now) (take (a .len) (drop (a .at) (a .names .now))) (a .entries) (l .k) (l .o) (l .inv) (omega arith) (sym e ∙ c .if2 .left))

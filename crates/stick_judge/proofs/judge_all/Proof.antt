@@ -46,7 +46,8 @@ judge-rest-requires c κs = search needs
 
 returns : tie.Need-returns
 returns c =
-    let a = c .before .before .before .before .before .before .before .before .before .before .before .before .before .args in
+    let filled = c .before .before .before .before .before .before .before .before in
+    let a = filled .before .before .before .before .before .args in
     let es = manifest (a .slip .now) (entriesIn (a .entries) (a .slip .now) 7) in
     let ts = itemsIn (a .names .now) (a .items .now) in
     let j = c .before .before .before .before .judge-items in
@@ -55,7 +56,8 @@ returns c =
 
 returns-2 : tie.Need-returns-2
 returns-2 c =
-    let a = c .before .before .before .before .before .before .before .before .before .before .before .before .before .before .args in
+    let filled = c .before .before .before .before .before .before .before .before .before in
+    let a = filled .before .before .before .before .before .args in
     let es = manifest (a .slip .now) (entriesIn (a .entries) (a .slip .now) 7) in
     let ts = itemsIn (a .names .now) (a .items .now) in
     let j = c .before .before .before .before .before .judge-items in

@@ -36,28 +36,32 @@ returns-2 c =
 
 returns-3 : tie.Need-returns-3
 returns-3 c =
-    let x = c .before .before .before .before .before .before .before .before .before .before in
+    let folder = c .before .before .before .before in
+    let x = folder .before .before .before .before .before .before in
     let a = x .args in
     let es = manifest (a .slip .now) (entriesIn (a .entries) (a .slip .now) 7) in
     let t = itemOf (a .names .now) (a .it) in
     let z = ne-eqb (a .it .kind) 1 (x .pre .1) in
-    let k = c .before .before .before .before .if1 .left in
+    let k = folder .if1 .left in
     let i = eq-eqb (a .it .kind) 2 k in
     let e = part-length (a .names .now) (a .it .name) (a .it .len) (x .pre .2 k) in
     let b = ne-eqb (length (t .path)) 0 (λ q. c .before .before .if2 .left (sym e ∙ q)) in
     folder-long es (a .i) t (a .matched .now) z i b (le-ltb (length (t .path)) 64 (omega (arith, e, c .if3 .taken)))
 
 find-requires : tie.Need-find-requires
-find-requires c κs = let x = c .before .before .before .before .before .before .before .before .before .before in (x .pre .0, x .pre .2 (c .before .before .before .before .if1 .left))
+find-requires c κs =
+    let folder = c .before .before .before .before in
+    let x = folder .before .before .before .before .before .before in (x .pre .0, x .pre .2 (folder .if1 .left))
 
 returns-4 : tie.Need-returns-4
 returns-4 c =
-    let x = c .before .before .before .before .before .before .before .before .before .before .before .before .before in
+    let folder = c .before .before .before .before .before .before .before in
+    let x = folder .before .before .before .before .before .before in
     let a = x .args in
     let es = manifest (a .slip .now) (entriesIn (a .entries) (a .slip .now) 7) in
     let t = itemOf (a .names .now) (a .it) in
     let z = ne-eqb (a .it .kind) 1 (x .pre .1) in
-    let k = c .before .before .before .before .before .before .before .if1 .left in
+    let k = folder .if1 .left in
     let i = eq-eqb (a .it .kind) 2 k in
     let e = part-length (a .names .now) (a .it .name) (a .it .len) (x .pre .2 k) in
     let b = ne-eqb (length (t .path)) 0 (λ q. c .before .before .before .before .before .if2 .left (sym e ∙ q)) in
@@ -67,11 +71,12 @@ returns-4 c =
 
 judge-leading-requires : tie.Need-judge-leading-requires
 judge-leading-requires c κs =
-    let x = c .before .before .before .before .before .before .before .before .before .before .before .before .before .before in
+    let folder = c .before .before .before .before .before .before .before .before in
+    let x = folder .before .before .before .before .before .before in
     let a = x .args in
     let es = manifest (a .slip .now) (entriesIn (a .entries) (a .slip .now) 7) in
     let t = itemOf (a .names .now) (a .it) in
-    let k = c .before .before .before .before .before .before .before .before .if1 .left in
+    let k = folder .if1 .left in
     let h = length-expected (a .slip .now) (a .entries) in
     let f = le-leb (length es) (entryIndex true es (t .path)) (omega (arith, h, c .before .before .before .find .ensures .numbered)) in
     (x .pre .0, k, x .pre .2 k, omega (arith, c .before .before .before .before .before .before .if2 .left), omega (arith, c .before .before .before .before .if3 .left), f, x .pre .3)

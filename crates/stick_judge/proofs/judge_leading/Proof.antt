@@ -1,37 +1,24 @@
 -- The tests are the conditions, one after another; the flag is that of the target.
-use mathlib.Core.Path.{_≡_, sym, ap, _∙_}
-use mathlib.Core.Bool.{true, false, not}
-use Prim.Native.Nat.{_+_, _*_, _<_}
-use native.Mathlib.Omega.{arith}
-use lib.ListN.{length}
-use borrow.Author.Tests.{eq-eqb, ne-eqb, lt-ltb, le-ltb}
-use Rattle.slip_check.specs.Entries.{entriesIn}
-use Rattle.stick_names.proofs.Alike.{part-length}
-use Rattle.stick_rules.specs.Judge.{manifest, entryIndex}
-use Rattle.stick_rules.specs.Records.{itemOf}
-use Rattle.stick_judge.proofs.Marking.{length-expected, folder-off, folder-again, folder-unlisted, folder-good}
 use borrow.Author.Needs.{needs}
+use Rattle.stick_judge.proofs.Marking.{Leading, leads-nowhere, leads-again, leads-unlisted, leads-good}
 use Rattle.stick_judge.proofs.judge_leading.Statement.{statement}
 use Rattle.stick_judge.proofs.judge_leading.Tie as tie
+
+-- what is known where its entry was found
+leading : (c : tie.After-find) → let x = c .before .before .before .before .before in
+    Leading (x .args .slip .now) (x .args .names .now) (x .args .entries) (x .args .it) (x .args .i) (x .args .matched .now)
+leading c =
+    let p = c .before .before .before .before .before .pre in
+    record { is-folder = p .1; within = p .2; below = p .3; short = p .4; no-entry = p .5; room = p .6 }
 
 find-requires : tie.Need-find-requires
 find-requires c κs = search needs
 
 returns : tie.Need-returns
 returns c =
-    let x = c .before .before .before .before .before .before in
-    let a = x .args in
-    let es = manifest (a .slip .now) (entriesIn (a .entries) (a .slip .now) 7) in
-    let t = itemOf (a .names .now) (a .it) in
-    let h = length-expected (a .slip .now) (a .entries) in
-    let i = eq-eqb (a .it .kind) 2 (x .pre .1) in
-    let z = ne-eqb (a .it .kind) 1 (λ q. omega (arith, x .pre .1, q)) in
-    let e = part-length (a .names .now) (a .it .name) (a .it .len) (x .pre .2) in
-    let b = ne-eqb (length (t .path)) 0 (λ q. omega (arith, e, q, x .pre .3)) in
-    let s = lt-ltb (length (t .path)) 64 (omega (arith, e, x .pre .4)) in
-    let f = c .before .find in
-    let n = f .ensures .numbered in
-    folder-off es (a .i) t (a .matched .now) z i b s (x .pre .5) (le-ltb (entryIndex false es (t .path)) (length es) (omega (arith, h, n)))
+    let f = c .before in
+    let a = f .before .before .before .before .before .args in
+    leads-nowhere (a .slip .now) (a .names .now) (a .entries) (a .it) (a .i) (a .matched .now) (leading f) (f .find .result) (f .find .ensures) (c .if1 .taken)
 
 mul-flag : tie.Need-mul-flag
 mul-flag c = search needs
@@ -44,22 +31,9 @@ slice-read-if2 c = search needs
 
 returns-2 : tie.Need-returns-2
 returns-2 c =
-    let x = c .before .before .before .before .before .before .before .before in
-    let a = x .args in
-    let es = manifest (a .slip .now) (entriesIn (a .entries) (a .slip .now) 7) in
-    let t = itemOf (a .names .now) (a .it) in
-    let h = length-expected (a .slip .now) (a .entries) in
-    let i = eq-eqb (a .it .kind) 2 (x .pre .1) in
-    let z = ne-eqb (a .it .kind) 1 (λ q. omega (arith, x .pre .1, q)) in
-    let e = part-length (a .names .now) (a .it .name) (a .it .len) (x .pre .2) in
-    let b = ne-eqb (length (t .path)) 0 (λ q. omega (arith, e, q, x .pre .3)) in
-    let s = lt-ltb (length (t .path)) 64 (omega (arith, e, x .pre .4)) in
-    let f = c .before .before .before .find in
-    let n = f .ensures .numbered in
-    let o = lt-ltb (entryIndex false es (t .path)) (length es) (omega (arith, h, n)) in
-    let y : 64 * f .result .number + a .it .len ≡ 64 * entryIndex false es (t .path) + length (t .path) = omega (arith, n, e) in
-    let l : 64 * entryIndex false es (t .path) + length (t .path) < length (a .matched .now) = omega (arith, h, n, e, x .pre .4, x .pre .6) in
-    folder-again es (a .i) t (a .matched .now) z i b s (x .pre .5) o l (rw y at (c .if2 .taken))
+    let f = c .before .before .before in
+    let a = f .before .before .before .before .before .args in
+    leads-again (a .slip .now) (a .names .now) (a .entries) (a .it) (a .i) (a .matched .now) (leading f) (f .find .result) (f .find .ensures) (c .before .before .if1 .left) (c .if2 .taken)
 
 slice-write-matched : tie.Need-slice-write-matched
 slice-write-matched c = search needs
@@ -69,46 +43,18 @@ same-length c = search needs
 
 returns-3 : tie.Need-returns-3
 returns-3 c =
-    let x = c .before .before .before .before .before .before .before .before .before .before in
-    let a = x .args in
-    let es = manifest (a .slip .now) (entriesIn (a .entries) (a .slip .now) 7) in
-    let t = itemOf (a .names .now) (a .it) in
-    let h = length-expected (a .slip .now) (a .entries) in
-    let i = eq-eqb (a .it .kind) 2 (x .pre .1) in
-    let z = ne-eqb (a .it .kind) 1 (λ q. omega (arith, x .pre .1, q)) in
-    let e = part-length (a .names .now) (a .it .name) (a .it .len) (x .pre .2) in
-    let b = ne-eqb (length (t .path)) 0 (λ q. omega (arith, e, q, x .pre .3)) in
-    let s = lt-ltb (length (t .path)) 64 (omega (arith, e, x .pre .4)) in
-    let f = c .before .before .before .before .before .find in
-    let n = f .ensures .numbered in
-    let o = lt-ltb (entryIndex false es (t .path)) (length es) (omega (arith, h, n)) in
-    let y : 64 * f .result .number + a .it .len ≡ 64 * entryIndex false es (t .path) + length (t .path) = omega (arith, n, e) in
-    let l : 64 * entryIndex false es (t .path) + length (t .path) < length (a .matched .now) = omega (arith, h, n, e, x .pre .4, x .pre .6) in
-    let u = ap not (eq-eqb (a .it .size) 0 (c .if3 .taken)) in
-    rw y (folder-unlisted es (a .i) t (a .matched .now) z i b s (x .pre .5) o l (rw y at (c .before .before .if2 .left)) u)
+    let f = c .before .before .before .before .before in
+    let a = f .before .before .before .before .before .args in
+    leads-unlisted (a .slip .now) (a .names .now) (a .entries) (a .it) (a .i) (a .matched .now) (leading f) (f .find .result) (f .find .ensures) (c .before .before .before .before .if1 .left) (c .before .before .if2 .left) (c .if3 .taken)
 
 same-length-2 : tie.Need-same-length-2
 same-length-2 c = search needs
 
 returns-4 : tie.Need-returns-4
 returns-4 c =
-    let x = c .before .before .before .before .before .before .before .before .before .before in
-    let a = x .args in
-    let es = manifest (a .slip .now) (entriesIn (a .entries) (a .slip .now) 7) in
-    let t = itemOf (a .names .now) (a .it) in
-    let h = length-expected (a .slip .now) (a .entries) in
-    let i = eq-eqb (a .it .kind) 2 (x .pre .1) in
-    let z = ne-eqb (a .it .kind) 1 (λ q. omega (arith, x .pre .1, q)) in
-    let e = part-length (a .names .now) (a .it .name) (a .it .len) (x .pre .2) in
-    let b = ne-eqb (length (t .path)) 0 (λ q. omega (arith, e, q, x .pre .3)) in
-    let s = lt-ltb (length (t .path)) 64 (omega (arith, e, x .pre .4)) in
-    let f = c .before .before .before .before .before .find in
-    let n = f .ensures .numbered in
-    let o = lt-ltb (entryIndex false es (t .path)) (length es) (omega (arith, h, n)) in
-    let y : 64 * f .result .number + a .it .len ≡ 64 * entryIndex false es (t .path) + length (t .path) = omega (arith, n, e) in
-    let l : 64 * entryIndex false es (t .path) + length (t .path) < length (a .matched .now) = omega (arith, h, n, e, x .pre .4, x .pre .6) in
-    let u = ap not (ne-eqb (a .it .size) 0 (c .if3 .left)) in
-    rw y (folder-good es (a .i) t (a .matched .now) z i b s (x .pre .5) o l (rw y at (c .before .before .if2 .left)) u)
+    let f = c .before .before .before .before .before in
+    let a = f .before .before .before .before .before .args in
+    leads-good (a .slip .now) (a .names .now) (a .entries) (a .it) (a .i) (a .matched .now) (leading f) (f .find .result) (f .find .ensures) (c .before .before .before .before .if1 .left) (c .before .before .if2 .left) (c .if3 .left)
 
 pub judge-leading-spec : {M : Type 1} → statement M
 judge-leading-spec =
