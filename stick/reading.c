@@ -25,7 +25,7 @@ static bool begin(struct reading *reading, enum source source, struct trouble *t
         trouble_of_words(trouble, "it is not a file", "see what stands there, and check again");
         return false;
     }
-    error = source == FROM_STICK ? settle(reading->file) : 0;
+    error = source == FROM_STICK ? settle(reading->file, &status) : 0;
     if (error == EIO || error == ENODEV) {
         trouble_of_system(trouble, error);
         return false;

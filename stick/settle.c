@@ -11,7 +11,6 @@
 #include <stddef.h>
 #include <stdint.h>
 #include <sys/mman.h>
-#include <sys/stat.h>
 #include <sys/statvfs.h>
 #include <sys/syscall.h>
 #include <sys/sysmacros.h>
@@ -49,13 +48,12 @@ bool is_held_by_program(int file) {
  * copied that is the last one, wherever blocks are smaller than pages; a small file has no other.
  * A file system that is a program may hold what waits where the file's pages do not show it.
  */
-static bool none_is_held(int file) {
+static bool none_is_held(int file, const struct stat *status) {
     const uint64_t all_of_it[2] = {0, 0};
     uint64_t pages[5] = {0}; /* in memory, to be written, being written, and two that were */
-    struct stat status;
     struct statfs system;
-    return fstat(file, &status) == 0 && major(status.st_dev) != 0 && fstatfs(file, &system) == 0 &&
-           system.f_type != FUSE && syscall(SYS_cachestat, file, all_of_it, pages, 0) == 0 &&
+    return major(status->st_dev) != 0 && fstatfs(file, &system) == 0 && system.f_type != FUSE &&
+           syscall(SYS_cachestat, file, all_of_it, pages, 0) == 0 &&
            pages[0] + pages[1] + pages[2] == 0;
 }
 
@@ -84,16 +82,15 @@ static off_t next_data(int file, off_t from) {
 }
 
 /* What another program uses at the same time stays in memory, and dropping it is no error. */
-static bool is_held(int file) {
+static bool is_held(int file, const struct stat *status) {
     off_t most = (off_t)PAGES * sysconf(_SC_PAGESIZE), from;
-    struct stat status;
     bool held = false;
-    if (fstat(file, &status) != 0 || !can_be_asked(&status)) {
+    if (!can_be_asked(status)) {
         return false;
     }
-    for (from = next_data(file, 0); from >= 0 && from < status.st_size && !held;
+    for (from = next_data(file, 0); from >= 0 && from < status->st_size && !held;
          from = next_data(file, from + most)) {
-        off_t left = status.st_size - from;
+        off_t left = status->st_size - from;
         held = piece_is_held(file, from, (size_t)(left < most ? left : most));
     }
     return lseek(file, 0, SEEK_SET) != 0 || held;
@@ -110,24 +107,24 @@ static int write_out(int file) {
 }
 
 /* Answers 0, or the error for which it stays in memory. */
-static int drop(int file) {
+static int drop(int file, const struct stat *status) {
     int error = posix_fadvise(file, 0, 0, POSIX_FADV_DONTNEED);
-    return error == 0 && is_held(file) ? EBUSY : error;
+    return error == 0 && is_held(file, status) ? EBUSY : error;
 }
 
-int settle(int file) {
+int settle(int file, const struct stat *status) {
     int error;
-    if (none_is_held(file)) {
+    if (none_is_held(file, status)) {
         return 0;
     }
     error = write_out(file);
     if (error == 0) {
-        error = drop(file);
+        error = drop(file, status);
     }
     for (int i = 0; i < MORE_TRIES && error == EBUSY; i++) {
         const struct timespec pause = {.tv_nsec = 1000 * 1000};
         nanosleep(&pause, NULL);
-        error = drop(file);
+        error = drop(file, status);
     }
     return error;
 }

@@ -3,12 +3,13 @@
 #define STICK_SETTLE_H
 
 #include <stdbool.h>
+#include <sys/stat.h>
 
 /*
  * Writes out what this computer still holds of an open file, and drops it, so that the next reading
  * comes from the stick. Answers 0; or the system's error, and then the memory may be what is read.
  */
-int settle(int file);
+int settle(int file, const struct stat *status);
 
 /*
  * Whether an open file lies on a file system that is a program, and that may be written to: what
