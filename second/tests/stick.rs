@@ -573,6 +573,33 @@ fn files_in_folders() {
     );
 }
 
+/// Names of one number for whoever tells most names apart by the number that
+/// the library makes of them: each is another name all the same.
+#[test]
+fn names_that_are_alike() {
+    const PARTS: [&str; 2] = ["uqnn37g", "6c3u1mn"];
+    let digest = |part: &str| {
+        let mix = |sum: u32, byte: u8| sum.wrapping_mul(251).wrapping_add(byte.into());
+        part.bytes().fold(0, mix) % (1 << 24)
+    };
+    assert_eq!(digest(PARTS[0]), digest(PARTS[1]));
+    let name = |number: usize| {
+        let parts: String = (0..8).map(|bit| PARTS[number >> bit & 1]).collect();
+        parts + ".3ds"
+    };
+    let figure = triangle();
+    let names: Vec<String> = (0..255).map(name).collect();
+    let files: Vec<(&str, &[u8])> = names.iter().map(|name| (&name[..], &figure[..])).collect();
+    let stick = Stick::of(&files, &[("", 256)]);
+    assert_eq!(stick.judged(), GOOD);
+    let another = stick.clone().named(255, &name(255));
+    assert_eq!(another.judged(), refused(UNEXPECTED, 255));
+    let twice = stick.clone().named(255, &name(0).to_uppercase());
+    assert_eq!(twice.judged(), refused(UNEXPECTED, 255));
+    let capitals = stick.named(255, &name(254).to_uppercase());
+    assert_eq!(capitals.judged(), GOOD);
+}
+
 /// Fills an item that had something else in it; what it then has.
 fn filled(before: &[u8], call: impl Fn(&dyn Sticks, &mut [u8]) -> u64) -> (u64, Vec<u8>) {
     both(|side| {

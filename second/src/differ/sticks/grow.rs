@@ -33,6 +33,7 @@ pub struct Stick {
 /// So many files, one of them a figure, all of different names.
 pub fn files(count: usize, random: &mut Random) -> Vec<File> {
     let figure = random.below(count);
+    let alike = count <= 8 && random.chance(20);
     let file = |number: usize| {
         let endings: &[&[u8]] = match number == figure {
             true => &[b".3ds", b".cob", b".c4d"],
@@ -41,12 +42,28 @@ pub fn files(count: usize, random: &mut Random) -> Vec<File> {
             ],
         };
         let folders: &[&[u8]] = &[b"", b"", b"a/", b"a/b/", b"ab/", b"b/b/", b"[@/", LONG];
-        let letters = [8_u32, 4, 0].map(|digit| b'a' + (number >> digit & 15) as u8);
-        let mut name = [random.pick(folders), &letters, random.pick(endings)].concat();
+        let (folders, stem) = match alike {
+            true => (&folders[..3], alike_stem(number)),
+            false => (folders, stem(number)),
+        };
+        let mut name = [random.pick(folders), &stem, random.pick(endings)].concat();
         other_letters(&mut name, random);
         File::any(name, random)
     };
     (0..count).map(file).collect()
+}
+
+/// A few letters, others for each number.
+fn stem(number: usize) -> Vec<u8> {
+    let letters = [8_u32, 4, 0].map(|digit| b'a' + (number >> digit & 15) as u8);
+    letters.to_vec()
+}
+
+/// Letters of which the library makes one number, by which it tells most names
+/// apart.
+fn alike_stem(number: usize) -> Vec<u8> {
+    let part = |bit: u32| [*b"uqnn37g", *b"6c3u1mn"][number >> bit & 1];
+    [0, 1, 2].map(part).concat()
 }
 
 /// A folder whose path is nearly as long as it may be.
