@@ -4,6 +4,7 @@
 # make prove  the proofs alone, in seconds where little has changed
 # make fuzz   both readers over COUNT files grown from SEED (KIND=slips: of one kind); make real FOLDER=…  over figures from elsewhere
 # make install, make release  the tool and the library for this machine; an archive and a .deb for others
+# make sticks STICKS random sticks grown from SEED, checked by the bench tool and judged by a model of its manual page
 # make bench  the speed, against the second reader
 # make … V=1 shows the whole commands of the compiler
 .DEFAULT_GOAL := run

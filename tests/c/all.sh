@@ -8,7 +8,7 @@ BUILD=${BUILD:-build}
 # The tests of the bench tool run beside the others.
 side=$(mktemp -d "${TMPDIR:-/tmp}/tds-side.XXXXXX") || exit 2
 trap 'rm -rf "$side"' EXIT
-tool='stick pass terminal medium against slip slip_write volume copy batch rescue run'
+tool='stick pass terminal medium against slip slip_write volume copy batch rescue run random'
 for test in $tool; do
     sh "tests/c/${test}_test.sh" >"$side/$test" 2>&1
     echo $? >"$side/$test.status"

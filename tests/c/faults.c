@@ -3,13 +3,14 @@
  *
  *     FAULT=CALL:ERROR:PATH[:COUNT]
  *
- * CALL (create, read, write, readdir, fdatasync, fsync, fadvise) fails with the error of this
- * number on every file whose path holds PATH, after COUNT calls that go well; where COUNT is below
- * 0, so many calls fail, and the others go well. So a stick can be drawn out, or be full, at a
- * moment that no luck is needed for. For the CALL "come", and any number but 0, a file comes to
- * stand there just before another is given its name. For the CALL "stop" the program gets the
- * signal of this number just before it writes. For the CALL "fuse" the file lies on a file system
- * that is a program, and that is mounted read-only where the number is 2.
+ * CALL (create, open, stat, read, write, readdir, fdatasync, fsync, fadvise) fails with the error
+ * of this number on every file whose path holds PATH, after COUNT calls that go well; where COUNT
+ * is below 0, so many calls fail, and the others go well. So a stick can be drawn out, or be full,
+ * at a moment that no luck is needed for. FAULT_TOLD names a file that is there once one failed.
+ * For the CALL "come", and any number but 0, a file comes to stand there just before another is
+ * given its name. For the CALL "stop" the program gets the signal of this number just before it
+ * writes. For the CALL "fuse" the file lies on a file system that is a program, and that is mounted
+ * read-only where the number is 2.
  */
 #include <dirent.h>
 #include <dlfcn.h>
@@ -22,7 +23,9 @@
 #include <stdio.h>
 #include <stdlib.h>
 #include <string.h>
+#include <sys/stat.h>
 #include <sys/statvfs.h>
+#include <sys/syscall.h>
 #include <sys/vfs.h>
 #include <unistd.h>
 
@@ -35,6 +38,14 @@ static void path_of(int file, char *path, size_t size) {
     snprintf(link, sizeof link, "/proc/self/fd/%d", file);
     length = readlink(link, path, size - 1);
     path[length < 0 ? 0 : length] = '\0';
+}
+
+/* That a call failed, for whoever looks. */
+static void tell(void) {
+    const char *told = getenv("FAULT_TOLD");
+    if (told != NULL) {
+        syscall(SYS_mknodat, AT_FDCWD, told, S_IFREG | 0666, 0);
+    }
 }
 
 /* The error that this call on a file of this path is to fail with, or 0. */
@@ -51,7 +62,11 @@ static int fault_at(const char *call, const char *path) {
     if (strstr(path, part) == NULL) {
         return 0;
     }
-    return (count < 0) == (atomic_fetch_add(&calls, 1) >= labs(count)) ? 0 : error;
+    if ((count < 0) == (atomic_fetch_add(&calls, 1) >= labs(count))) {
+        return 0;
+    }
+    tell();
+    return error;
 }
 
 static int fault(const char *call, int file) {
@@ -68,10 +83,9 @@ static int fault(const char *call, int file) {
         memcpy(&real, &found, sizeof real);                                                        \
     }
 
-/* Only the making of a new file can fail. */
 int openat(int folder, const char *path, int flags, ...) {
     typedef int (*function)(int, const char *, int, ...);
-    int error = (flags & O_CREAT) == 0 ? 0 : fault_at("create", path);
+    int error = fault_at((flags & O_CREAT) == 0 ? "open" : "create", path);
     mode_t mode = 0;
     REAL("openat64", function)
     if (error != 0) {
@@ -85,6 +99,28 @@ int openat(int folder, const char *path, int flags, ...) {
         va_end(more);
     }
     return real(folder, path, flags, mode);
+}
+
+int fstatat(int folder, const char *path, struct stat *status, int flags) {
+    typedef int (*function)(int, const char *, struct stat *, int);
+    int error = fault_at("stat", path);
+    REAL("fstatat64", function)
+    if (error != 0) {
+        errno = error;
+        return -1;
+    }
+    return real(folder, path, status, flags);
+}
+
+int fstat(int file, struct stat *status) {
+    typedef int (*function)(int, struct stat *);
+    int error = fault("stat", file);
+    REAL("fstat64", function)
+    if (error != 0) {
+        errno = error;
+        return -1;
+    }
+    return real(file, status);
 }
 
 ssize_t read(int file, void *bytes, size_t size) {
