@@ -171,9 +171,13 @@ static void judge_work(struct options *options) {
         options->task = TASK_MISTAKE;
     } else if (options->against != NULL && options->edition != NULL) {
         mistake(options, "--copy compares with the edition already: leave ", "--against", " away");
-    } else if (options->write_slip && (options->against != NULL || options->edition != NULL)) {
+    } else if (options->write_slip &&
+               (options->against != NULL || options->edition != NULL || options->batch > 0)) {
         mistake(options, "a slip is written for the edition itself: leave ",
-                options->edition != NULL ? "--copy" : "--against", " away");
+                options->edition != NULL   ? "--copy"
+                : options->against != NULL ? "--against"
+                                           : "--batch",
+                " away");
     } else if (options->structure && (options->against != NULL || options->edition != NULL)) {
         mistake(options, "there is a master to compare with: leave ", "--structure", " away");
     } else if (options->batch > 0 && options->count > 1) {

@@ -281,6 +281,9 @@ done
 stick --any-folder --log "$T/wrong.log" --batch 2 "$P" "$T/two"
 status_is 2
 has err 'stick: a batch has one folder'
+stick --any-folder --log "$T/wrong.log" --batch 2 --write-slip "$P"
+status_is 2
+has err 'stick: a slip is written for the edition itself: leave --batch away'
 stick --any-folder --log "$T/wrong.log" --batch 2 ''
 status_is 2
 has err "stick: there is no folder '': give one, for example /media/stick"
