@@ -281,15 +281,18 @@ struct scene {
 
 /* A call that fails: on the stick, in the master, or at one file; and at which time. Memory that
  * cannot be dropped, for a reason that is not the stick's, is another thing than a stick that is
- * gone. */
+ * gone; and an edition may be read from memory. */
 static void choose_fault(char *fault, size_t size) {
     static const char *const calls[] = {"read",    "readdir",   "open",  "stat",
                                         "fadvise", "fdatasync", "write", "create"};
     static const char *const where[] = {"/stk", "/mst", "adze.3ds", "stick.slip", "/sub"};
     const char *call = calls[below(SIZE(calls))];
-    int other = strcmp(call, "fadvise") == 0 ? EINVAL : ENODEV;
-    snprintf(fault, size, "%s:%d:%s:%u", call, chance(50) ? EIO : other, where[below(SIZE(where))],
-             below(12));
+    bool held = strcmp(call, "fadvise") == 0 && chance(50);
+    snprintf(fault, size, "%s:%d:%s:%u", call,
+             held         ? EINVAL
+             : chance(50) ? EIO
+                          : ENODEV,
+             where[held ? 0 : below(SIZE(where))], below(12));
 }
 
 /* An edition that may be copied: it has a slip, and all is as that says. */
