@@ -128,4 +128,4 @@ module _ (h : Header) (s : List ℕ) (at to : ℕ) (m : to ≤ length s) where
 
 -- four bytes hold it only where there is one
 pub head-there : {s : List ℕ} {at to head : ℕ} → Headed s at to head → head < 0x1_0000_0000 → at + 4 ≤ to
-head-there {s} {at} {to} {head} h k = let none : to < at + 4 → ⊥ = λ w. let e = h .none w in omega arith in omega arith
+head-there {s} {at} {to} {head} h k = let absent : to < at + 4 → ⊥ = λ w. let e = h .absent w in omega arith in omega arith

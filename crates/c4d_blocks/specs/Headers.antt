@@ -34,7 +34,7 @@ Sees h s at to (Seen.Block id len) = Tells h s at to id len
 
 -- The number that an object's header at a position is read as. Where there is no room for one, it is more than four bytes can hold.
 pub record Headed (s : List ℕ) (at to head : ℕ) : Type 0 where
-  pub none : to < at + 4 → head ≡ 0x1_0000_0000
+  pub absent : to < at + 4 → head ≡ 0x1_0000_0000
   pub small : at + 4 ≤ to → head < 0x1_0000_0000
   pub id-is : at + 4 ≤ to → head / 16777216 ≡ identifier objectHeader (blockIn objectHeader s at to .head)
   pub told-is : at + 4 ≤ to → head % 16777216 ≡ told objectHeader (blockIn objectHeader s at to .head)

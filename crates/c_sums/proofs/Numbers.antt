@@ -50,10 +50,10 @@ pub reads-back : ReadsBack
 reads-back a h =
     let f = h .proper .first-small in
     let g = h .proper .second-small in
-    let n : numberOf a ≡ a .first + 256 * (a .second + 256 * a .length) = omega arith in
-    let first : numberOf a % 256 ≡ a .first = rw n (low (a .first) (a .second + 256 * a .length) (omega arith)) in
-    let rest : numberOf a / 256 ≡ a .second + 256 * a .length = rw n (high (a .first) (a .second + 256 * a .length) (omega arith)) in
-    let second : numberOf a / 256 % 256 ≡ a .second = rw rest (low (a .second) (a .length) (omega arith)) in
+    let n : numberOf a ≡ a .first + 256 * (a .second + 256 * a .len) = omega arith in
+    let first : numberOf a % 256 ≡ a .first = rw n (low (a .first) (a .second + 256 * a .len) (omega arith)) in
+    let rest : numberOf a / 256 ≡ a .second + 256 * a .len = rw n (high (a .first) (a .second + 256 * a .len) (omega arith)) in
+    let second : numberOf a / 256 % 256 ≡ a .second = rw rest (low (a .second) (a .len) (omega arith)) in
     sum-same (omega (arith, f, g)) (rw first (mod-eq-of-lt f)) (rw second (mod-eq-of-lt g))
 
 -- what is joined is as it is handed on

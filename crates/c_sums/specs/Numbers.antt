@@ -40,16 +40,16 @@ NoFileHas = (s : List ℕ) (sums : ℕ) → (sums % 256 ≡ 255) ⊎ (255 ≤ su
 -- ---- a part is known by one number
 
 abbrev pub numberOf : Sum → ℕ
-numberOf a = sumsNumber a + 65_536 * a .length
+numberOf a = sumsNumber a + 65_536 * a .len
 
 -- every number stands for something: sum bytes are taken modulo 255
 abbrev pub sumIn : ℕ → Sum
-sumIn n = record { length = n / 65_536; first = n % 256 % 255; second = n / 256 % 256 % 255 }
+sumIn n = record { len = n / 65_536; first = n % 256 % 255; second = n / 256 % 256 % 255 }
 
 -- a sum as it is handed on: remainders, and a length of 48 bits
 pub record Handed (a : Sum) : Type 0 where
   pub proper : Proper a
-  pub length-small : a .length < 2 ^ 48
+  pub length-small : a .len < 2 ^ 48
 
 -- IT READS BACK
 abbrev pub ReadsBack : Type 0

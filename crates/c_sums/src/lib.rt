@@ -37,19 +37,19 @@ fn matched_code(matched: Matched) -> u64
     }
 }
 
-fn against_entry(sum: Sum, length: u32, sums: u32) -> u64
-    ensures { λ n. ⌜ n ≡ zeroOr (matchOf sum length (sums % 256) (sums / 256)) ⌝ }
+fn against_entry(sum: Sum, len: u32, sums: u32) -> u64
+    ensures { λ n. ⌜ n ≡ zeroOr (matchOf sum len (sums % 256) (sums / 256)) ⌝ }
 {
     let first = (sums % 256) as u64;
     let second = (sums / 256) as u64;
-    matched_code(slip_sums::matches(sum, length as u64, first, second))
+    matched_code(slip_sums::matches(sum, len as u64, first, second))
 }
 
 // One file against one entry.
-pub fn file_matches(file: &[u8], length: u32, sums: u32) -> u64
-    ensures { λ n. ⌜ n ≡ zeroOr (matchOf (sumOf (now (file .entry))) length (sums % 256) (sums / 256)) ⌝ }
+pub fn file_matches(file: &[u8], len: u32, sums: u32) -> u64
+    ensures { λ n. ⌜ n ≡ zeroOr (matchOf (sumOf (now (file .entry))) len (sums % 256) (sums / 256)) ⌝ }
 {
-    against_entry(slip_sums::sums(file), length, sums)
+    against_entry(slip_sums::sums(file), len, sums)
 }
 
 // ---- part by part, where a part is known by one number
@@ -58,14 +58,14 @@ fn number_of(sum: Sum) -> u64
     requires { ⌜ Handed sum ⌝ }
     ensures { λ n. ⌜ n ≡ numberOf sum ⌝ }
 {
-    sum.first + 256 * sum.second + 65536 * sum.length
+    sum.first + 256 * sum.second + 65536 * sum.len
 }
 
 fn sum_in(number: u64) -> Sum
     ensures { λ r. ⌜ r ≡ sumIn number ⌝ }
 {
     Sum {
-        length: number / 65536,
+        len: number / 65536,
         first: number % 256 % 255,
         second: number / 256 % 256 % 255,
     }
@@ -86,8 +86,8 @@ pub fn sum_join(first: u64, second: u64) -> u64
 }
 
 // All the parts together against one entry.
-pub fn sum_matches(sum: u64, length: u32, sums: u32) -> u64
-    ensures { λ n. ⌜ n ≡ zeroOr (matchOf (sumIn sum) length (sums % 256) (sums / 256)) ⌝ }
+pub fn sum_matches(sum: u64, len: u32, sums: u32) -> u64
+    ensures { λ n. ⌜ n ≡ zeroOr (matchOf (sumIn sum) len (sums % 256) (sums / 256)) ⌝ }
 {
-    against_entry(sum_in(sum), length, sums)
+    against_entry(sum_in(sum), len, sums)
 }

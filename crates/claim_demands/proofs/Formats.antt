@@ -63,7 +63,7 @@ summed s = by-test (Answered Summed.Sums Summed.Refused) (ltb 1_048_576 (length 
 pub matched : (a : Sum) (l first second : ℕ) → Answered passes Matched.Refused (matchOf a l first second)
 matched a l first second =
     let other : (n : ℕ) → Answered passes Matched.Refused (Matched.Refused (Differs n)) = λ n. refuses passes Matched.Refused matched-apart (Differs n) in
-    by-test (Answered passes Matched.Refused) (eqb (a .length) l)
+    by-test (Answered passes Matched.Refused) (eqb (a .len) l)
     (by-test (Answered passes Matched.Refused) (eqb (a .first) first && eqb (a .second) second) (inl (tt, refl)) (other 1)) (other 0)
 
 pub slip-given : (e : Encoding Numbers ℕ) (row : List ℕ) (a : Entries) → AnsweredOn SlipFound.Entries SlipFound.Refused row (readOf e row a)

@@ -96,7 +96,7 @@ pub record Demand1 : Type 1 where
   pub figure : (rows : Flat) (out : List ℕ) → AnsweredOn Written.Size Written.Refused out (writeFlat rows out)
   -- slips: the sums of a file, sums against an entry, a slip read and written
   pub sums : (s : List ℕ) → Answered Summed.Sums Summed.Refused (sumsCall s)
-  pub matches : (a : Sum) (length first second : ℕ) → Answered passes Matched.Refused (matchOf a length first second)
+  pub matches : (a : Sum) (l first second : ℕ) → Answered passes Matched.Refused (matchOf a l first second)
   pub slip-read : (e : Encoding Numbers ℕ) (s row : List ℕ) → AnsweredOn SlipFound.Entries SlipFound.Refused row (slipReadCall e s row)
   pub slip-write : (names : List ℕ) (given : Given) (out : List ℕ) → AnsweredOn Written.Size Written.Refused out (slipWriteCall names given out)
   -- a stick against its slip. (The evidence for a file: SticksTold of crate claim_numbers.)

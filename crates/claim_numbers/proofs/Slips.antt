@@ -39,7 +39,7 @@ sums-told file = by-test (λ (x : Summed). SumsTold x (sumsOr x)) (ltb 1_048_576
 match-told : (sum : Sum) (l first second : ℕ) → MatchTold (matchOf sum l first second) (zeroOr (matchOf sum l first second))
 match-told sum l first second =
     let T : Matched → Type 0 = λ x. MatchTold x (zeroOr x) in
-    by-test T (eqb (sum .length) l) (by-test T (eqb (sum .first) first && eqb (sum .second) second) refl (tells (Differs 1) (omega arith)))
+    by-test T (eqb (sum .len) l) (by-test T (eqb (sum .first) first && eqb (sum .second) second) refl (tells (Differs 1) (omega arith)))
     (tells (Differs 0) (omega arith))
 
 -- ---- the slip

@@ -178,7 +178,7 @@ module _ (names entries out row : List ℕ) (bn : Bytes names) (be′ : Bytes en
   -- ---- asked of the entry
 
   module _ (original : List ℕ) (m : MadeOf original given) where
-    length-same : found .file ≡ sumOf original .length
+    length-same : found .file ≡ sumOf original .len
     length-same = ap (λ (x : Entry). x .file) entry-same ∙ m .length-is
 
     sums-are : given .sums ≡ sumOf original .first + 256 * sumOf original .second
@@ -195,7 +195,7 @@ module _ (names entries out row : List ℕ) (bn : Bytes names) (be′ : Bytes en
     second-same : found .sums / 256 ≡ sumOf original .second
     second-same = ap (λ (x : Entry). x .second) entry-same ∙ ap (λ n. n / 256) sums-are ∙ high (sumOf original .first) (sumOf original .second) (omega arith)
 
-    asked : (a : Sum) → matchOf a (found .file) (found .sums % 256) (found .sums / 256) ≡ matchOf a (sumOf original .length) (sumOf original .first) (sumOf original .second)
+    asked : (a : Sum) → matchOf a (found .file) (found .sums % 256) (found .sums / 256) ≡ matchOf a (sumOf original .len) (sumOf original .first) (sumOf original .second)
     asked a = rw (length-same, first-same, second-same)
 
     bit-found : (i b : ℕ) → i < length original → b < 8 → BitFound original found i b

@@ -32,7 +32,7 @@ pub record InFormat (format : ℕ) (s : List ℕ) : Type 0 where
 
 -- what an entry says of a file, with its length
 abbrev pub entrySum : Entry → Sum
-entrySum e = record { length = e .file; first = e .first; second = e .second }
+entrySum e = record { len = e .file; first = e .first; second = e .second }
 
 -- a file of which these bytes were given to the sum and the reader: it has an entry, these are its length and sums, and it meets the rules
 -- of the format that it is named as

@@ -20,13 +20,13 @@ join-law xs ys =
 
 pub associative : Associative
 associative a b c =
-    let one = early (a .second + b .second + b .length * a .first) (c .second) (c .length) (a .first + b .first) in
-    let other = mod-add-mod (b .second + c .second + c .length * b .first) 255 (a .second + (b .length + c .length) * a .first) in
+    let one = early (a .second + b .second + b .len * a .first) (c .second) (c .len) (a .first + b .first) in
+    let other = mod-add-mod (b .second + c .second + c .len * b .first) 255 (a .second + (b .len + c .len) * a .first) in
     sum-same (omega arith) (omega arith) (one ∙ same a b c ∙ sym other ∙ ap (λ (x : ℕ). x % 255) (omega arith))
   where
     same : (a b c : Sum) →
-        (a .second + b .second + b .length * a .first + c .second + c .length * (a .first + b .first)) % 255 ≡
-        (b .second + c .second + c .length * b .first + (a .second + (b .length + c .length) * a .first)) % 255
+        (a .second + b .second + b .len * a .first + c .second + c .len * (a .first + b .first)) % 255 ≡
+        (b .second + c .second + c .len * b .first + (a .second + (b .len + c .len) * a .first)) % 255
     same a b c = ap (λ (x : ℕ). x % 255) (omega arith)
 
 pub sums-are-proper : SumsAreProper

@@ -15,12 +15,12 @@ use Rattle.slip_sums.proofs.Remainders.{sum-same}
 use Rattle.slip_sums.proofs.Joined.{part-by-part}
 
 -- the same sums pass
-passes : (a : Sum) → matchOf a (a .length) (a .first) (a .second) ≡ Same
-passes a = rw (eq-eqb (a .length) (a .length) refl, eq-eqb (a .first) (a .first) refl, eq-eqb (a .second) (a .second) refl)
+passes : (a : Sum) → matchOf a (a .len) (a .first) (a .second) ≡ Same
+passes a = rw (eq-eqb (a .len) (a .len) refl, eq-eqb (a .first) (a .first) refl, eq-eqb (a .second) (a .second) refl)
 
 -- and no others
-same : (a b : Sum) → matchOf a (b .length) (b .first) (b .second) ≡ Same → a ≡ b
-same a b = go (eqb (a .length) (b .length)) refl (eqb (a .first) (b .first)) refl (eqb (a .second) (b .second)) refl
+same : (a b : Sum) → matchOf a (b .len) (b .first) (b .second) ≡ Same → a ≡ b
+same a b = go (eqb (a .len) (b .len)) refl (eqb (a .first) (b .first)) refl (eqb (a .second) (b .second)) refl
   where
     other-length : otherLength ≡ Same → ⊥
     other-length p = let z : _≡_ {A = ℕ} 0 1 = cc in omega arith
@@ -28,8 +28,8 @@ same a b = go (eqb (a .length) (b .length)) refl (eqb (a .first) (b .first)) ref
     other-sums : otherSums ≡ Same → ⊥
     other-sums p = let z : _≡_ {A = ℕ} 0 1 = cc in omega arith
 
-    go : (t : Bool) → eqb (a .length) (b .length) ≡ t → (u : Bool) → eqb (a .first) (b .first) ≡ u → (v : Bool) → eqb (a .second) (b .second) ≡ v →
-        matchOf a (b .length) (b .first) (b .second) ≡ Same → a ≡ b
+    go : (t : Bool) → eqb (a .len) (b .len) ≡ t → (u : Bool) → eqb (a .first) (b .first) ≡ u → (v : Bool) → eqb (a .second) (b .second) ≡ v →
+        matchOf a (b .len) (b .first) (b .second) ≡ Same → a ≡ b
     go true e true f true g p = sum-same (eqb-true _ _ e) (eqb-true _ _ f) (eqb-true _ _ g)
     go true e true f false g p = absurd (other-sums (rw (e, f, g) at p))
     go true e false f v g p = absurd (other-sums (rw (e, f) at p))
@@ -38,13 +38,13 @@ same a b = go (eqb (a .length) (b .length)) refl (eqb (a .first) (b .first)) ref
 pub passes-exactly : PassesExactly
 passes-exactly file original =
     let a = sumOf file in
-    (same a (sumOf original), λ e. ap (λ (b : Sum). matchOf a (b .length) (b .first) (b .second)) (sym e) ∙ passes a)
+    (same a (sumOf original), λ e. ap (λ (b : Sum). matchOf a (b .len) (b .first) (b .second)) (sym e) ∙ passes a)
 
 -- sums of the same length that are not the same
-pub differs : (a b : Sum) → a .length ≡ b .length → ¬ (a ≡ b) → matchOf a (b .length) (b .first) (b .second) ≡ otherSums
+pub differs : (a b : Sum) → a .len ≡ b .len → ¬ (a ≡ b) → matchOf a (b .len) (b .first) (b .second) ≡ otherSums
 differs a b l h = go (eqb (a .first) (b .first)) refl (eqb (a .second) (b .second)) refl
   where
-    go : (t : Bool) → eqb (a .first) (b .first) ≡ t → (u : Bool) → eqb (a .second) (b .second) ≡ u → matchOf a (b .length) (b .first) (b .second) ≡ otherSums
+    go : (t : Bool) → eqb (a .first) (b .first) ≡ t → (u : Bool) → eqb (a .second) (b .second) ≡ u → matchOf a (b .len) (b .first) (b .second) ≡ otherSums
     go true e true f = absurd (h (sum-same l (eqb-true _ _ e) (eqb-true _ _ f)))
     go true e false f = rw (eq-eqb _ _ l, e, f)
     go false e u f = rw (eq-eqb _ _ l, e)

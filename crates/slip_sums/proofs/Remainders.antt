@@ -33,8 +33,8 @@ remainders-small n m = mul-le-mul {n₁ = n % 255} {m₁ = m % 255} {n₂ = 254}
 -- ---- sums
 
 abbrev made : ℕ → ℕ → ℕ → Sum
-made l f s = record { length = l; first = f; second = s }
+made l f s = record { len = l; first = f; second = s }
 
-pub sum-same : {a b : Sum} → a .length ≡ b .length → a .first ≡ b .first → a .second ≡ b .second → a ≡ b
+pub sum-same : {a b : Sum} → a .len ≡ b .len → a .first ≡ b .first → a .second ≡ b .second → a ≡ b
 sum-same {a} {b} l f s =
-    ap (λ (x : ℕ). made x (a .first) (a .second)) l ∙ ap (λ (x : ℕ). made (b .length) x (a .second)) f ∙ ap (λ (x : ℕ). made (b .length) (b .first) x) s
+    ap (λ (x : ℕ). made x (a .first) (a .second)) l ∙ ap (λ (x : ℕ). made (b .len) x (a .second)) f ∙ ap (λ (x : ℕ). made (b .len) (b .first) x) s

@@ -18,13 +18,13 @@ running a (n ∷ s) = (a + n) ∷ running (a + n) s
 
 -- the sum of a file, with its length
 abbrev pub sumOf : List ℕ → Sum
-sumOf s = record { length = length s; first = total s % 255; second = total (running 0 s) % 255 }
+sumOf s = record { len = length s; first = total s % 255; second = total (running 0 s) % 255 }
 
 -- ---- BYTE BY BYTE, as the RFC computes it, with a remainder at each step, the sums are the same
 
 -- one byte more
 abbrev pub withByte : Sum → ℕ → Sum
-withByte a b = record { length = a .length + 1; first = (a .first + b) % 255; second = (a .second + (a .first + b) % 255) % 255 }
+withByte a b = record { len = a .len + 1; first = (a .first + b) % 255; second = (a .second + (a .first + b) % 255) % 255 }
 
 abbrev pub withBytes : Sum → List ℕ → Sum
 withBytes a [] = a

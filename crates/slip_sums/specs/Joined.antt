@@ -8,9 +8,9 @@ use Rattle.slip_sums.specs.Fletcher.{sumOf}
 -- First sums add; the second sum is the two second sums plus the second part's length times the first part's first sum.
 abbrev pub join : Sum → Sum → Sum
 join a b = record {
-  length = a .length + b .length;
+  len = a .len + b .len;
   first = (a .first + b .first) % 255;
-  second = (a .second + b .second + b .length * a .first) % 255;
+  second = (a .second + b .second + b .len * a .first) % 255;
 }
 
 -- TWO PARTS JOINED
@@ -36,7 +36,7 @@ Neutral = (a : Sum) → Proper a → (join (sumOf []) a ≡ a) × (join a (sumOf
 -- ---- part by part. What is handed on keeps a length of 48 bits; a longer one counts as the longest.
 
 abbrev pub capped : Sum → Sum
-capped a = record { length = min (a .length) (2 ^ 48 - 1); first = a .first; second = a .second }
+capped a = record { len = min (a .len) (2 ^ 48 - 1); first = a .first; second = a .second }
 
 -- the sum of what stood before, followed by these bytes
 abbrev pub withPart : Sum → List ℕ → Sum
@@ -53,5 +53,5 @@ PartByPart = (parts : List (List ℕ)) → withParts (sumOf []) parts ≡ capped
 -- WITHIN THE LIMIT, so for every real file, joining what is handed on is associative too. Beyond it the second part's length is
 -- lost, and with it its effect on the second sum.
 abbrev pub AssociativeWithin : Type 0
-AssociativeWithin = (a b c : Sum) → a .length + b .length + c .length ≤ 2 ^ 48 - 1 →
+AssociativeWithin = (a b c : Sum) → a .len + b .len + c .len ≤ 2 ^ 48 - 1 →
     capped (join (capped (join a b)) c) ≡ capped (join a (capped (join b c)))

@@ -27,11 +27,11 @@ abbrev pub otherSums : Matched
 otherSums = Matched.Refused (Differs 1)
 
 abbrev pub matchOf : Sum → ℕ → ℕ → ℕ → Matched
-matchOf a length first second = cond (eqb (a .length) length) (cond (eqb (a .first) first && eqb (a .second) second) Same otherSums) otherLength
+matchOf a l first second = cond (eqb (a .len) l) (cond (eqb (a .first) first && eqb (a .second) second) Same otherSums) otherLength
 
 -- a file against the entry made of another
 abbrev pub against : List ℕ → Sum → Matched
-against file entry = matchOf (sumOf file) (entry .length) (entry .first) (entry .second)
+against file entry = matchOf (sumOf file) (entry .len) (entry .first) (entry .second)
 
 -- IT PASSES EXACTLY WHEN length and sums are the same: crate claim_sums says after which damage they are.
 abbrev pub PassesExactly : Type 0

@@ -9,13 +9,13 @@ use Rattle.slip_sums.specs.Fletcher.{sumOf}
 use Rattle.slip_sums.specs.Passes.{otherLength, otherSums, against}
 
 abbrev pub sum : ℕ → ℕ → ℕ → Sum
-sum l f s = record { length = l; first = f; second = s }
+sum l f s = record { len = l; first = f; second = s }
 
 abbrev pub abcde : List ℕ
 abcde = 0x61 ∷ 0x62 ∷ 0x63 ∷ 0x64 ∷ 0x65 ∷ []
 
 pub record Samples : Type 0 where
-  pub none : sumOf [] ≡ sum 0 0 0
+  pub empty : sumOf [] ≡ sum 0 0 0
   pub five : sumOf abcde ≡ sum 5 0xF0 0xC8
   pub six : sumOf (abcde ++ (0x66 ∷ [])) ≡ sum 6 0x57 0x20
   pub eight : sumOf (abcde ++ (0x66 ∷ 0x67 ∷ 0x68 ∷ [])) ≡ sum 8 0x27 0x06
@@ -27,8 +27,8 @@ pub record Samples : Type 0 where
   pub one-more : against (abcde ++ (0 ∷ [])) (sum 5 0xF0 0xC8) ≡ otherLength
   pub exchanged : against (0x62 ∷ 0x61 ∷ []) (sum 2 0xC3 0x25) ≡ otherSums
   -- a byte 0 turned into 255
-  pub zero : sumOf (7 ∷ 0 ∷ 9 ∷ []) ≡ sum 3 16 30
-  pub for-zero : sumOf (7 ∷ 255 ∷ 9 ∷ []) ≡ sum 3 16 30
+  pub byte-zero : sumOf (7 ∷ 0 ∷ 9 ∷ []) ≡ sum 3 16 30
+  pub byte-255 : sumOf (7 ∷ 255 ∷ 9 ∷ []) ≡ sum 3 16 30
   -- bit 0 cleared, and set 255 bytes on
   pub two-bits : sumOf (1 ∷ replicate 254 0 ++ (0 ∷ [])) ≡ sum 256 1 1
   pub for-two-bits : sumOf (0 ∷ replicate 254 0 ++ (1 ∷ [])) ≡ sum 256 1 1

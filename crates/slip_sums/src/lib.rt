@@ -10,7 +10,7 @@ ghost use Rattle.slip_sums.specs.Totals.{TotalsOf};
 
 // What is known of a part of a file: how many bytes it has, and their two sums.
 pub struct Sum {
-    pub length: u64,
+    pub len: u64,
     pub first: u64,
     pub second: u64,
 }
@@ -91,7 +91,7 @@ pub fn sums(file: &[u8]) -> Sum
     let left = (file.len() - at) as u64;
     let rest = rest_totals(&file[at..]);
     Sum {
-        length: file.len() as u64,
+        len: file.len() as u64,
         first: (first + rest.first) % 255,
         second: (second + left * first + rest.second) % 255,
     }
@@ -130,9 +130,9 @@ pub fn join(before: Sum, behind: Sum) -> Sum
 {
     let first = before.first % 255;
     Sum {
-        length: joined_length(before.length, behind.length),
+        len: joined_length(before.len, behind.len),
         first: (first + behind.first % 255) % 255,
-        second: (before.second % 255 + behind.second % 255 + behind.length % 255 * first) % 255,
+        second: (before.second % 255 + behind.second % 255 + behind.len % 255 * first) % 255,
     }
 }
 
@@ -146,10 +146,10 @@ pub fn with_part(before: Sum, part: &[u8]) -> Sum
 // ---- against an entry
 
 // Whether the file of a sum is the one of an entry, as far as length and sums tell.
-pub fn matches(sum: Sum, length: u64, first: u64, second: u64) -> Matched
-    ensures { λ r. ⌜ r ≡ matchOf sum length first second ⌝ }
+pub fn matches(sum: Sum, len: u64, first: u64, second: u64) -> Matched
+    ensures { λ r. ⌜ r ≡ matchOf sum len first second ⌝ }
 {
-    if sum.length != length {
+    if sum.len != len {
         return Matched::Refused(Refusal::Differs(0));
     }
     if sum.first != first {

@@ -55,7 +55,7 @@ fn slip_entry(slip: &[u8]) -> Sought
     let s = sums(slip);
     Sought {
         number: 0,
-        file: s.length,
+        file: s.len,
         sums: s.first + 256 * s.second,
     }
 }

@@ -198,10 +198,10 @@ pub extern "C" fn tds_sums(file: &[u8]) -> u64
 
 // One file against one entry: 0, or a refusal.
 #[no_mangle]
-pub extern "C" fn tds_matches(file: &[u8], length: u32, sums: u32) -> u64
-    ensures { λ n. ⌜ n ≡ zeroOr (matchOf (sumOf (now (file .entry))) length (sums % 256) (sums / 256)) ⌝ }
+pub extern "C" fn tds_matches(file: &[u8], len: u32, sums: u32) -> u64
+    ensures { λ n. ⌜ n ≡ zeroOr (matchOf (sumOf (now (file .entry))) len (sums % 256) (sums / 256)) ⌝ }
 {
-    c_sums::file_matches(file, length, sums)
+    c_sums::file_matches(file, len, sums)
 }
 
 // The number of what stood before, followed by these bytes.
@@ -222,10 +222,10 @@ pub extern "C" fn tds_sum_join(first: u64, second: u64) -> u64
 
 // All the parts together against one entry: 0, or a refusal.
 #[no_mangle]
-pub extern "C" fn tds_sum_matches(sum: u64, length: u32, sums: u32) -> u64
-    ensures { λ n. ⌜ n ≡ zeroOr (matchOf (sumIn sum) length (sums % 256) (sums / 256)) ⌝ }
+pub extern "C" fn tds_sum_matches(sum: u64, len: u32, sums: u32) -> u64
+    ensures { λ n. ⌜ n ≡ zeroOr (matchOf (sumIn sum) len (sums % 256) (sums / 256)) ⌝ }
 {
-    c_sums::sum_matches(sum, length, sums)
+    c_sums::sum_matches(sum, len, sums)
 }
 
 // ---- the slip itself

@@ -27,7 +27,7 @@ returns-2 c =
     let i = ap (λ (x : ℕ). x / 16777216) (l .ensures .is) ∙ first-byte (a .file .now) (a .at) (omega arith) (λ i. omega (arith, b i)) in
     let q = ap (λ (x : ℕ). x % 16777216) (l .ensures .is) ∙ other-bytes (a .file .now) (a .at) (omega arith) (λ i. omega (arith, b i)) in
     record {
-      none = λ k. absurd (omega arith);
+      absent = λ k. absurd (omega arith);
       small = λ k. l .ensures .small;
       id-is = λ k. i ∙ sym (id-at objectHeader (a .file .now) (a .at) (a .to) (p .1) w);
       told-is = λ k. q ∙ sym (told-at objectHeader (a .file .now) (a .at) (a .to) (p .1) w);

@@ -17,7 +17,7 @@ against-entry-requires c κs = search needs
 returns : tie.Need-returns
 returns c =
     let a = c .before .before .before .args in
-    c .against-entry .ensures ∙ ap (λ (x : Sum). zeroOr (matchOf x (a .length) (a .sums % 256) (a .sums / 256))) (c .before .sums .ensures)
+    c .against-entry .ensures ∙ ap (λ (x : Sum). zeroOr (matchOf x (a .len) (a .sums % 256) (a .sums / 256))) (c .before .sums .ensures)
 
 pub file-matches-spec : {M : Type 1} → statement M
 file-matches-spec = tie.close (tie.spec sums-requires against-entry-requires returns)

@@ -17,7 +17,7 @@ against-entry-requires c κs = search needs
 returns : tie.Need-returns
 returns c =
     let a = c .before .before .args in
-    c .against-entry .ensures ∙ ap (λ (x : Sum). zeroOr (matchOf x (a .length) (a .sums % 256) (a .sums / 256))) (c .before .sum-in .ensures)
+    c .against-entry .ensures ∙ ap (λ (x : Sum). zeroOr (matchOf x (a .len) (a .sums % 256) (a .sums / 256))) (c .before .sum-in .ensures)
 
 pub sum-matches-spec : {M : Type 1} → statement M
 sum-matches-spec = tie.close (tie.spec sum-in-requires against-entry-requires returns)

@@ -19,12 +19,12 @@ add-t10 c = search needs
 mul-t12 : tie.Need-mul-t12
 mul-t12 c =
     let a = c .before .before .before .before .before .before .args in
-    omega (arith, remainders-small (a .behind .length) (a .before .first), remainders-small (a .before .length) (a .before .first))
+    omega (arith, remainders-small (a .behind .len) (a .before .first), remainders-small (a .before .len) (a .before .first))
 
 add-t13 : tie.Need-add-t13
 add-t13 c =
     let a = c .before .before .before .before .before .before .args in
-    omega (arith, remainders-small (a .behind .length) (a .before .first), remainders-small (a .before .length) (a .before .first))
+    omega (arith, remainders-small (a .behind .len) (a .before .first), remainders-small (a .before .len) (a .before .first))
 
 returns : tie.Need-returns
 returns c =
@@ -32,7 +32,7 @@ returns c =
     sum-same
     (c .before .before .before .before .joined-length .ensures)
     (sym (add-mod (a .before .first) (a .behind .first) 255))
-    (early-all (a .before .second) (a .behind .second) (a .behind .length) (a .before .first))
+    (early-all (a .before .second) (a .behind .second) (a .behind .len) (a .before .first))
 
 pub join-spec : {M : Type 1} → statement M
 join-spec = tie.close (tie.spec joined-length-requires add-t6 add-t10 mul-t12 add-t13 returns)

@@ -8,7 +8,7 @@ use Rattle.stick_judge.proofs.slip_entry.Statement.{statement}
 use Rattle.stick_judge.proofs.slip_entry.Tie as tie
 
 abbrev long : Sum → ℕ
-long s = s .length
+long s = s .len
 
 abbrev first : Sum → ℕ
 first s = s .first
