@@ -1,5 +1,5 @@
 -- Q-11: the children of 3D3D in another order. A swap, and by it any reordering.
-use mathlib.Core.Path.{_≡_, refl, sym, ap, _∙_}
+use mathlib.Core.Path.{_≡_, refl, sym, ap, _∙_, subst}
 use Prim.Native.Nat.{ℕ, _+_}
 use native.Mathlib.Omega.{arith}
 use mathlib.Core.List.{List, [], _++_, map, append-assoc, append-nil}
@@ -15,7 +15,7 @@ use Rattle.studio_rules.specs.Gives.{Mesh, recordCount, headers, owned, skipped
 use Rattle.studio_rules.specs.Calls.{countsOf, checkCall, ofMesh, tablesOf, tablesCall, nameCall, aroundOf, boxCall, partsCall}
 use Rattle.shared_words.specs.Effects.{leaving}
 use Rattle.studio_rules.proofs.Verdict.{accepted-exactly, verdict-good, length-figure}
-use Rattle.claim_swapped.specs.Swapped.{Swapped, Reordered, same, swap, meshCount, exchanged, bySwap, bySwaps, Renumbered, SameFigure, SwapSame, SwapBytes, ReorderedSame}
+use Rattle.claim_swapped.specs.Swapped.{BytesSwapped, Swapped, Reordered, same, swap, meshCount, exchanged, bySwap, bySwaps, Renumbered, SameFigure, SwapSame, SwapBytes, ReorderedSame}
 use Rattle.studio_scene.specs.Scene.{holding, fileOf}
 use Rattle.studio_scene.specs.Contents.{unplaced, contents}
 use Rattle.claim_swapped.specs.Names.{no, letters}
@@ -208,9 +208,10 @@ file-bytes before v after a b c d n k e i j =
 
 -- IN THE FILE nothing else changes places
 pub swap-bytes : SwapBytes
-swap-bytes before t u after w =
+swap-bytes s before t u after w b v =
     let n = scene-size before t u after w in
     let k = size-same before t u after w in
+    subst (λ (x : List ℕ). BytesSwapped (bytes (w .left)) (bytes (w .right)) x (fileOf before u after)) (accepted-exactly s b (holding before t after) .0 v .is)
     record {
       front = header 0x4D4D (6 + 0 + size (holding before t after)) ++ (bytes before ++ (header 0x3D3D (6 + 0 + size t) ++ bytes (w .first)));
       back = bytes (w .last) ++ bytes after;

@@ -80,7 +80,8 @@ SwapSame = (s : List ℕ) (before t u after : Run) (w : Swapped t u) → Bytes s
 
 -- in the file nothing but those bytes changes places
 abbrev pub SwapBytes : Type 0
-SwapBytes = (before t u after : Run) (w : Swapped t u) → BytesSwapped (bytes (w .left)) (bytes (w .right)) (fileOf before t after) (fileOf before u after)
+SwapBytes = (s : List ℕ) (before t u after : Run) (w : Swapped t u) → Bytes s → verdict s ≡ accepted (holding before t after) →
+    BytesSwapped (bytes (w .left)) (bytes (w .right)) s (fileOf before u after)
 
 -- ANY REORDERING
 abbrev pub ReorderedSame : Type 1
