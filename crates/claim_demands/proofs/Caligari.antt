@@ -1,25 +1,26 @@
 -- Demands 2 and 3 of Caligari files, of the calls: from "accepted exactly", and from the rules' demand 3.
 use mathlib.Core.List.{List}
 use Prim.Native.Nat.{ℕ}
-use lib.ListN.{length}
+use lib.ListN.{length, getElem?}
 use mathlib.Core.Path.{_≡_}
 use native.Mathlib.Omega.{arith}
 use lib.Dec.{leb}
 use borrow.Author.Tests.{leb-true, le-leb, lt-leb}
 use Rattle.shared_words.specs.declared.Refusal.{Refusal}
 use Rattle.shared_words.specs.Conditions.{accepted}
+use Rattle.shared_words.specs.Effects.{leaving}
 use Rattle.shared_flat.specs.Put.{Mark, without, with, pieces, Moved}
 use Rattle.cob_rules.specs.declared.Answered.{Answered}
 use Rattle.cob_rules.specs.Layout.{Chunk, Layout, size, bytes}
 use Rattle.cob_rules.specs.Rules.{Meets}
 use Rattle.cob_rules.specs.Walk.{verdict}
-use Rattle.cob_rules.specs.Gives.{list}
-use Rattle.cob_rules.specs.Calls.{checkOf, checkCall, listOf, listCall, sizesCall, tablesCall}
+use Rattle.cob_rules.specs.Gives.{list, meshes}
+use Rattle.cob_rules.specs.Calls.{checkOf, checkCall, give, listOf, listCall, ofMesh, sizesOf, sizesCall, tablesOf, tablesCall}
 use Rattle.cob_rules.specs.PutIn.{ending, SameRecord, Unchanged}
 use Rattle.cob_rules.proofs.Verdict.{accepted-exactly, verdict-good}
 use Rattle.cob_rules.proofs.PutIn.{put-in, taken-out}
 use Rattle.claim_demands.specs.Caligari.{Given, Demand2, SameAnswers, Demand3}
-use Rattle.claim_demands.proofs.Found.{layout-found, room-found}
+use Rattle.claim_demands.proofs.Found.{layout-found, mesh-found, room-found}
 use Rattle.claim_demands.proofs.Related.{equally-long}
 
 -- ---- demand 2
@@ -41,7 +42,7 @@ given s l h =
     }
 
 pub demand2 : Demand2
-unfolding checkCall listCall
+unfolding checkCall listCall sizesCall tablesCall
 demand2 = record {
   accepted = λ s n. (
     λ h.
@@ -56,6 +57,23 @@ demand2 = record {
         let k = count-is (r .1) in
         (l .0, accepted-exactly s (l .0) .0 (l .1), k, rw k (leb-true _ _ (r .0))),
     λ l. rw (given s (l .0) (l .1) .list-is e row (rw (l .2) at (l .3)), l .2),
+  );
+  sized = λ e s mesh row n. (
+    λ h.
+        let l = layout-found (λ a. ofMesh (λ r. leaving (Answered.Refused r) row) (λ m. give e (sizesOf m) row) mesh a .answer) (never-counted n) (verdict s) h in
+        let m = mesh-found _ _ _ (never-counted n) (getElem? (meshes (l .0)) mesh) (l .2) in
+        let r = room-found (leb (length (sizesOf (m .0))) (e .room (length row))) _ _ (never-counted n _) (m .2) in
+        (l .0, accepted-exactly s (l .0) .0 (l .1), (m .0, m .1, count-is (r .1), leb-true _ _ (r .0))),
+    λ l. let m = l .2 in rw (given s (l .0) (l .1) .sizes-are e mesh (m .0) (m .1) row (m .3), m .2),
+  );
+  tabled = λ e s mesh rows n. (
+    λ h.
+        let l = layout-found (λ a. ofMesh (λ r. leaving (Answered.Refused r) rows) (tablesOf e rows) mesh a .answer) (never-counted n) (verdict s) h in
+        let m = mesh-found _ _ _ (never-counted n) (getElem? (meshes (l .0)) mesh) (l .2) in
+        let v = room-found (leb (length (m .0 .vertices)) (e .room (length (rows .vertices)))) _ _ (never-counted n _) (m .2) in
+        let c = room-found (leb (length (m .0 .corners)) (e .room (length (rows .corners)))) _ _ (never-counted n _) (v .1) in
+        (l .0, accepted-exactly s (l .0) .0 (l .1), (m .0, m .1, count-is (c .1), (leb-true _ _ (v .0), leb-true _ _ (c .0)))),
+    λ l. let m = l .2 in rw (given s (l .0) (l .1) .tables-are e mesh (m .0) (m .1) rows (m .3 .0) (m .3 .1), m .2),
   );
   given = given;
 }

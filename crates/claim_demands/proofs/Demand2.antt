@@ -1,16 +1,13 @@
 -- Demand 2, of the calls. The verdict of a file that meets the rules is its layout, so a call there is its fold's line for
 -- that layout; and a fold that accepts has a layout, since its line for a refusal refuses.
-use mathlib.Core.Path.{_≡_, refl, sym, ap, _∙_}
+use mathlib.Core.Path.{_≡_, sym, ap, _∙_}
 use mathlib.Core.List.{List}
-use mathlib.Core.Option.{Option, none, some}
 use Prim.Native.Nat.{ℕ}
 use native.Mathlib.Omega.{arith}
 use lib.Dec.{leb}
 use lib.ListN.{length, getElem?}
 use borrow.Author.Tests.{leb-true, le-leb, ne-eqb}
 use Rattle.shared_words.specs.declared.Refusal.{Refusal}
-use Rattle.shared_words.specs.declared.Refusal.the-variants.{NoSuchMesh}
-use Rattle.shared_words.specs.Picked.{pickMesh}
 use Rattle.studio_rules.specs.declared.Counts.{Counts}
 use Rattle.studio_rules.specs.declared.Checked.{Checked}
 use Rattle.studio_rules.specs.declared.Sizes.{Sizes}
@@ -32,7 +29,7 @@ use Rattle.studio_meshes_rules.specs.Standing.{standing}
 use Rattle.studio_meshes_rules.specs.Calls.{meshesCall}
 use Rattle.studio_write.proofs.ReadsBack.{written-reads-back}
 use Rattle.claim_demands.specs.Demand2.{RoomFor, RoomForTables, Given, Demand2}
-use Rattle.claim_demands.proofs.Found.{layout-found, room-found}
+use Rattle.claim_demands.proofs.Found.{layout-found, mesh-found, room-found}
 use Rattle.studio_figure_rules.proofs.Described.{flat-reads-back}
 
 -- ---- answers: no refusal is an acceptance, and an acceptance has one value
@@ -63,13 +60,6 @@ found-layout : {Z : Type 0} (fold : Answer Run → Z) {z : Z} → ((r : Refusal)
 found-layout fold never s b e =
     let l = layout-found fold never (verdict s) e in
     (l .0, accepted-exactly s b (l .0) .0 (l .1), l .2)
-
--- the mesh
-found-mesh : {A R : Type 0} {z : A} (refuse : Refusal → Effect A R) (use-it : Mesh → Effect A R) (n : ℕ) →
-    ((r : Refusal) → refuse r .answer ≡ z → ⊥) → (o : Option Mesh) →
-    pickMesh refuse use-it n o .answer ≡ z → (m : Mesh) × (o ≡ some m) × (use-it m .answer ≡ z)
-found-mesh refuse use-it n never none e = absurd (never (NoSuchMesh n) e)
-found-mesh refuse use-it n never (some m) e = (m, refl, e)
 
 -- room for all tables
 found-tables : {A B C : Type 0} (t : Tables A B C) (rows : Rows A B C) (m : Mesh) (sizes : Sizes) → tablesOf t rows m .answer ≡ Tabled.Filled sizes →
@@ -123,7 +113,7 @@ demand2 = record {
   tabled = λ t s b mesh rows sizes. (
     λ h.
         let l = found-layout (λ a. ofMesh (λ r. leaving (Tabled.Refused r) rows) (tablesOf t rows) mesh a .answer) (not-filled sizes) s b h in
-        let m = found-mesh _ _ _ (not-filled sizes) (getElem? (meshes (l .0)) mesh) (l .2) in
+        let m = mesh-found _ _ _ (not-filled sizes) (getElem? (meshes (l .0)) mesh) (l .2) in
         let f = found-tables t rows (m .0) sizes (m .2) in
         (l .0, l .1, (m .0, m .1, f .0, f .1)),
     λ l.

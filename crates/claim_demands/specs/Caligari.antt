@@ -33,12 +33,23 @@ pub record Given (s : List ℕ) (l : Layout) : Type 0 where
       tablesCall e s mesh rows ≡ leaving (Answered.Count (m .vertexCount))
       record { vertices = filled (e .encode (m .vertices)) (rows .vertices); corners = filled (e .encode (m .corners)) (rows .corners) }
 
+-- room for both tables of a mesh
+abbrev pub RoomForTables : Encoding ℕ ℕ → Rows → Mesh → Type 0
+RoomForTables e rows m = (length (m .vertices) ≤ e .room (length (rows .vertices))) × (length (m .corners) ≤ e .room (length (rows .corners)))
+
 pub record Demand2 : Type 0 where
   -- accepted exactly when the rules are met, and then with the count of the layout's records
   pub accepted : (s : List ℕ) (n : ℕ) → (checkCall s ≡ Answered.Count n) ↔ ((l : Layout) × Meets s l × (n ≡ length (list l)))
   -- the list likewise, given room
   pub listed : (e : Encoding Record ℕ) (s row : List ℕ) (n : ℕ) →
       (listCall e s row .answer ≡ Answered.Count n) ↔ ((l : Layout) × Meets s l × (n ≡ length (list l)) × (n ≤ e .room (length row)))
+  -- the sizes and the tables of a mesh likewise
+  pub sized : (e : Encoding ℕ ℕ) (s : List ℕ) (mesh : ℕ) (row : List ℕ) (n : ℕ) →
+      (sizesCall e s mesh row .answer ≡ Answered.Count n) ↔
+      ((l : Layout) × Meets s l × ((m : Mesh) × (getElem? (meshes l) mesh ≡ some m) × (n ≡ 2) × (2 ≤ e .room (length row))))
+  pub tabled : (e : Encoding ℕ ℕ) (s : List ℕ) (mesh : ℕ) (rows : Rows) (n : ℕ) →
+      (tablesCall e s mesh rows .answer ≡ Answered.Count n) ↔
+      ((l : Layout) × Meets s l × ((m : Mesh) × (getElem? (meshes l) mesh ≡ some m) × (n ≡ m .vertexCount) × RoomForTables e rows m))
   -- and what the calls give is that of the layout
   pub given : (s : List ℕ) (l : Layout) → Meets s l → Given s l
 
