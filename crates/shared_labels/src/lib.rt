@@ -1,4 +1,5 @@
 // How much of a name a label takes: the one test behind refusal 24, for figures, slips and writers.
+use shared_eights::printable_front;
 ghost use mathlib.Core.Path.{_≡_};
 ghost use mathlib.Core.Bool.{true};
 ghost use Prim.Native.Nat.{_+_, _≤_};
@@ -14,14 +15,14 @@ fn is_printable(b: u8) -> bool
     32 <= b && b <= 126
 }
 
-// Whether the 8 bytes at a position are all printable. The loop branches on nothing that it reads, and becomes vector code.
+// Whether the 16 bytes at a position are all printable. The loop branches on nothing that it reads, and becomes vector code.
 fn all_printable(s: &[u8], at: usize) -> bool
-    requires { ⌜ at + 8 ≤ length (now s) ⌝ }
-    ensures { λ r. ⌜ (r ≡ true → AllPrintable (now (s .entry)) at 8) ⌝ }
+    requires { ⌜ at + 16 ≤ length (now s) ⌝ }
+    ensures { λ r. ⌜ (r ≡ true → AllPrintable (now (s .entry)) at 16) ⌝ }
 {
     let mut good = true;
     let mut i = 0usize;
-    while i < 8 {
+    while i < 16 {
         if !is_printable(s[at + i]) {
             good = false;
         }
@@ -30,15 +31,31 @@ fn all_printable(s: &[u8], at: usize) -> bool
     good
 }
 
-// A position up to which all bytes are printable, a block at a time: what is left up to the first bad one is short.
+// A position up to which all bytes are printable, sixteen at a time: what is left up to the first bad one is short.
 fn skip_blocks(s: &[u8], at: usize, end: usize) -> usize
     requires { ⌜ (at ≤ end) × (end ≤ length (now s)) ⌝ }
     ensures { λ r. ⌜ FitsOn (now (s .entry)) at r end ⌝ }
 {
     let mut i = at;
-    while 8 <= end - i {
+    while 16 <= end - i {
         if !all_printable(s, i) {
             return i;
+        }
+        i += 16;
+    }
+    i
+}
+
+// The same, eight at a time: it is the first bad one, or fewer than eight are left.
+fn skip_eights(s: &[u8], at: usize, end: usize) -> usize
+    requires { ⌜ (at ≤ end) × (end ≤ length (now s)) ⌝ }
+    ensures { λ r. ⌜ FitsOn (now (s .entry)) at r end ⌝ }
+{
+    let mut i = at;
+    while 8 <= end - i {
+        let n = printable_front(&s[i..]);
+        if n < 8 {
+            return i + n;
         }
         i += 8;
     }
@@ -46,11 +63,11 @@ fn skip_blocks(s: &[u8], at: usize, end: usize) -> usize
 }
 
 // How many of the bytes from at to end are printable before the first that is not.
-fn printable_size(s: &[u8], at: usize, end: usize) -> usize
+pub fn printable_size(s: &[u8], at: usize, end: usize) -> usize
     requires { ⌜ (at ≤ end) × (end ≤ length (now s)) ⌝ }
     ensures { λ r. ⌜ r ≡ firstFault printable (slice at end (now (s .entry))) ⌝ }
 {
-    let mut i = skip_blocks(s, at, end);
+    let mut i = skip_eights(s, skip_blocks(s, at, end), end);
     while i < end {
         if !is_printable(s[i]) {
             return i - at;

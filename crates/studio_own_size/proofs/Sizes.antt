@@ -5,19 +5,18 @@ use mathlib.Core.List.{List, []}
 use Prim.Native.Nat.{ℕ, zero, suc, _+_, _-_, _*_, _≤_, _<_}
 use native.Mathlib.Nat.{mul-le-mul}
 use native.Mathlib.Omega.{arith}
-use lib.ListN.{length, take, drop, getD}
-use lib.Seq.{slice, slice-cons, slice-empty, length-slice, getD-take, getD-drop}
-use borrow.Author.Tests.{le-leb, lt-leb}
+use lib.ListN.{length, drop, getD}
+use lib.Seq.{slice, slice-cons, slice-empty, length-slice}
+use borrow.Author.Tests.{le-leb, lt-leb, leb-true}
 use Rattle.studio_rules.specs.Table.{Shape, fixed, name, counted, each, named-words, named}
 use Rattle.studio_rules.specs.OwnData.{nameSize, count, ownSize, hasName, nameFits}
-use Rattle.shared_words.specs.Labels.{labelFault}
-use Rattle.shared_words.proofs.Labels.{label-within}
 use Rattle.shared_numbers.specs.Numbers.{wordAt}
 use Rattle.shared_numbers.proofs.Slices.{word-slice, drop-slice}
+use Rattle.studio_names.specs.Names.{fitSize}
+use Rattle.studio_names.proofs.Fits.{fitted, unfitted}
 use Rattle.studio_row.specs.Packed.{kindIn, sizeIn, shapeFrom, shapeIn}
 use Rattle.studio_own_size.specs.declared.Own.{Own}
 use Rattle.studio_own_size.specs.declared.Own.the-variants.{NoName, Unfit, TooLong, Size}
-use Rattle.studio_own_size.proofs.Labels.{fit-size, fit-text, unfit-text, no-zero}
 use Rattle.studio_own_size.specs.Own.{Fitted, Fits, Exceeds, OwnIs, FitIs, CountIs}
 
 -- a product of a byte and a word, which the code computes
@@ -56,30 +55,15 @@ module _ (s : List ℕ) (at stop : ℕ) (order : at ≤ stop) (end : stop ≤ le
   pub no-name : (sh : Shape) → hasName sh (slice at stop s) ≡ hasName name (slice at stop s) → (z : ℕ) → z ≡ nameSize (slice at stop s) → stop - at < z → hasName sh (slice at stop s) ≡ false
   no-name sh same z e l = same ∙ lt-leb (nameSize (slice at stop s)) (length (slice at stop s)) (omega (arith, body-length))
 
-  -- a label takes n bytes of the body
-  module _ (n : ℕ) (e : n ≡ labelFault (slice at stop s)) where
-    pub label-within-body : n ≤ stop - at
-    label-within-body = omega (arith, label-within (slice at stop s), body-length)
+  -- the name that fits the label
+  module _ (n : ℕ) (e : n ≡ fitSize (slice at stop s)) where
+    pub label-is : (n ≡ 0 → ⊥) → FitIs name [] (slice at stop s) (Size n)
+    label-is some =
+        let f = fitted (slice at stop s) (λ q. some (e ∙ q)) in
+        (f .1, record { named = f .0; is = e ∙ f .2; within = omega (arith, e, f .2, leb-true (nameSize (slice at stop s)) (length (slice at stop s)) (f .0)) })
 
-    byte-behind : n < stop - at → getD (slice at stop s) n 0 ≡ getD s (at + n) 0
-    byte-behind l = getD-drop at (take stop s) n 0 ∙ getD-take stop s (at + n) 0 (omega arith)
-
-    pub label-is-all : n ≡ stop - at → FitIs name [] (slice at stop s) NoName
-    label-is-all l =
-        lt-leb (nameSize (slice at stop s)) (length (slice at stop s)) (no-zero (slice at stop s) n e (omega (arith, body-length)))
-
-    pub label-is : n < stop - at → getD s (at + n) 0 ≡ 0 → FitIs name [] (slice at stop s) (Size (n + 1))
-    label-is l z =
-        let here = byte-behind l ∙ z in
-        let short : n < length (slice at stop s) = omega (arith, body-length) in
-        (fit-text (slice at stop s) n e short here, name-is (n + 1) (sym (fit-size (slice at stop s) n e short here)) (omega arith))
-
-    pub label-unfit : n < stop - at → (getD s (at + n) 0 ≡ 0 → ⊥) → (z : ℕ) → z ≡ nameSize (slice at stop s) → z ≤ stop - at →
-        FitIs name [] (slice at stop s) Unfit
-    label-unfit l other z f h = (
-      name-is z f h .named,
-      unfit-text (slice at stop s) n e (λ q. other (sym (byte-behind l) ∙ q)) (omega (arith, body-length)),
-    )
+    pub label-unfit : n ≡ 0 → (z : ℕ) → z ≡ nameSize (slice at stop s) → z ≤ stop - at → FitIs name [] (slice at stop s) Unfit
+    label-unfit none z f h = let has = name-is z f h .named in (has, unfitted (slice at stop s) (sym e ∙ none) has)
 
   module _ (z : ℕ) (e : z ≡ nameSize (slice at stop s)) (fits : z ≤ stop - at) where
     has : hasName named-words (slice at stop s) ≡ true

@@ -1,11 +1,15 @@
 // How many bytes the own data of a chunk takes, by the shape that its row gives.
 use shared_numbers::word_at;
+use studio_names::fit_size;
+use studio_names::fit_size_16;
+ghost use mathlib.Core.Path.{_≡_};
 ghost use mathlib.Core.List.{List, []};
 ghost use Prim.Native.Nat.{ℕ, _≤_, _<_};
 ghost use lib.ListN.{length};
 ghost use lib.Seq.{slice};
 ghost use Rattle.studio_rules.specs.Table.{name, counted, named-words, named};
 ghost use Rattle.studio_row.specs.Packed.{shapeIn};
+ghost use Rattle.studio_names.specs.Names.{fitSize};
 ghost use Rattle.studio_own_size.specs.Own.{Fitted, OwnIs, FitIs, CountIs};
 
 // The size of own data: no zero ends its name; its name does not fit the label; it is longer than the body; or so many bytes.
@@ -52,24 +56,35 @@ pub fn name_size(file: &[u8], at: usize, stop: usize) -> Own
     }
 }
 
-// A name that must fit the label: its zero stands right behind what a label takes. Only where it does not is the zero
-// looked for in the whole body.
-fn label_size(file: &[u8], at: usize, stop: usize) -> Own
-    requires { ⌜ (at ≤ stop) × (stop ≤ length (now file)) ⌝ }
+// A name that must fit the label, which has so many bytes. Only where there is none is a zero looked for in the whole body.
+fn label(file: &[u8], size: usize, at: usize, stop: usize) -> Own
+    requires { ⌜ (at ≤ stop) × (stop ≤ length (now file)) × (size ≡ fitSize (slice at stop (now file))) ⌝ }
     ensures { λ r. ⌜ FitIs name [] (slice at stop (now (file .entry))) r ⌝ }
 {
-    let size = shared_labels::label_size(file, at, stop);
-    if size == stop - at {
-        return Own::NoName;
+    if size != 0 {
+        return Own::Size(size);
     }
-    if file[at + size] == 0 {
-        return Own::Size(size + 1);
-    }
-    if studio_names::name_size(file, at, stop) <= stop - at {
+    if studio_names::name_size(&file[0..], at, stop) <= stop - at {
         Own::Unfit
     } else {
         Own::NoName
     }
+}
+
+// A name that must fit the label and mostly has up to eight bytes: of an object, a material, a map.
+fn short_label(file: &[u8], at: usize, stop: usize) -> Own
+    requires { ⌜ (at ≤ stop) × (stop ≤ length (now file)) ⌝ }
+    ensures { λ r. ⌜ FitIs name [] (slice at stop (now (file .entry))) r ⌝ }
+{
+    label(file, fit_size(file, at, stop), at, stop)
+}
+
+// One with more behind it: mostly it has up to sixteen.
+fn long_label(file: &[u8], at: usize, stop: usize) -> Own
+    requires { ⌜ (at ≤ stop) × (stop ≤ length (now file)) ⌝ }
+    ensures { λ r. ⌜ FitIs name [] (slice at stop (now (file .entry))) r ⌝ }
+{
+    label(file, fit_size_16(file, at, stop), at, stop)
 }
 
 // A name that must fit the label, a count word and words.
@@ -77,7 +92,7 @@ fn named_words_size(file: &[u8], at: usize, stop: usize) -> Own
     requires { ⌜ (at ≤ stop) × (stop ≤ length (now file)) ⌝ }
     ensures { λ r. ⌜ FitIs named-words [] (slice at stop (now (file .entry))) r ⌝ }
 {
-    match label_size(file, at, stop) {
+    match long_label(file, at, stop) {
         Own::NoName => Own::NoName,
         Own::Unfit => Own::Unfit,
         Own::TooLong => Own::TooLong,
@@ -96,7 +111,7 @@ fn named_size(file: &[u8], more: usize, at: usize, stop: usize) -> Own
     requires { ⌜ (at ≤ stop) × (stop ≤ length (now file)) × (more < 256) ⌝ }
     ensures { λ r. ⌜ FitIs (named more) [] (slice at stop (now (file .entry))) r ⌝ }
 {
-    let own = label_size(file, at, stop);
+    let own = long_label(file, at, stop);
     match own {
         Own::NoName => own,
         Own::Unfit => own,
@@ -113,7 +128,7 @@ pub fn own_size(file: &[u8], row: u64, count: u32, at: usize, stop: usize) -> Ow
     let kind = studio_row::kind(row);
     match kind {
         0 => fitting(studio_row::size(row), stop - at),
-        1 => label_size(file, at, stop),
+        1 => short_label(file, at, stop),
         2 => counted_size(file, studio_row::size(row), at, stop),
         3 => fitting(studio_row::size(row) * (count as usize), stop - at),
         4 => named_words_size(file, at, stop),

@@ -12,10 +12,10 @@ use Rattle.shared_labels.proofs.all_printable.Statement.{statement}
 use Rattle.shared_labels.proofs.all_printable.Tie as tie
 
 abbrev Inv-loop : tie.InvT-loop
-Inv-loop s at good₀ i₀ good i = (i ≤ 8) × (good ≡ true → AllPrintable s at i)
+Inv-loop s at good₀ i₀ good i = (i ≤ 16) × (good ≡ true → AllPrintable s at i)
 
 abbrev μ-loop : tie.MeasureT-loop
-μ-loop s at good₀ i₀ good i = 8 - i
+μ-loop s at good₀ i₀ good i = 16 - i
 
 loop-holds : tie.Need-loop-holds Inv-loop μ-loop
 loop-holds c = (omega arith, λ e j h. absurd (omega arith))

@@ -5,7 +5,7 @@ use native.Mathlib.Omega.{arith}
 use borrow.Author.Needs.{needs}
 use borrow.Author.Tests.{not-true, not-false}
 use Rattle.shared_labels.specs.Passed.{FitsOn}
-use Rattle.shared_labels.proofs.Faults.{fault-here, fault-on, fault-nowhere}
+use Rattle.shared_labels.proofs.Faults.{fault-here, fault-on, fault-nowhere, fits-both}
 use Rattle.shared_labels.proofs.printable_size.Statement.{statement}
 use Rattle.shared_labels.proofs.printable_size.Tie as tie
 
@@ -18,8 +18,13 @@ abbrev μ-loop : tie.MeasureT-loop
 skip-blocks-requires : tie.Need-skip-blocks-requires Inv-loop μ-loop
 skip-blocks-requires c κs = omega arith
 
+skip-eights-requires : tie.Need-skip-eights-requires Inv-loop μ-loop
+skip-eights-requires c κs = omega arith
+
 loop-holds : tie.Need-loop-holds Inv-loop μ-loop
-loop-holds c = c .skip-blocks .ensures
+loop-holds c =
+    let a = c .before .before .before .args in
+    fits-both (a .s .now) (a .at) (c .before .skip-blocks .result) (a .end) (c .skip-eights .result) (c .before .skip-blocks .ensures) (c .skip-eights .ensures)
 
 shared-slice-read-is-printable : tie.Need-shared-slice-read-is-printable Inv-loop μ-loop
 shared-slice-read-is-printable c = omega arith
@@ -33,7 +38,7 @@ sub-result c = omega arith
 returns : tie.Need-returns Inv-loop μ-loop
 returns c =
     let l = c .before .before .before .before .loop in
-    let a = c .before .before .before .before .before .before .before .args in
+    let a = c .before .before .before .before .before .before .before .before .args in
     let e = sym (c .before .is-printable .ensures) ∙ not-true _ (c .if1 .taken) in
     omega (arith, l .inv .on, fault-here (a .s .now) (l .i) (a .end) (omega arith) (omega arith) e)
 
@@ -46,7 +51,7 @@ loop-less c = omega arith
 loop-again : tie.Need-loop-again Inv-loop μ-loop
 loop-again c =
     let l = c .before .before .before .before .loop in
-    let a = c .before .before .before .before .before .before .before .args in
+    let a = c .before .before .before .before .before .before .before .before .args in
     let h = l .inv in
     let e = sym (c .before .is-printable .ensures) ∙ not-false _ (c .if1 .left) in
     record { from = omega arith; to = omega arith; on = omega (arith, h .on, fault-on (a .s .now) (l .i) (a .end) (omega arith) (omega arith) e) }
@@ -57,7 +62,7 @@ sub-result-2 c = omega arith
 returns-2 : tie.Need-returns-2 Inv-loop μ-loop
 returns-2 c =
     let l = c .before .loop in
-    let a = c .before .before .before .before .args in
+    let a = c .before .before .before .before .before .args in
     omega (arith, l .inv .on, fault-nowhere (a .s .now) (l .i) (a .end) (omega arith))
 
 pub printable-size-spec : {M : Type 1} → statement M
@@ -67,6 +72,7 @@ printable-size-spec =
     Inv-loop
     μ-loop
     skip-blocks-requires
+    skip-eights-requires
     loop-holds
     shared-slice-read-is-printable
     is-printable-requires

@@ -10,10 +10,10 @@ use Rattle.studio_names.proofs.no_zero.Statement.{statement}
 use Rattle.studio_names.proofs.no_zero.Tie as tie
 
 abbrev Inv-loop : tie.InvT-loop
-Inv-loop s at none₀ i₀ none i = (i ≤ 32) × (none ≡ true → NoZero s at i)
+Inv-loop s at none₀ i₀ none i = (i ≤ 16) × (none ≡ true → NoZero s at i)
 
 abbrev μ-loop : tie.MeasureT-loop
-μ-loop s at none₀ i₀ none i = 32 - i
+μ-loop s at none₀ i₀ none i = 16 - i
 
 loop-holds : tie.Need-loop-holds Inv-loop μ-loop
 loop-holds c = (omega arith, λ e j h. absurd (omega arith))

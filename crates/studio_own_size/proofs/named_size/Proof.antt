@@ -11,8 +11,8 @@ use Rattle.studio_own_size.proofs.Sizes.{name-fine, name-of-named, name
 use Rattle.studio_own_size.proofs.named_size.Statement.{statement}
 use Rattle.studio_own_size.proofs.named_size.Tie as tie
 
-label-size-requires : tie.Need-label-size-requires
-label-size-requires c κs = search needs
+long-label-requires : tie.Need-long-label-requires
+long-label-requires c κs = search needs
 
 enum-told : tie.Need-enum-told
 enum-told c = search needs
@@ -29,7 +29,7 @@ enum-known-own c = search needs
 add-fitting : tie.Need-add-fitting
 add-fitting c =
     let a = c .before .before .before .before .before .args in
-    let w = c .before .before .before .label-size in
+    let w = c .before .before .before .long-label in
     let f = subst (FitIs name [] (slice (a .at) (a .stop) (a .file .now))) (c .before .own .given .1) (w .ensures) in
     omega (arith, f .1 .within, length-slice (a .at) (a .stop) (a .file .now) (omega arith))
 
@@ -42,7 +42,7 @@ fitting-requires c κs = search needs
 returns : tie.Need-returns
 returns c =
     let a = c .before .before .before .before .args in
-    let w = c .before .before .label-size in
+    let w = c .before .before .long-label in
     let body = slice (a .at) (a .stop) (a .file .now) in
     let given = c .enum-told .given .1 in
     subst (FitIs (named (a .more)) [] body) (sym given) (name-of-named (a .more) body Own.NoName (subst (FitIs name [] body) given (w .ensures)) tt)
@@ -50,7 +50,7 @@ returns c =
 returns-2 : tie.Need-returns-2
 returns-2 c =
     let a = c .before .before .before .before .args in
-    let w = c .before .before .label-size in
+    let w = c .before .before .long-label in
     let body = slice (a .at) (a .stop) (a .file .now) in
     let given = c .enum-told2 .given .1 in
     subst (FitIs (named (a .more)) [] body) (sym given) (name-of-named (a .more) body Own.Unfit (subst (FitIs name [] body) given (w .ensures)) tt)
@@ -58,7 +58,7 @@ returns-2 c =
 returns-3 : tie.Need-returns-3
 returns-3 c =
     let a = c .before .before .before .before .args in
-    let w = c .before .before .label-size in
+    let w = c .before .before .long-label in
     let body = slice (a .at) (a .stop) (a .file .now) in
     let given = c .enum-told3 .given .1 in
     subst (FitIs (named (a .more)) [] body) (sym given) (name-of-named (a .more) body Own.TooLong (subst (FitIs name [] body) given (w .ensures)) tt)
@@ -66,7 +66,7 @@ returns-3 c =
 returns-4 : tie.Need-returns-4
 returns-4 c =
     let a = c .before .before .before .before .before .before .args in
-    let w = c .before .before .before .before .label-size in
+    let w = c .before .before .before .before .long-label in
     let body = slice (a .at) (a .stop) (a .file .now) in
     let f = subst (FitIs name [] body) (c .before .before .own .given .1) (w .ensures) in
     let l = length-slice (a .at) (a .stop) (a .file .now) (omega arith) in
@@ -77,7 +77,7 @@ pub named-size-spec : {M : Type 1} → statement M
 named-size-spec =
     tie.close
     (tie.spec
-    label-size-requires
+    long-label-requires
     enum-told
     enum-told-2
     enum-told-3

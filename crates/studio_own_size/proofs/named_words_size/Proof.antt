@@ -11,8 +11,8 @@ use Rattle.studio_own_size.proofs.Sizes.{name-fine, name-of-words, word
 use Rattle.studio_own_size.proofs.named_words_size.Statement.{statement}
 use Rattle.studio_own_size.proofs.named_words_size.Tie as tie
 
-label-size-requires : tie.Need-label-size-requires
-label-size-requires c κs = search needs
+long-label-requires : tie.Need-long-label-requires
+long-label-requires c κs = search needs
 
 enum-told : tie.Need-enum-told
 enum-told c = search needs
@@ -32,7 +32,7 @@ sub-room c = search needs
 add-if1 : tie.Need-add-if1
 add-if1 c =
     let a = c .before .before .before .before .before .args in
-    let w = c .before .before .before .label-size in
+    let w = c .before .before .before .long-label in
     let body = slice (a .at) (a .stop) (a .file .now) in
     let f = subst (FitIs name [] body) (c .before .size .given .1) (w .ensures) in
     omega (arith, f .1 .within, length-slice (a .at) (a .stop) (a .file .now) (omega arith))
@@ -40,7 +40,7 @@ add-if1 c =
 returns : tie.Need-returns
 returns c =
     let a = c .before .before .before .before .before .before .args in
-    let w = c .before .before .before .before .label-size in
+    let w = c .before .before .before .before .long-label in
     let body = slice (a .at) (a .stop) (a .file .now) in
     let f = subst (FitIs name [] body) (c .before .before .size .given .1) (w .ensures) in
     (f .0, words-short (a .file .now) (a .at) (a .stop) (omega arith) (omega arith) _ (f .1 .is) (omega (arith, f .1 .within, length-slice (a .at) (a .stop) (a .file .now) (omega arith))) (omega arith))
@@ -69,28 +69,28 @@ fitting-requires c κs = search needs
 returns-2 : tie.Need-returns-2
 returns-2 c =
     let a = c .before .before .before .before .args in
-    let w = c .before .before .label-size in
+    let w = c .before .before .long-label in
     let body = slice (a .at) (a .stop) (a .file .now) in
     name-of-words body Own.NoName (subst (FitIs name [] body) (c .enum-told .given .1) (w .ensures)) tt
 
 returns-3 : tie.Need-returns-3
 returns-3 c =
     let a = c .before .before .before .before .args in
-    let w = c .before .before .label-size in
+    let w = c .before .before .long-label in
     let body = slice (a .at) (a .stop) (a .file .now) in
     name-of-words body Own.Unfit (subst (FitIs name [] body) (c .enum-told2 .given .1) (w .ensures)) tt
 
 returns-4 : tie.Need-returns-4
 returns-4 c =
     let a = c .before .before .before .before .args in
-    let w = c .before .before .label-size in
+    let w = c .before .before .long-label in
     let body = slice (a .at) (a .stop) (a .file .now) in
     name-of-words body Own.TooLong (subst (FitIs name [] body) (c .enum-told3 .given .1) (w .ensures)) tt
 
 returns-5 : tie.Need-returns-5
 returns-5 c =
     let a = c .before .before .before .before .before .before .before .before .args in
-    let w = c .before .before .before .before .before .before .label-size in
+    let w = c .before .before .before .before .before .before .long-label in
     let body = slice (a .at) (a .stop) (a .file .now) in
     let f = subst (FitIs name [] body) (c .before .before .before .before .size .given .1) (w .ensures) in
     let l = length-slice (a .at) (a .stop) (a .file .now) (omega arith) in
@@ -102,7 +102,7 @@ pub named-words-size-spec : {M : Type 1} → statement M
 named-words-size-spec =
     tie.close
     (tie.spec
-    label-size-requires
+    long-label-requires
     enum-told
     enum-told-2
     enum-told-3

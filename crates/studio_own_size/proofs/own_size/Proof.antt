@@ -22,8 +22,8 @@ sub-fitting c = search needs
 fitting-requires : tie.Need-fitting-requires
 fitting-requires c κs = search needs
 
-label-size-requires : tie.Need-label-size-requires
-label-size-requires c κs = search needs
+short-label-requires : tie.Need-short-label-requires
+short-label-requires c κs = search needs
 
 size-requires-2 : tie.Need-size-requires-2
 size-requires-2 c κs = search needs
@@ -64,7 +64,7 @@ returns-2 : tie.Need-returns-2
 returns-2 c = λ around h.
     let a = c .before .before .before .before .args in
     rw (kind-name (a .row) (sym (c .before .before .kind .ensures) ∙ c .before .match .keys2))
-    (fit-any name (λ x y body. refl) around (slice (a .at) (a .stop) (a .file .now)) (c .label-size .result) (c .label-size .ensures))
+    (fit-any name (λ x y body. refl) around (slice (a .at) (a .stop) (a .file .now)) (c .short-label .result) (c .short-label .ensures))
 
 returns-3 : tie.Need-returns-3
 returns-3 c = λ around h.
@@ -105,7 +105,7 @@ own-size-spec =
     size-requires
     sub-fitting
     fitting-requires
-    label-size-requires
+    short-label-requires
     size-requires-2
     counted-size-requires
     size-requires-3

@@ -33,7 +33,7 @@ text-fault (b ∷ s) = go (eqb b 0) refl (text-fault s)
     go true e ih = let z : b ≡ 0 = eqb-true _ _ e in rw z
     go false e ih = rw ih
 
-fault-before : (s : List ℕ) → firstFault printable s < nameSize s
+pub fault-before : (s : List ℕ) → firstFault printable s < nameSize s
 fault-before s = omega (arith, text-size s, text-fault s, fault-within printable (text s))
 
 -- ---- its zero
