@@ -326,6 +326,10 @@ static void make_scene(struct scene *scene) {
     if (chance(35)) {
         choose_fault(scene->fault, sizeof scene->fault);
     }
+    /* of two folders it is asked again what they are, for the words alone */
+    if (scene->how == TWO && strncmp(scene->fault, "stat", 4) == 0) {
+        scene->fault[0] = '\0';
+    }
 }
 
 /* To this disk, names of other letters are others. */
@@ -451,7 +455,7 @@ int main(int argc, char **argv) {
     snprintf(told, sizeof told, "%s/told", top);
     fill_pool();
     for (number = 0; number < count && failed < 5; number++) {
-        state = strtoull(argv[2], NULL, 10) * 1000003 + number * 0x632BE59BD9B4E019;
+        state = strtoull(argv[2], NULL, 10) * 1000003 + number * UINT64_C(0x632BE59BD9B4E019);
         failed += !agrees(number, argv[4], argv[5]);
     }
     printf("random_sticks: %u passed, %u failed\n", number - failed, failed);
