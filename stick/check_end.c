@@ -134,7 +134,7 @@ void check_at_end(struct check *check) {
             at_end_of_folder(check);
         }
     }
-    misfits_say(&check->misfits, report, check->slip.path, check->met);
+    misfits_say(&check->misfits, report, check->slip.path, check->met, check->against->remedies);
     if (grounds->whole && check->in_folder) {
         judge_gathered(&(struct gathered){check->root, &check->evidence, check->in_master.manifest,
                                           &check->compared, &check->slip, check->misfits.count > 0},

@@ -44,10 +44,16 @@ static unsigned long others(const struct misfits *misfits) {
 
 /* A slip of which a name was damaged lacks a file that is there, and has one that is not: nothing
  * is to be deleted for that. */
-static const char *remedy_of(const struct misfits *misfits, const struct misfit *misfit) {
-    return misfit->outcome == FOUND_EXTRA && misfits->by_outcome[FOUND_MISSING] > 0
-               ? "see that slip and edition belong together, and copy the slip again"
-               : misfit->remedy;
+static const char *remedy_of(const struct misfits *misfits, const struct misfit *misfit,
+                             const struct remedies *remedies) {
+    bool both = misfits->by_outcome[FOUND_MISSING] > 0 && misfits->by_outcome[FOUND_EXTRA] > 0;
+    if (both && misfit->remedy == remedies->missing && misfit->outcome == FOUND_MISSING) {
+        return remedies->missing_beside_more;
+    }
+    if (both && misfit->remedy == remedies->not_on_slip) {
+        return remedies->more_beside_missing;
+    }
+    return misfit->remedy;
 }
 
 static void say_slip(const struct misfits *misfits, struct report *report, const char *slip,
@@ -62,7 +68,7 @@ static void say_slip(const struct misfits *misfits, struct report *report, const
 }
 
 void misfits_say(struct misfits *misfits, struct report *report, const char *slip,
-                 unsigned long files) {
+                 unsigned long files, const struct remedies *remedies) {
     bool most = others(misfits) >= FEWEST && 3 * others(misfits) >= 2 * files;
     if (most) {
         say_slip(misfits, report, slip, files);
@@ -73,7 +79,7 @@ void misfits_say(struct misfits *misfits, struct report *report, const char *sli
             report->grounds.count[misfit->outcome]++;
         } else {
             report_found(report, misfit->outcome, misfit->path, misfit->words,
-                         remedy_of(misfits, misfit));
+                         remedy_of(misfits, misfit, remedies));
         }
     }
 }

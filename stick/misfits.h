@@ -2,6 +2,7 @@
 #ifndef STICK_MISFITS_H
 #define STICK_MISFITS_H
 
+#include "remedies.h"
 #include "report.h"
 
 struct misfits {
@@ -18,7 +19,7 @@ void misfits_add(struct misfits *misfits, enum outcome outcome, const char *path
 /* Says all of them; or, where two thirds of so many files on the stick do not fit, that it is
  * the slip or the wrong edition, in one line. */
 void misfits_say(struct misfits *misfits, struct report *report, const char *slip,
-                 unsigned long files);
+                 unsigned long files, const struct remedies *remedies);
 
 void misfits_free(struct misfits *misfits);
 

@@ -8,6 +8,9 @@ struct remedies {
     const char *differs_from_slip;
     const char *missing;
     const char *not_on_slip;
+    /* where some are missing and others more: a slip of which a name was damaged looks so */
+    const char *missing_beside_more;
+    const char *more_beside_missing;
 };
 
 /* For a stick that is only checked; for one that was just copied to, where nothing is ever written

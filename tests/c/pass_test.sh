@@ -341,6 +341,11 @@ matches out "$F/new.3ds: not on the slip: take it out, or delete the slip and wr
 stick --write-slip "$F"
 status_is 2
 matches out "$F/new.3ds: not on the slip: take it out, or delete the slip and write it again \(--write-slip\)"
+mv "$F/vice.3ds" "$F/vise.3ds"
+stick --write-slip "$F"
+status_is 2
+matches out "$F/vise.3ds: not on the slip: take it out, or delete the slip and write it again \(--write-slip\)"
+matches out "$F/vice.3ds: missing: put it back, or delete the slip and write it again \(--write-slip\)"
 rm "$F/stick.slip"
 stick --write-slip "$F"
 status_is 0

@@ -32,8 +32,8 @@ printf x >>"$F/empty"
 stick "$F"
 status_is 1
 lines err 0
-matches out "$F/vice.3ds: missing: copy it again"
-matches out "$F/texts/README.TXT: missing: copy it again"
+matches out "$F/vice.3ds: missing: copy it again, or the slip if the edition has no such file"
+matches out "$F/texts/README.TXT: missing: copy it again, or the slip if the edition has no such file"
 matches out "$F/plane.3ds: differs from the slip \(another length\): copy it again"
 matches out "$F/new.3ds: not on the slip: see that slip and edition belong together, and copy the slip again"
 matches out "$F/new.txt: not on the slip: .*"
