@@ -2,18 +2,17 @@
 -- lent bytes.
 use Prim.Native.Nat.{ℕ}
 use mathlib.Core.Bool.{cond}
-use mathlib.Core.List.{List, [], _∷_, map}
+use mathlib.Core.List.{List, [], _∷_}
 use lib.Dec.{leb}
-use lib.Ieee.{Float, binary32, toBits}
 use lib.ListN.{length}
 use Rattle.shared_words.specs.declared.Refusal.{Refusal}
 use Rattle.shared_words.specs.declared.Refusal.the-variants.{NoRoom}
 use Rattle.studio_rules.specs.declared.Checked.{Checked}
 use Rattle.studio_rules.specs.declared.Named.{Named}
 use Rattle.studio_rules.specs.declared.Boxed.{Boxed}
-use Rattle.studio_rules.specs.declared.Corner.{Corner}
 use Rattle.shared_words.specs.Encodings.{numberBytes}
 use Rattle.shared_words.specs.Effects.{Effect, leaving, filled}
+use Rattle.studio_meshes_rules.specs.Boxes.{nine}
 use Rattle.c_codes.specs.Codes.{refusalCode}
 
 -- a refusal leaves the bytes as they were
@@ -38,9 +37,6 @@ nameGiven out (Named.At span) = given out (span .offset ∷ span .size ∷ [])
 nameGiven out (Named.Refused r) = untouched out r
 
 -- the low corner of a box, the high one, and the centre
-abbrev pub nine : Corner → Corner → Corner → List Float
-nine low high centre = low .x ∷ low .y ∷ low .z ∷ high .x ∷ high .y ∷ high .z ∷ centre .x ∷ centre .y ∷ centre .z ∷ []
-
 abbrev pub boxGiven : List ℕ → Boxed → Effect ℕ (List ℕ)
-boxGiven out (Boxed.Around box centre) = given out (map (toBits binary32) (nine (box .low) (box .high) centre))
+boxGiven out (Boxed.Around box centre) = given out (nine box centre)
 boxGiven out (Boxed.Refused r) = untouched out r

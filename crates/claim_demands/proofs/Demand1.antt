@@ -26,6 +26,7 @@ use Rattle.studio_rules.specs.Calls.{countsOf, checkOf, checkCall, listOf, list
 use Rattle.studio_counted.proofs.All.{all-parts}
 use Rattle.studio_meshes_rules.specs.Standing.{standing}
 use Rattle.studio_meshes_rules.specs.Calls.{meshesCall}
+use Rattle.studio_meshes_rules.specs.Boxes.{boxesCall}
 use Rattle.studio_rescue_rules.specs.declared.Mended.{Mended}
 use Rattle.studio_rescue_rules.specs.Rescue.{Cut, Rescued, beyond, saved, rescue}
 use Rattle.studio_rescue_rules.specs.Call.{Lent, callOf, rescueCall}
@@ -136,7 +137,7 @@ stick-judged (Judged.Refused r) = refuses good Judged.Refused judged-apart r
 -- ---- the demand
 
 pub demand1 : Demand1
-unfolding checkCall listCall tablesCall nameCall boxCall meshesCall rescueCall writeCall writeFlat slipReadCall slipWriteCall cobCheckCall cobListCall sizesCall cobTablesCall c4dCheckCall c4dListCall
+unfolding checkCall listCall tablesCall nameCall boxCall meshesCall boxesCall rescueCall writeCall writeFlat slipReadCall slipWriteCall cobCheckCall cobListCall sizesCall cobTablesCall c4dCheckCall c4dListCall
 demand1 = record {
   check = λ s. checked (verdict s);
   list = λ e s row. listed e row (verdict s);
@@ -145,6 +146,7 @@ demand1 = record {
       (leaves Tabled.Filled Tabled.Refused tables-apart rows) (tabled t rows) mesh (verdict s);
   parts = λ e s row. subst (AnsweredOn Counted.Filled Counted.Refused row) (sym (all-parts e s row)) (all-things parts e row (verdict s));
   meshes = λ e s row. all-things standing e row (verdict s);
+  boxes = λ e s row. all-things meshes e row (verdict s);
   name = λ s mesh.
       by-mesh (Answered Named.At Named.Refused) Named.Refused nameOf (refuses Named.At Named.Refused name-apart) (λ m. inl (_, refl)) mesh (verdict s);
   box = λ s mesh.

@@ -18,10 +18,11 @@ use Rattle.studio_rules.specs.declared.BoundingBox.{BoundingBox}
 use Rattle.shared_words.specs.Refusals.{Code, codeOf, Numbered}
 use Rattle.shared_words.specs.Encodings.{Encoding}
 use Rattle.shared_words.specs.Effects.{Effect}
-use Rattle.studio_rules.specs.Gives.{Part}
+use Rattle.studio_rules.specs.Gives.{Mesh, Part}
 use Rattle.studio_rules.specs.Calls.{checkCall, listCall, Rows, Tables, tablesCall, nameCall, boxCall, partsCall}
 use Rattle.studio_meshes_rules.specs.Standing.{Standing}
 use Rattle.studio_meshes_rules.specs.Calls.{meshesCall}
+use Rattle.studio_meshes_rules.specs.Boxes.{boxesCall}
 use Rattle.studio_rescue_rules.specs.declared.Mended.{Mended}
 use Rattle.studio_rescue_rules.specs.Rescue.{Cut}
 use Rattle.studio_rescue_rules.specs.Call.{Lent, rescueCall}
@@ -88,6 +89,8 @@ pub record Demand1 : Type 1 where
       AnsweredOn Counted.Filled Counted.Refused row (partsCall e s row)
   pub meshes : {A : Type 0} (e : Encoding Standing A) (s : List ℕ) (row : List A) →
       AnsweredOn Counted.Filled Counted.Refused row (meshesCall e s row)
+  pub boxes : {A : Type 0} (e : Encoding Mesh A) (s : List ℕ) (row : List A) →
+      AnsweredOn Counted.Filled Counted.Refused row (boxesCall e s row)
   pub name : (s : List ℕ) (mesh : ℕ) → Answered Named.At Named.Refused (nameCall s mesh)
   pub box : (s : List ℕ) (mesh : ℕ) → Answered around Boxed.Refused (boxCall s mesh)
   pub rescue : {A : Type 0} (e : Encoding Cut A) (s : List ℕ) (rows : Lent A) → AnsweredOn mended Mended.Refused rows (rescueCall e s rows)

@@ -3,12 +3,12 @@
 use mathlib.Core.Path.{_≡_, refl, sym, subst}
 use mathlib.Core.Bool.{Bool, true, false, cond}
 use mathlib.Core.Logic.{inl, inr}
-use mathlib.Core.List.{List, [], _∷_, _++_, map}
+use mathlib.Core.List.{List, [], _∷_, _++_}
 use mathlib.Core.Option.{Option, none, some}
 use Prim.Native.Nat.{ℕ, _/_, _≤_}
 use native.Mathlib.Omega.{arith}
 use lib.Dec.{eqb, leb}
-use lib.Ieee.{Float, binary32, toBits}
+use lib.Ieee.{Float}
 use lib.ListN.{length, getElem?}
 use borrow.Author.Tests.{leb-true, leb-false}
 use Rattle.shared_words.specs.declared.Refusal.{Refusal}
@@ -34,6 +34,7 @@ use Rattle.studio_rules.specs.Calls.{checkOf, checkCall, listOf, listCall, ofMe
 use Rattle.studio_counted.proofs.All.{all-parts}
 use Rattle.studio_meshes_rules.specs.Standing.{standing}
 use Rattle.studio_meshes_rules.specs.Calls.{meshesCall}
+use Rattle.studio_meshes_rules.specs.Boxes.{nine, boxesCall}
 use Rattle.studio_meshes_rules.proofs.Few.{standing-few}
 use Rattle.studio_rules.proofs.Verdict.{accepted-exactly}
 use Rattle.studio_write_judge.specs.Judged.{figureSize, writeConditions, answerOf, judged}
@@ -42,7 +43,7 @@ use Rattle.studio_figure_rules.specs.Described.{Flat, fitConditions, described,
 use Rattle.studio_figure_rules.proofs.Ready.{met-append, each}
 use Rattle.studio_write.specs.Write.{writing, writeCall}
 use Rattle.c_codes.specs.Codes.{refusalCode, recordsOr, sizesOr, numbersOr, sizeOr}
-use Rattle.c_answers.specs.Given.{untouched, given, nine, countsGiven, nameGiven, boxGiven}
+use Rattle.c_answers.specs.Given.{untouched, given, countsGiven, nameGiven, boxGiven}
 use Rattle.c_counted.specs.Codes.{countedOr}
 use Rattle.studio_rescue_rules.specs.declared.Mended.{Mended}
 use Rattle.studio_rescue_rules.specs.Rescue.{Cut, Rescued, beyond, saved, rescue}
@@ -72,7 +73,7 @@ list-told {A} e row (accepted kids) h =
     by-test (λ (x : Effect Checked (List A)). CheckTold (x .answer) (recordsOr (x .answer))) (leb (recordCount (figure kids)) (e .room (length row)))
     (omega (arith, count-small (figure kids))) (tells (NoRoom (recordCount (figure kids))) (omega (arith, count-small (figure kids))))
 
--- ---- all parts, and all meshes
+-- ---- all parts, all meshes, and all boxes
 
 all-told : {X A : Type 0} (things : Run → List X) (e : Encoding X A) (row : List A) → ((kids : Run) → length (things kids) ≤ size (figure kids)) → (a : Answer Run) → Within a →
     CountedTold (allOf things e row a .answer) (countedOr (allOf things e row a .answer))
@@ -141,7 +142,7 @@ box-told : (out : List ℕ) (m : Mesh) → BoxTold out (aroundOf m) (boxGiven ou
 box-told out m =
     let b = boxOf (m .vertexCount) (m .vertices) in
     by-test (λ (x : Boxed). BoxTold out x (boxGiven out x)) (eqb (m .vertexCount) 0) (tells Empty (omega arith), refl)
-    (few-told out (map (toBits binary32) (nine (b .low) (b .high) (centreOf b))) (omega arith))
+    (few-told out (nine b (centreOf b)) (omega arith))
 
 -- ---- the writer
 
@@ -172,7 +173,7 @@ figure-told r out file = go (broken (fitConditions r ++ conditions (described r)
 -- ---- THE THEOREM
 
 pub studio-told : StudioTold
-unfolding checkCall listCall tablesCall nameCall boxCall meshesCall rescueCall writeCall writeFlat
+unfolding checkCall listCall tablesCall nameCall boxCall meshesCall boxesCall rescueCall writeCall writeFlat
 studio-told = record {
   check = λ s. records-told (verdict s) (verdict-within s);
   list = λ e s row. list-told e row (verdict s) (verdict-within s);
@@ -192,6 +193,7 @@ studio-told = record {
   parts = λ {A} e s row.
       subst (λ (x : Effect Counted (List A)). CountedTold (x .answer) (countedOr (x .answer))) (sym (all-parts e s row)) (all-told parts e row (λ kids. omega (arith, parts-few kids, count-small (figure kids))) (verdict s) (verdict-within s));
   meshes = λ e s row. all-told standing e row (λ kids. standing-few 0 0 0 (figure kids)) (verdict s) (verdict-within s);
+  boxes = λ e s row. all-told meshes e row meshes-few (verdict s) (verdict-within s);
   rescue = λ e s b rows. rescue-told e rows (rescue s) (rescue-within s b);
   write = λ name vertices corners out. write-told name vertices corners out _;
   figure = λ rows out. figure-told rows out _;

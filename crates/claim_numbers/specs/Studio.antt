@@ -2,9 +2,9 @@
 -- writers can have a place of more than 32 bits, which is told as the largest.
 use mathlib.Core.Path.{_≡_}
 use mathlib.Core.Logic.{_⊎_}
-use mathlib.Core.List.{List, [], _∷_, map}
+use mathlib.Core.List.{List, [], _∷_}
 use Prim.Native.Nat.{ℕ, _/_, _≤_, _<_}
-use lib.Ieee.{Float, binary32, toBits}
+use lib.Ieee.{Float}
 use lib.ListN.{length}
 use Rattle.shared_words.specs.declared.Refusal.{Refusal}
 use Rattle.shared_words.specs.declared.Refusal.the-variants.{NoRoom}
@@ -17,15 +17,16 @@ use Rattle.studio_rules.specs.declared.Tabled.{Tabled}
 use Rattle.studio_rules.specs.declared.Named.{Named}
 use Rattle.studio_rules.specs.declared.Boxed.{Boxed}
 use Rattle.studio_rules.specs.declared.Counted.{Counted}
-use Rattle.studio_rules.specs.Gives.{Part}
+use Rattle.studio_rules.specs.Gives.{Mesh, Part}
 use Rattle.studio_rules.specs.Calls.{checkCall, listCall, Rows, Tables, tablesCall, nameCall, boxCall, partsCall}
 use Rattle.studio_meshes_rules.specs.Standing.{Standing}
 use Rattle.studio_meshes_rules.specs.Calls.{meshesCall}
+use Rattle.studio_meshes_rules.specs.Boxes.{nine, boxesCall}
 use Rattle.shared_words.specs.declared.Written.{Written}
 use Rattle.studio_figure_rules.specs.Described.{Flat, writeFlat}
 use Rattle.studio_write.specs.Write.{writeCall}
 use Rattle.c_codes.specs.Codes.{recordsOr, sizesOr, numbersOr, sizeOr}
-use Rattle.c_answers.specs.Given.{nine, countsGiven, nameGiven, boxGiven}
+use Rattle.c_answers.specs.Given.{countsGiven, nameGiven, boxGiven}
 use Rattle.c_counted.specs.Codes.{countedOr}
 use Rattle.studio_rescue_rules.specs.declared.Mended.{Mended}
 use Rattle.studio_rescue_rules.specs.Rescue.{Cut}
@@ -76,7 +77,7 @@ NameTold out (Named.At span) e = GivenOn out (span .offset ∷ span .size ∷ []
 NameTold out (Named.Refused r) e = ToldOn out r e
 
 abbrev pub BoxTold : List ℕ → Boxed → Effect ℕ (List ℕ) → Type 0
-BoxTold out (Boxed.Around box centre) e = GivenOn out (map (toBits binary32) (nine (box .low) (box .high) centre)) e
+BoxTold out (Boxed.Around box centre) e = GivenOn out (nine box centre) e
 BoxTold out (Boxed.Refused r) e = ToldOn out r e
 
 -- ---- every call
@@ -96,6 +97,8 @@ pub record StudioTold : Type 1 where
   pub parts : {A : Type 0} (e : Encoding Part A) (s : List ℕ) (row : List A) → CountedTold (partsCall e s row .answer) (countedOr (partsCall e s row .answer))
   pub meshes : {A : Type 0} (e : Encoding Standing A) (s : List ℕ) (row : List A) →
       CountedTold (meshesCall e s row .answer) (countedOr (meshesCall e s row .answer))
+  pub boxes : {A : Type 0} (e : Encoding Mesh A) (s : List ℕ) (row : List A) →
+      CountedTold (boxesCall e s row .answer) (countedOr (boxesCall e s row .answer))
   pub rescue : {A : Type 0} (e : Encoding Cut A) (s : List ℕ) → Bytes s → (rows : Lent A) →
       RescueTold (rescueCall e s rows .answer) (cutsOr (rescueCall e s rows .answer))
   pub write : (name : List ℕ) (vertices : List Float) (corners out : List ℕ) →

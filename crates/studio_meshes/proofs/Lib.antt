@@ -1,2 +1,3 @@
-pub mod Filling
 pub mod InPlace
+pub mod InRow
+pub mod Filling

@@ -1,3 +1,4 @@
 pub mod InPlace
+pub mod Wanted
 pub mod Fit
 pub mod Asked

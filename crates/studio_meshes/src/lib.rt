@@ -1,7 +1,9 @@
-// All meshes of a figure in one call: eight numbers each, into a lent row of bytes. The file is checked first, and nothing is
-// written before room for all meshes is there. Linear in the file: the check, and two passes over the objects.
+// All meshes of a figure in one call: eight numbers each, or the nine of its box, into a lent row of bytes. The file is checked first,
+// and nothing is written before room for all meshes is there. Linear in the file: the check, and two passes over the objects; for the
+// boxes, one over all vertices.
 use shared_numbers::put_long;
 use shared_words::Refusal;
+use studio_box_row::put_box;
 use studio_child::next_child;
 use studio_mesh_find::Elements;
 use studio_mesh_find::Object;
@@ -20,12 +22,14 @@ ghost use Rattle.shared_words.specs.Effects.{filled};
 ghost use Rattle.shared_numbers.specs.Put.{Put};
 ghost use Rattle.studio_rules.specs.Layout.{Run, known};
 ghost use Rattle.studio_rules.specs.Rules.{Parent};
-ghost use Rattle.studio_meshes_rules.specs.Standing.{standing, flatMeshes};
+ghost use Rattle.studio_meshes_rules.specs.Standing.{Standing, meshIn, standing, meshNumbers};
 ghost use Rattle.studio_meshes_rules.specs.Calls.{meshBytes, meshesCall};
+ghost use Rattle.studio_meshes_rules.specs.Boxes.{boxBytes, boxesCall};
 ghost use Rattle.studio_child.specs.Runs.{Spans};
 ghost use Rattle.studio_mesh_find.specs.Runs.{ObjectsAt};
-ghost use Rattle.studio_mesh_find.specs.Places.{placeNumbers, ObjectIs};
-ghost use Rattle.studio_meshes.specs.Fit.{Small, heldIn, RoomFor, SomeObjectsAt, Fit, SomeFit};
+ghost use Rattle.studio_mesh_find.specs.Places.{placeNumbers, ObjectIs, PlaceIs};
+ghost use Rattle.studio_meshes.specs.Wanted.{wantedBytes};
+ghost use Rattle.studio_meshes.specs.Fit.{Small, heldIn, Placed, RoomFor, SomeObjectsAt, Room, SomeRoom};
 ghost use Rattle.studio_meshes.specs.Asked.{AskedIs};
 
 // How many elements there are and where they begin, at a position; answers the position behind the two numbers.
@@ -53,15 +57,40 @@ fn put_place(place: Place, at: usize, row: &mut [u8]) -> usize
     put_elements(given, pairs, row)
 }
 
+// What is wanted of each mesh: its eight numbers, or those of its box.
+enum Wanted {
+    Numbers,
+    Boxes,
+}
+
+// What is wanted of a mesh at a position of the row; answers the position behind it.
+fn put_wanted(file: &[u8], place: Place, wanted: Wanted, at: usize, row: &mut [u8]) -> usize
+    requires { ⌜ Placed (now file) place wanted at (length (now row)) ⌝ }
+    ensures { λ r. ⌜ ((m : Standing) → PlaceIs (now (file .entry)) (meshIn m) place → placeNumbers place ≡ meshNumbers m →
+        Put (now (row .entry)) at (wantedBytes wanted (m ∷ [])) (now (row .exit)) r) ⌝ }
+{
+    match wanted {
+        Wanted::Numbers => put_place(place, at, row),
+        Wanted::Boxes => put_box(file, place.vertices.at, place.vertices.count, at, row),
+    }
+}
+
 // The mesh in the object at a position of the file, if it has one, at a position of the row; answers the position behind it.
-fn put_held(file: &[u8], at: usize, object: Object, next: usize, row: &mut [u8]) -> usize
-    requires { ⌜ RoomFor (now file) at object next (length (now row)) ⌝ }
+fn put_held(
+    file: &[u8],
+    at: usize,
+    object: Object,
+    wanted: Wanted,
+    next: usize,
+    row: &mut [u8],
+) -> usize
+    requires { ⌜ RoomFor (now file) at object wanted next (length (now row)) ⌝ }
     ensures { λ r. ⌜ ((p : Parent) (own : List ℕ) (kids rest : Run) (stop : ℕ) → Spans p (known 0x4000 own kids rest) (now (file .entry)) at stop →
-        ObjectIs at own kids object → Put (now (row .entry)) next (packed 4 (flatMeshes (heldIn at own kids))) (now (row .exit)) r) ⌝ }
+        ObjectIs at own kids object → Put (now (row .entry)) next (wantedBytes wanted (heldIn at own kids)) (now (row .exit)) r) ⌝ }
 {
     if object.mesh < object.stop {
         let place = place_of(file, object.mesh, at + 6, object.size);
-        return put_place(place, next, row);
+        return put_wanted(file, place, wanted, next, row);
     }
     next
 }
@@ -83,17 +112,17 @@ fn count_meshes(file: &[u8], from: usize, stop: usize) -> usize
     n
 }
 
-// The meshes in the objects from from to stop, at the front of a row.
-fn fill_meshes(file: &[u8], from: usize, stop: usize, row: &mut [u8])
-    requires { ⌜ SomeFit (now file) from stop (length (now row) / 32) ⌝ }
-    ensures { λ _. ⌜ ((kids : Run) → Fit (now (file .entry)) kids from stop (length (now (row .entry)) / 32) →
-        now (row .exit) ≡ filled (meshBytes .encode (standing kids)) (now (row .entry))) ⌝ }
+// What is wanted of the meshes in the objects from from to stop, at the front of a row.
+fn fill(file: &[u8], from: usize, stop: usize, wanted: Wanted, row: &mut [u8])
+    requires { ⌜ SomeRoom (now file) from stop wanted (length (now row)) ⌝ }
+    ensures { λ _. ⌜ ((kids : Run) → Room (now (file .entry)) kids from stop wanted (length (now (row .entry))) →
+        now (row .exit) ≡ filled (wantedBytes wanted (standing kids)) (now (row .entry))) ⌝ }
 {
     let mut next = 0usize;
     let mut at = next_child(file, 0x4000, from, stop);
     while at < stop {
         let object = object_at(file, at);
-        next = put_held(file, at, object, next, row);
+        next = put_held(file, at, object, wanted, next, row);
         at = next_child(file, 0x4000, object.stop, stop);
     }
 }
@@ -138,7 +167,22 @@ pub fn meshes_bytes(file: &[u8], row: &mut [u8]) -> Counted
     match ask(file, row.len() / 32) {
         Asked::Refused(r) => Counted::Refused(r),
         Asked::Meshes { from, stop, count } => {
-            fill_meshes(file, from, stop, row);
+            fill(file, from, stop, Wanted::Numbers, row);
+            Counted::Filled(count)
+        }
+    }
+}
+
+// The boxes of the meshes of a figure and their centres, in file order, nine floats each; nine zeros for a mesh without vertices.
+// Answers how many meshes there are, or the refusal; a refusal leaves the row as it was.
+pub fn boxes_bytes(file: &[u8], row: &mut [u8]) -> Counted
+    ensures answer { λ r. ⌜ r ≡ boxesCall boxBytes (now (file .entry)) (now (row .entry)) .answer ⌝ }
+    ensures filled { λ r. ⌜ now (row .exit) ≡ boxesCall boxBytes (now (file .entry)) (now (row .entry)) .rows ⌝ }
+{
+    match ask(file, row.len() / 36) {
+        Asked::Refused(r) => Counted::Refused(r),
+        Asked::Meshes { from, stop, count } => {
+            fill(file, from, stop, Wanted::Boxes, row);
             Counted::Filled(count)
         }
     }

@@ -1,13 +1,14 @@
 -- The meshes of a run are not more than its bytes.
-use mathlib.Core.Path.{_≡_, refl, ap}
+use mathlib.Core.Path.{_≡_, refl, sym, ap, _∙_}
 use mathlib.Core.Bool.{Bool, true, false}
-use mathlib.Core.List.{List, [], _∷_, _++_, map}
+use mathlib.Core.List.{List, [], _∷_, _++_, map, append-assoc}
 use Prim.Native.Nat.{ℕ, suc, _+_, _-_, _*_, _≤_}
+use native.Mathlib.Nat.{mul-zero, mul-suc}
 use native.Mathlib.Omega.{arith}
 use lib.Dec.{eqb}
 use lib.ListN.{length, length-append}
 use Rattle.studio_rules.specs.Layout.{Run, end, skip, known, size}
-use Rattle.studio_meshes_rules.specs.Standing.{Standing, meshIn, oneStanding, standingOf, flatMeshes}
+use Rattle.studio_meshes_rules.specs.Standing.{Standing, meshIn, oneStanding, standingOf, flattened}
 
 one-few : (b : Bool) (m : Standing) → length (oneStanding b m) ≤ 1
 one-few true m = omega arith
@@ -35,10 +36,11 @@ as-many (m ∷ ms) = ap suc (as-many ms)
 
 -- ---- as numbers
 
-pub flat-length : (ms : List Standing) → length (flatMeshes ms) ≡ 8 * length ms
-flat-length [] = refl
-flat-length (m ∷ ms) = omega (arith, flat-length ms)
+module _ {X : Type 0} (f : X → List ℕ) where
+  pub flat-length : (k : ℕ) → ((x : X) → length (f x) ≡ k) → (xs : List X) → length (flattened f xs) ≡ k * length xs
+  flat-length k each [] = sym (mul-zero k)
+  flat-length k each (x ∷ xs) = length-append (f x) (flattened f xs) ∙ omega (arith, each x, flat-length k each xs, mul-suc k (length xs))
 
-pub flat-append : (ms ns : List Standing) → flatMeshes (ms ++ ns) ≡ flatMeshes ms ++ flatMeshes ns
-flat-append [] ns = refl
-flat-append (m ∷ ms) ns = rw (flat-append ms ns)
+  pub flat-append : (xs ys : List X) → flattened f (xs ++ ys) ≡ flattened f xs ++ flattened f ys
+  flat-append [] ys = refl
+  flat-append (x ∷ xs) ys = rw (flat-append xs ys, append-assoc (f x) (flattened f xs) (flattened f ys))

@@ -1,3 +1,4 @@
 pub mod Standing
 pub mod Calls
+pub mod Boxes
 pub mod Theorems

@@ -52,7 +52,11 @@ elementsOf x m = count (child x (m .kids)) ∷ elementsAt x (m .at) (m .kids) �
 abbrev pub meshNumbers : Standing → List ℕ
 meshNumbers m = m .nameAt ∷ m .nameLength ∷ (elementsOf 0x4110 m ++ (elementsOf 0x4120 m ++ elementsOf 0x4140 m))
 
+-- the numbers of each, one after another
+abbrev pub flattened : {X : Type 0} → (X → List ℕ) → List X → List ℕ
+flattened f [] = []
+flattened f (x ∷ xs) = f x ++ flattened f xs
+
 -- "Eight numbers a mesh"
 abbrev pub flatMeshes : List Standing → List ℕ
-flatMeshes [] = []
-flatMeshes (m ∷ ms) = meshNumbers m ++ flatMeshes ms
+flatMeshes ms = flattened meshNumbers ms

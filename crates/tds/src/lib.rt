@@ -6,6 +6,7 @@ ghost use Prim.Native.Nat.{_/_, _%_};
 ghost use Rattle.studio_rules.specs.Encodings.{recordBytes, partBytes};
 ghost use Rattle.studio_rules.specs.Calls.{checkCall, listCall, inBytes, mappingInBytes, tablesCall, nameCall, boxCall, partsCall};
 ghost use Rattle.studio_meshes_rules.specs.Calls.{meshBytes, meshesCall};
+ghost use Rattle.studio_meshes_rules.specs.Boxes.{boxBytes, boxesCall};
 ghost use Rattle.studio_list_table.specs.Listed.{inTable, inRow};
 ghost use Rattle.shared_words.specs.Encodings.{numberBytes};
 ghost use Rattle.studio_mesh_tables.specs.Rows.{twoRows, mappingRow};
@@ -131,6 +132,15 @@ pub extern "C" fn tds_meshes(file: &[u8], meshes: &mut [u8]) -> u64
     ensures meshes { λ _. ⌜ now (meshes .exit) ≡ meshesCall meshBytes (now (file .entry)) (now (meshes .entry)) .rows ⌝ }
 {
     c_counted::counted_code(studio_meshes::meshes_bytes(file, meshes))
+}
+
+// The count of meshes, whose boxes and centres, nine floats each, now stand in the front of the slice, or a refusal.
+#[no_mangle]
+pub extern "C" fn tds_boxes(file: &[u8], boxes: &mut [u8]) -> u64
+    ensures answer { λ n. ⌜ n ≡ countedOr (boxesCall boxBytes (now (file .entry)) (now (boxes .entry)) .answer) ⌝ }
+    ensures boxes { λ _. ⌜ now (boxes .exit) ≡ boxesCall boxBytes (now (file .entry)) (now (boxes .entry)) .rows ⌝ }
+{
+    c_counted::counted_code(studio_meshes::boxes_bytes(file, boxes))
 }
 
 // The count of cuts that now stand in the front of the first slice, 12 bytes each, the mended file in the front of the second, or a

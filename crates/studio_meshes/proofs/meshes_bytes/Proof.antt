@@ -8,6 +8,7 @@ use Rattle.studio_meshes.specs.declared.Asked.{Asked}
 use Rattle.studio_meshes.specs.Asked.{AskedIs}
 use Rattle.studio_counted.proofs.All.{gives, all-refused, all-filled}
 use Rattle.studio_meshes_rules.specs.Standing.{standing}
+use Rattle.studio_meshes.proofs.InRow.{numbers-fit}
 use Rattle.studio_meshes.proofs.meshes_bytes.Statement.{statement}
 use Rattle.studio_meshes.proofs.meshes_bytes.Tie as tie
 
@@ -24,11 +25,11 @@ enum-known-r c = search needs
 enum-known-from : tie.Need-enum-known-from
 enum-known-from c = search needs
 
-fill-meshes-requires : tie.Need-fill-meshes-requires
-fill-meshes-requires c κs =
+fill-requires : tie.Need-fill-requires
+fill-requires c κs =
     let f = c .before .before in
     let a = asked (f .before .before) (f .from .given .1) in
-    (a .0, a .3)
+    (a .0, (a .3 .0, numbers-fit (standing (a .0)) _ (a .3 .1)))
 
 returns : tie.Need-returns
 unfolding meshesCall
@@ -47,7 +48,7 @@ returns-2 c =
     let d = f .before .before in
     let x = d .before .before .before .args in
     let a = asked d (f .from .given .1) in
-    gives (all-filled standing (x .file .now) meshBytes (x .row .now) (a .0) (a .1) _ (a .2) (a .3 .1) _ (c .before .before .fill-meshes .ensures (a .0) (a .3)))
+    gives (all-filled standing (x .file .now) meshBytes (x .row .now) (a .0) (a .1) _ (a .2) (a .3 .1) _ (c .before .before .fill .ensures (a .0) (a .3 .0, numbers-fit (standing (a .0)) _ (a .3 .1))))
 
 pub meshes-bytes-spec : {M : Type 1} → statement M
 meshes-bytes-spec =
@@ -56,7 +57,7 @@ meshes-bytes-spec =
     ask-requires
     enum-known-r
     enum-known-from
-    fill-meshes-requires
+    fill-requires
     returns
     same-length
     returns-2)

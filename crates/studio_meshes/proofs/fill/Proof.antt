@@ -1,5 +1,5 @@
--- The loop's invariant: the meshes of the objects passed stand at the row's front.
-use Prim.Native.Nat.{_-_, _/_, _≤_}
+-- The loop's invariant: what is wanted of the meshes of the objects passed stands at the row's front.
+use Prim.Native.Nat.{_-_, _≤_}
 use native.Mathlib.Omega.{arith}
 use lib.ListN.{length}
 use Rattle.studio_rules.specs.Layout.{Run}
@@ -7,21 +7,23 @@ use Rattle.studio_meshes_rules.specs.Standing.{standing}
 use Rattle.studio_mesh_find.specs.Runs.{ObjectsAt}
 use Rattle.studio_mesh_find.proofs.Parts.{all-listed}
 use Rattle.studio_mesh_find.proofs.Objects.{object-begins, found, rest-here, next-on}
-use Rattle.studio_meshes.proofs.Filling.{Filling, fill-none, fill-all, fill-more, next-is, hand, still}
-use Rattle.studio_meshes.proofs.fill_meshes.Statement.{statement}
-use Rattle.studio_meshes.proofs.fill_meshes.Tie as tie
+use Rattle.studio_meshes.specs.Wanted.{wantedBytes}
+use Rattle.studio_meshes.proofs.Filling.{Filling, fill-none, fill-all, fill-fits, fill-more, hand}
+use Rattle.studio_meshes.proofs.fill.Statement.{statement}
+use Rattle.studio_meshes.proofs.fill.Tie as tie
 
 abbrev Inv-loop : tie.InvT-loop
-Inv-loop file from stop row₀ next₀ at₀ row next at = (kids : Run) (q : ObjectsAt file kids from stop) → length (standing kids) ≤ length row₀ / 32 → Filling file kids from stop q row₀ row next at
+Inv-loop file from stop wanted row₀ next₀ at₀ row next at =
+    (kids : Run) (q : ObjectsAt file kids from stop) → length (wantedBytes wanted (standing kids)) ≤ length row₀ → Filling file kids from stop q wanted row₀ row next at
 
 abbrev μ-loop : tie.MeasureT-loop
-μ-loop file from stop row₀ next₀ at₀ row next at = stop - at
+μ-loop file from stop wanted row₀ next₀ at₀ row next at = stop - at
 
 next-child-requires : tie.Need-next-child-requires Inv-loop μ-loop
 next-child-requires c κs = (all-listed .1, (_, _, c .before .before .pre .1 .0 .spans))
 
 loop-holds : tie.Need-loop-holds Inv-loop μ-loop
-loop-holds c = λ kids q l. fill-none _ _ _ _ q _ _ (c .next-child .ensures _ _ (q .spans))
+loop-holds c = λ kids q l. fill-none _ _ _ _ q _ _ _ (c .next-child .ensures _ _ (q .spans))
 
 object-at-requires : tie.Need-object-at-requires Inv-loop μ-loop
 object-at-requires c κs =
@@ -45,7 +47,7 @@ put-held-requires c κs =
       x .args .stop,
       h .spans,
       found (q .p) (q .id) (q .t) _ _ _ (q .nameAt) (q .nameLength) (w .done) _ (w .before) l (o .result) (o .ensures),
-      omega (arith, next-is _ _ _ _ q _ _ _ _ w, still _ _ _ _ q (w .done) _ (w .before) l, w .same, x .pre .1 .1),
+      fill-fits _ _ _ _ q _ _ _ _ _ w l (x .pre .1 .1),
     )
 
 next-child-requires-2 : tie.Need-next-child-requires-2 Inv-loop μ-loop
@@ -74,8 +76,8 @@ loop-again c = λ kids q k.
     let h = hand _ _ _ _ q (w .done) _ (w .before) l in
     let is = found (q .p) (q .id) (q .t) _ _ _ (q .nameAt) (q .nameLength) (w .done) _ (w .before) l (o .result) (o .ensures) in
     let r = rest-here (q .p) (q .id) (q .t) _ _ _ (q .nameAt) (q .nameLength) (w .done) _ (w .before) l (o .result) (o .ensures) in
-    fill-more _ _ _ _ q _ _ _ _ w l (o .result) (o .ensures) _ _ (c .before .before .before .put-held .ensures _ _ _ _ _ (h .spans) is)
-    (omega (arith, next-is _ _ _ _ q _ _ _ _ w, still _ _ _ _ q (w .done) _ (w .before) l, w .same, k)) (c .next-child2 .result) (c .next-child2 .ensures _ _ r)
+    fill-more _ _ _ _ q _ _ _ _ _ w l (o .result) (o .ensures) _ _ (c .before .before .before .put-held .ensures _ _ _ _ _ (h .spans) is)
+    (fill-fits _ _ _ _ q _ _ _ _ _ w l k) (c .next-child2 .result) (c .next-child2 .ensures _ _ r)
 
 same-length : tie.Need-same-length Inv-loop μ-loop
 same-length c =
@@ -83,10 +85,10 @@ same-length c =
     c .before .loop .inv (x .pre .0) (x .pre .1 .0) (x .pre .1 .1) .same
 
 returns : tie.Need-returns Inv-loop μ-loop
-returns c = λ kids q. fill-all _ _ _ _ (q .0) _ _ _ _ (c .before .loop .inv kids (q .0) (q .1)) (c .loop-test .left)
+returns c = λ kids q. fill-all _ _ _ _ (q .0) _ _ _ _ _ (c .before .loop .inv kids (q .0) (q .1)) (c .loop-test .left)
 
-pub fill-meshes-spec : {M : Type 1} → statement M
-fill-meshes-spec =
+pub fill-spec : {M : Type 1} → statement M
+fill-spec =
     tie.close
     (tie.spec
     Inv-loop
