@@ -41,12 +41,13 @@ use Rattle.slip_rules.specs.Calls.{writeConditions, slipReadCall, slipWriteCall
 use Rattle.stick_rules.specs.Records.{judgeCall}
 use Rattle.cob_rules.specs.declared.Answered.{Answered as CobAnswered}
 use Rattle.cob_rules.specs.Walk.{verdict as cobVerdict}
+use Rattle.cob_meshes_rules.specs.Calls.{meshesCall as cobMeshesCall}
 use Rattle.cob_rules.specs.Calls.{checkCall as cobCheckCall, give, listCall as cobListCall, sizesOf as cobSizesOf, sizesCall, tablesOf as cobTablesOf, tablesCall as cobTablesCall}
 use Rattle.c4d_rules.specs.Walk.{verdict as c4dVerdict}
 use Rattle.c4d_rules.specs.Calls.{objectsCall, c4dCheckCall, c4dListCall}
 use Rattle.claim_demands.specs.Demand1.{Answered, AnsweredOn, around, mended, good, Demand1}
 use Rattle.claim_demands.proofs.Refused.{Apart, refuses, leaves}
-use Rattle.claim_demands.proofs.Formats.{summed, matched, slip-given, slip-written, cob-leaves, cob-checked, cob-given, cob-listed, cob-tabled, cob-by-mesh, c4d-checked, c4d-listed}
+use Rattle.claim_demands.proofs.Formats.{summed, matched, slip-given, slip-written, cob-leaves, cob-checked, cob-given, cob-listed, cob-tabled, cob-all, cob-by-mesh, c4d-checked, c4d-listed}
 use Rattle.shared_words.proofs.Bools.{by-test}
 
 -- ---- an answer is no two refusals
@@ -137,7 +138,7 @@ stick-judged (Judged.Refused r) = refuses good Judged.Refused judged-apart r
 -- ---- the demand
 
 pub demand1 : Demand1
-unfolding checkCall listCall tablesCall nameCall boxCall meshesCall boxesCall rescueCall writeCall writeFlat slipReadCall slipWriteCall cobCheckCall cobListCall sizesCall cobTablesCall c4dCheckCall c4dListCall
+unfolding checkCall listCall tablesCall nameCall boxCall meshesCall boxesCall rescueCall writeCall writeFlat slipReadCall slipWriteCall cobCheckCall cobListCall sizesCall cobTablesCall cobMeshesCall c4dCheckCall c4dListCall
 demand1 = record {
   check = λ s. checked (verdict s);
   list = λ e s row. listed e row (verdict s);
@@ -167,6 +168,7 @@ demand1 = record {
   cob-tables = λ e s mesh rows.
       cob-by-mesh (AnsweredOn CobAnswered.Count CobAnswered.Refused rows) (λ r. leaving (CobAnswered.Refused r) rows) (cobTablesOf e rows)
       (cob-leaves rows) (cob-tabled e rows) mesh (cobVerdict s);
+  cob-meshes = λ e s row. cob-all e row (cobVerdict s);
   c4d-check = λ s. c4d-checked (c4dVerdict s);
   c4d-list = λ e m s os ms. c4d-listed e m os ms (objectsCall (e .room (length os)) (m .room (length ms)) s);
 }

@@ -30,6 +30,8 @@ use Rattle.cob_rules.specs.declared.Answered.{Answered as CobAnswered}
 use Rattle.cob_rules.specs.Walk.{Verdict}
 use Rattle.cob_rules.specs.Gives.{list, Mesh, meshes}
 use Rattle.cob_rules.specs.Calls.{checkOf, give, listOf, ofMesh, Rows, tablesOf}
+use Rattle.cob_meshes_rules.specs.Standing.{Standing, standing}
+use Rattle.cob_meshes_rules.specs.Calls.{meshesOf}
 use Rattle.c4d_rules.specs.declared.Found.{Found as C4dFound}
 use Rattle.c4d_rules.specs.Layout.{Layout}
 use Rattle.c4d_rules.specs.Gives.{Object, objects}
@@ -93,6 +95,10 @@ cob-given e xs row =
 pub cob-listed : (e : Encoding Record ℕ) (row : List ℕ) (a : Verdict) → AnsweredOn CobAnswered.Count CobAnswered.Refused row (listOf e row a)
 cob-listed e row (refused r) = cob-leaves row r
 cob-listed e row (accepted l) = cob-given e (list l) row
+
+pub cob-all : (e : Encoding Standing ℕ) (row : List ℕ) (a : Verdict) → AnsweredOn CobAnswered.Count CobAnswered.Refused row (meshesOf e row a)
+cob-all e row (refused r) = cob-leaves row r
+cob-all e row (accepted l) = cob-given e (standing l) row
 
 pub cob-tabled : (e : Encoding ℕ ℕ) (rows : Rows) (m : Mesh) → AnsweredOn CobAnswered.Count CobAnswered.Refused rows (tablesOf e rows m)
 cob-tabled e rows m =

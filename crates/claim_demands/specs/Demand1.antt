@@ -41,6 +41,8 @@ use Rattle.stick_rules.specs.Records.{judgeCall}
 use Rattle.cob_rules.specs.declared.Record.{Record as CobRecord}
 use Rattle.cob_rules.specs.declared.Answered.{Answered as CobAnswered}
 use Rattle.cob_rules.specs.Calls.{checkCall as cobCheckCall, listCall as cobListCall, sizesCall, Rows as CobRows, tablesCall as cobTablesCall}
+use Rattle.cob_meshes_rules.specs.Standing.{Standing as CobStanding}
+use Rattle.cob_meshes_rules.specs.Calls.{meshesCall as cobMeshesCall}
 use Rattle.c4d_rules.specs.declared.Found.{Found as C4dFound}
 use Rattle.c4d_rules.specs.Gives.{Object}
 use Rattle.c4d_rules.specs.Calls.{twoRows, c4dCheckCall, c4dListCall}
@@ -111,6 +113,7 @@ pub record Demand1 : Type 1 where
       AnsweredOn CobAnswered.Count CobAnswered.Refused row (sizesCall e s mesh row)
   pub cob-tables : (e : Encoding ℕ ℕ) (s : List ℕ) (mesh : ℕ) (rows : CobRows) →
       AnsweredOn CobAnswered.Count CobAnswered.Refused rows (cobTablesCall e s mesh rows)
+  pub cob-meshes : (e : Encoding CobStanding ℕ) (s row : List ℕ) → AnsweredOn CobAnswered.Count CobAnswered.Refused row (cobMeshesCall e s row)
   -- Cinema 4D files
   pub c4d-check : (s : List ℕ) → Answered C4dFound.Objects C4dFound.Refused (c4dCheckCall s)
   pub c4d-list : {A B : Type 0} (e : Encoding Object A) (m : Encoding ℕ B) (s : List ℕ) (objects : List A) (materials : List B) →

@@ -17,6 +17,9 @@ use Rattle.cob_rules.specs.declared.Record.{Record}
 use Rattle.cob_rules.specs.Walk.{Verdict, verdict}
 use Rattle.cob_rules.specs.Gives.{list, Mesh, meshes}
 use Rattle.cob_rules.specs.Calls.{checkOf, checkCall, give, listOf, listCall, ofMesh, sizesOf, sizesCall, Rows, tablesOf, tablesCall}
+use Rattle.cob_meshes_rules.specs.Standing.{Standing, standing}
+use Rattle.cob_meshes_rules.specs.Calls.{meshesOf, meshesCall}
+use Rattle.cob_meshes_rules.proofs.Same.{as-many}
 use Rattle.c_cob.specs.Codes.{countOr}
 use Rattle.claim_numbers.specs.Caligari.{CountTold, CaligariTold}
 use Rattle.claim_numbers.proofs.Tells.{tells}
@@ -52,6 +55,10 @@ list-told : (e : Encoding Record ℕ) (row : List ℕ) (v : Verdict) → AnswerT
 list-told e row (refused r) h = tells r h
 list-told e row (accepted l) h = give-told e (list l) row (h .records-few)
 
+all-told : (e : Encoding Standing ℕ) (row : List ℕ) (v : Verdict) → AnswerTo limit Few v → Told (meshesOf e row v)
+all-told e row (refused r) h = tells r h
+all-told e row (accepted l) h = give-told e (standing l) row (omega (arith, h .meshes-few, as-many l))
+
 -- the mesh that is asked for, or its number refused
 mesh-told : {R : Type 0} (rows : R) (use-it : Mesh → Effect Answered R) → ((m : Mesh) → Small limit m → Told (use-it m)) → (mesh : ℕ) (v : Verdict) → AnswerTo limit Few v →
     Told (ofMesh (λ r. leaving (Answered.Refused r) rows) use-it mesh v)
@@ -63,10 +70,11 @@ mesh-told rows use-it f mesh (accepted l) h = go (getElem? (meshes l) mesh) (pic
     go (some m) k = f m k
 
 pub caligari-told : CaligariTold
-unfolding checkCall listCall sizesCall tablesCall
+unfolding checkCall listCall sizesCall tablesCall meshesCall
 caligari-told = record {
   check = λ s. check-told (verdict s) (within s);
   list = λ e s row. list-told e row (verdict s) (within s);
   sizes = λ e s mesh row. mesh-told row (λ m. give e (sizesOf m) row) (λ m h. give-told e (sizesOf m) row (omega arith)) mesh (verdict s) (within s);
   tables = λ e s mesh rows. mesh-told rows (tablesOf e rows) (tables-told e rows) mesh (verdict s) (within s);
+  meshes = λ e s row. all-told e row (verdict s) (within s);
 }

@@ -5,6 +5,8 @@ use Rattle.shared_words.specs.Encodings.{Encoding}
 use Rattle.cob_rules.specs.declared.Answered.{Answered}
 use Rattle.cob_rules.specs.declared.Record.{Record}
 use Rattle.cob_rules.specs.Calls.{checkCall, listCall, sizesCall, Rows, tablesCall}
+use Rattle.cob_meshes_rules.specs.Standing.{Standing}
+use Rattle.cob_meshes_rules.specs.Calls.{meshesCall}
 use Rattle.c_cob.specs.Codes.{countOr}
 use Rattle.claim_numbers.specs.Tells.{Proper, Tells}
 
@@ -19,3 +21,4 @@ pub record CaligariTold : Type 0 where
       CountTold (sizesCall e s mesh row .answer) (countOr (sizesCall e s mesh row .answer))
   pub tables : (e : Encoding ℕ ℕ) (s : List ℕ) (mesh : ℕ) (rows : Rows) →
       CountTold (tablesCall e s mesh rows .answer) (countOr (tablesCall e s mesh rows .answer))
+  pub meshes : (e : Encoding Standing ℕ) (s row : List ℕ) → CountTold (meshesCall e s row .answer) (countOr (meshesCall e s row .answer))

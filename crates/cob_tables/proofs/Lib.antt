@@ -1,3 +1,4 @@
+pub mod Chunks
 pub mod Finding
 pub mod Picks
 pub mod Faces

@@ -18,7 +18,7 @@ use Rattle.cob_tables.specs.declared.Found.{Found}
 use Rattle.cob_tables.specs.declared.Asked.{Asked}
 use Rattle.cob_tables.specs.Asked.{Readable, FoundIn, FoundIs, Picked, bad, good, picked, AskedIs}
 
-refused-by : (v : Verdict) (q : Refusal) → Answered.Refused q ≡ checkOf v → v ≡ refused q
+pub refused-by : (v : Verdict) (q : Refusal) → Answered.Refused q ≡ checkOf v → v ≡ refused q
 refused-by (refused r) q e = let z : r ≡ q = cc in ap refused z
 refused-by (accepted l) q e = let z : _≡_ {A = ℕ} 0 1 = cc in absurd (omega arith)
 

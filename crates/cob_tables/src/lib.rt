@@ -47,7 +47,7 @@ enum Asked {
 }
 
 // 1 for a mesh, 0 for any other chunk.
-fn count_mesh(file: &[u8], at: usize) -> usize
+pub fn count_mesh(file: &[u8], at: usize) -> usize
     requires { ⌜ at + 20 ≤ length (now file) ⌝ }
     ensures { λ r. ⌜ (r ≡ cond (isMesh (kind (chunkIn (now (file .entry)) at))) 1 0) × (r ≤ 1) ⌝ }
 {
@@ -138,7 +138,7 @@ fn one_if(yes: bool) -> usize
 }
 
 // How many of so many faces are.
-fn count_triangles(s: &[u8], at: usize, count: usize) -> usize
+pub fn count_triangles(s: &[u8], at: usize, count: usize) -> usize
     requires { ⌜ Whole (now s) at count ⌝ }
     ensures { λ r. ⌜ (r ≡ length (triangles (facesAt count (drop at (now (s .entry)))))) × (r ≤ count) ⌝ }
 {

@@ -24,6 +24,7 @@ ghost use Rattle.slip_rules.specs.Calls.{byteRow, slipReadCall, givenBytes, sli
 ghost use Rattle.cob_rules.specs.Calls.{checkCall as cobCheckCall, listCall as cobListCall, sizesCall as cobSizesCall};
 ghost use Rattle.cob_rules.specs.Calls.{tablesCall as cobTablesCall, recordBytes as cobRecords};
 ghost use Rattle.cob_tables.specs.Rows.{rows as cobRows};
+ghost use Rattle.cob_meshes_rules.specs.Calls.{meshBytes as cobMeshBytes, meshesCall as cobMeshesCall};
 ghost use Rattle.c_slip.specs.Codes.{entriesOr};
 ghost use Rattle.c_stick.specs.Codes.{oneOr};
 ghost use Rattle.stick_rules.specs.Records.{judgeCall};
@@ -322,6 +323,15 @@ pub extern "C" fn tds_cob_tables(
         cobTablesCall (numberBytes 4) (now (file .entry)) mesh (cobRows (now (vertices .entry)) (now (corners .entry))) .rows ⌝ }
 {
     c_cob::answered_code(cob_tables::tables(file, mesh, vertices, corners))
+}
+
+// The count of meshes, whose eight numbers each now stand in the front of the slice, or a refusal.
+#[no_mangle]
+pub extern "C" fn tds_cob_meshes(file: &[u8], meshes: &mut [u8]) -> u64
+    ensures answer { λ n. ⌜ n ≡ countOr (cobMeshesCall cobMeshBytes (now (file .entry)) (now (meshes .entry)) .answer) ⌝ }
+    ensures meshes { λ _. ⌜ now (meshes .exit) ≡ cobMeshesCall cobMeshBytes (now (file .entry)) (now (meshes .entry)) .rows ⌝ }
+{
+    c_cob::answered_code(cob_meshes::meshes(file, meshes))
 }
 
 // ---- a stick

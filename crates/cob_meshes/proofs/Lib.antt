@@ -1,0 +1,4 @@
+pub mod Faces
+pub mod Puts
+pub mod Passed
+pub mod Calls

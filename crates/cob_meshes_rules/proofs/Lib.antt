@@ -1,0 +1,4 @@
+pub mod Same
+pub mod Records
+pub mod Front
+pub mod InPlace
