@@ -56,30 +56,13 @@ static void print_name(size_t offset, size_t length) {
     fwrite(file + offset, 1, length, stdout);
 }
 
-static void print_corner(const float *corner) {
-    printf(" (%g, %g, %g)", corner[0], corner[1], corner[2]);
-}
-
-/* The lowest and the highest of each of x, y, z, from the floats where they stand. */
-static void print_box(const uint8_t *floats, size_t vertices) {
-    float low[3], high[3];
-    size_t i;
-    for (i = 0; i < 3 * vertices; i++) {
-        float number = tds_get_float(floats + 4 * i);
-        if (i < 3 || number < low[i % 3]) {
-            low[i % 3] = number;
-        }
-        if (i < 3 || number > high[i % 3]) {
-            high[i % 3] = number;
-        }
-    }
-    printf(", box");
-    print_corner(low);
-    print_corner(high);
+static void print_corner(const uint8_t *floats) {
+    printf(" (%g, %g, %g)", tds_get_float(floats), tds_get_float(floats + 4),
+           tds_get_float(floats + 8));
 }
 
 /* A viewer would hand the floats and the corners to the screen here, from where they stand. */
-static void show_mesh(const uint8_t *meshes, size_t mesh) {
+static void show_mesh(const uint8_t *meshes, const uint8_t *boxes, size_t mesh) {
     size_t vertices = tds_get_mesh(meshes, mesh, TDS_MESH_VERTICES);
     printf("mesh %lu \"", (unsigned long)mesh);
     print_name(tds_get_mesh(meshes, mesh, TDS_MESH_NAME),
@@ -87,31 +70,38 @@ static void show_mesh(const uint8_t *meshes, size_t mesh) {
     printf("\": vertices %lu, faces %lu", (unsigned long)vertices,
            (unsigned long)tds_get_mesh(meshes, mesh, TDS_MESH_FACES));
     if (vertices != 0) { /* a mesh without vertices has no box, but is a good mesh */
-        print_box(file + tds_get_mesh(meshes, mesh, TDS_MESH_VERTICES_AT), vertices);
+        const uint8_t *box = boxes + mesh * TDS_BOX_BYTES;
+        printf(", box");
+        print_corner(box);
+        print_corner(box + 12);
     }
     putchar('\n');
 }
 
-/* All meshes, by one call: one for each of them would check the whole file again each time. */
+/* All meshes and all boxes, by one call each: one for each mesh would check the whole file again
+ * each time. Both answer how many meshes there are. */
 static int show_meshes(void) {
     uint64_t needed = tds_meshes(file, file_len, NULL, 0); /* none, or refused with how many */
-    size_t meshes_len = TDS_MESH_BYTES * (size_t)TDS_PLACE(needed);
-    uint8_t *meshes = malloc(meshes_len + 1); /* + 1: never none at all */
+    size_t count = (size_t)TDS_PLACE(needed);
+    uint8_t *meshes = malloc(count * (TDS_MESH_BYTES + TDS_BOX_BYTES) + 1); /* + 1: never none */
+    uint8_t *boxes = meshes + count * TDS_MESH_BYTES;
     uint64_t answer;
     size_t i;
     if (meshes == NULL) {
         return no_memory();
     }
-    answer = tds_meshes(file, file_len, meshes, meshes_len);
+    answer = tds_meshes(file, file_len, meshes, count * TDS_MESH_BYTES);
+    if (!TDS_REFUSED(answer)) {
+        answer = tds_boxes(file, file_len, boxes, count * TDS_BOX_BYTES);
+    }
+    for (i = 0; i < answer && !TDS_REFUSED(answer); i++) {
+        show_mesh(meshes, boxes, i);
+    }
+    free(meshes);
     if (TDS_REFUSED(answer)) {
-        free(meshes);
         return refused(answer);
     }
-    for (i = 0; i < answer; i++) {
-        show_mesh(meshes, i);
-    }
     printf("meshes %lu\n", (unsigned long)answer);
-    free(meshes);
     return 0;
 }
 

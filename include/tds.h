@@ -52,11 +52,12 @@
  * own 4 to 25. Each call that reads a figure checks all of it first; the longest takes 0.02 to 3
  * milliseconds, by what is in it, and up to 12 if it is a .cob file made for that (docs/BENCH.md).
  * tds_list, tds_records, tds_meshes, tds_parts and those about one mesh take up to twice as long as
- * the check, and up to 0.1 milliseconds more where that mesh is large; tds_rescue up to 10
- * milliseconds. So a call for each of many meshes costs the whole file each time, and one
- * tds_meshes for all of them once. tds_sum_join and tds_sum_matches read no bytes. Stack: at most
- * 20 kilobytes; tds_stick_judge needs 90, tds_c4d_list 540, tds_write_figure 620 where there are
- * more than 32 objects or materials, tds_stick_file and the four calls on .cob files 850.
+ * the check, and up to 0.1 milliseconds more where that mesh is large; tds_boxes the same and one
+ * look at every vertex; tds_rescue up to 10 milliseconds. So a call for each of many meshes costs
+ * the whole file each time, and one tds_meshes or tds_boxes for all of them once. tds_sum_join and
+ * tds_sum_matches read no bytes. Stack: at most 20 kilobytes; tds_stick_judge needs 90,
+ * tds_c4d_list 540, tds_write_figure 620 where there are more than 32 objects or materials,
+ * tds_stick_file and the five calls on .cob files 850.
  *
  * ORDER OF REFUSALS. A call answers with the first refusal that applies. First come the faults of
  * the file (1 to 14, 23 and 24): 1; 2; of the chunk 4D4D 4, 5, 3; and then the first that is met
@@ -402,9 +403,9 @@ uint64_t tds_name(const uint8_t *file, size_t file_len, uint32_t mesh, uint8_t *
  * -0 are equal). The centre is low / 2 + high / 2, each operation rounded once to a single. Answers
  * 9 (numbers filled), or refuses with a fault of the file; 16 with the count of meshes; 17 if the
  * mesh has no vertices; or 15 with 9 (place). Room is box_len / 4 numbers.
- *   This call alone computes with floats. It requires round-to-nearest, no floating-point traps, no
- * flush-to-zero: what every program has that has not asked for others. (Linking with -ffast-math
- * asks for flush-to-zero.)
+ *   This call and tds_boxes alone compute with floats. They require round-to-nearest, no
+ * floating-point traps, no flush-to-zero: what every program has that has not asked for others.
+ * (Linking with -ffast-math asks for flush-to-zero.)
  */
 uint64_t tds_box(const uint8_t *file, size_t file_len, uint32_t mesh, uint8_t *box, size_t box_len);
 
@@ -438,6 +439,21 @@ enum tds_mesh {
     TDS_MESH_PAIRS = 6,       /* how many mapping pairs as they stand in the file: u, v, 8 bytes */
     TDS_MESH_PAIRS_AT = 7     /* where the first of these floats is */
 };
+
+/*
+ * All boxes of a figure, in one call and for the cost of one.
+ *
+ * Fills nine floats a mesh, 36 bytes, in the order of tds_meshes: lowest, highest and centre, bit
+ * for bit those of tds_box. A mesh without vertices, for which tds_box refuses with 17, has nine
+ * zeros here; its count of vertices tells it from a box at 0.
+ * Answers the count of meshes, which may be 0, and fills as many from the start of the slice; or
+ * refuses with a fault of the file, or 15 with the meshes needed (place). Room is boxes_len /
+ * TDS_BOX_BYTES meshes.
+ */
+uint64_t tds_boxes(const uint8_t *file, size_t file_len, uint8_t *boxes, size_t boxes_len);
+
+#define TDS_BOX_NUMBERS 9
+#define TDS_BOX_BYTES (4 * TDS_BOX_NUMBERS)
 
 /*
  * The parts of a moving figure, and who hangs on whom: a vice's screw hangs on its moving jaw, that
@@ -590,19 +606,16 @@ uint64_t tds_write_figure(const uint8_t *names, size_t names_len, const uint32_t
  * and Mat1 0.05. A chunk of another type or version is stepped over by its size, but its identifier
  * and parent count. What is said at the top of slices, answers and what is filled holds here too;
  * names are not judged. The four files of other houses that were tried break the rule of 21
- * (docs/REAL_FILES.md), so try yours. Each of the four calls needs 850 kilobytes of stack, however
+ * (docs/REAL_FILES.md), so try yours. Each of the five calls needs 850 kilobytes of stack, however
  * short the file: too much for a thread with a small one.
  *
  * TWO THINGS A VIEWER MUST KNOW, or it shows half a figure calmly:
  *   Vertices are in the mesh's own space. The chunk's Current Position carries them to the world:
  * three rows of four floats, x = row 1 of (x, y, z, 1), and so on. Drawn without it, all meshes
- * fall together at one place. It stands at offset + 72 + n of the PolH chunk, where n, the length
- * of its name, is the two bytes at offset + 22 (and the name stands at offset + 24).
- *   The tables have only the faces with three corners and no holes; all others are left out, and no
- * call counts them. How many faces there are in all stands in the four bytes behind the texture
- * vertices: at offset + 120 + n are four bytes, how many vertices, and 12 bytes of each; then four
- * bytes, how many texture vertices, and 8 bytes of each; then the count of faces and holes. Where
- * that is more than the tables have, do not show the mesh as if it were whole.
+ * fall together at one place. tds_cob_meshes tells where it stands.
+ *   The tables have only the faces with three corners and no holes; all others are left out.
+ * tds_cob_meshes tells how many faces there are in all, and how many of them the tables have: where
+ * these two differ, do not show the mesh as if it were whole.
  *
  * The refusals of a file, in their order:
  *
@@ -675,6 +688,33 @@ uint64_t tds_cob_sizes(const uint8_t *file, size_t file_len, uint32_t mesh, uint
  */
 uint64_t tds_cob_tables(const uint8_t *file, size_t file_len, uint32_t mesh, uint8_t *vertices,
                         size_t vertices_len, uint8_t *corners, size_t corners_len);
+
+/*
+ * All meshes of a Caligari figure, in one call and for the cost of one.
+ *
+ * Fills eight numbers a mesh, 32 bytes, in the order of enum tds_cob_mesh; tds_get_cob_mesh reads
+ * one of them. Meshes are in file order, as tds_cob_sizes and tds_cob_tables number them. Every
+ * offset is one in the file: name, Current Position and floats are read where they stand, and all
+ * of them lie in it. Names are not judged: any bytes, and no zero at the end.
+ * Answers the count of meshes, which may be 0, and fills as many from the start of the slice; or
+ * refuses with the file's faults, or 15 with the meshes needed (place). Room is meshes_len /
+ * TDS_COB_MESH_BYTES meshes.
+ */
+uint64_t tds_cob_meshes(const uint8_t *file, size_t file_len, uint8_t *meshes, size_t meshes_len);
+
+#define TDS_COB_MESH_NUMBERS 8
+#define TDS_COB_MESH_BYTES (4 * TDS_COB_MESH_NUMBERS)
+
+enum tds_cob_mesh {
+    TDS_COB_MESH_NAME = 0,        /* where its name begins */
+    TDS_COB_MESH_NAME_LENGTH = 1, /* how many bytes it has */
+    TDS_COB_MESH_POSITION = 2,    /* where its Current Position is: three rows of four floats */
+    TDS_COB_MESH_VERTICES = 3,    /* how many vertices: x, y, z of each, 12 bytes */
+    TDS_COB_MESH_VERTICES_AT = 4, /* where the first of these floats is */
+    TDS_COB_MESH_FACES = 5,       /* how many faces in all; a hole is none */
+    TDS_COB_MESH_TABLED = 6,      /* how many of them tds_cob_tables gives */
+    TDS_COB_MESH_RECORD = 7       /* the number of its chunk's record in tds_cob_list */
+};
 
 /*
  * THE SLIP OF A STICK: one small file that says which files are on the stick, with the length and
@@ -1002,6 +1042,11 @@ TDS_INLINE void tds_set_item(uint8_t *items, size_t item, enum tds_item number, 
 /* One number of one mesh. */
 TDS_INLINE uint32_t tds_get_mesh(const uint8_t *meshes, size_t mesh, enum tds_mesh number) {
     return tds_get4(meshes + mesh * TDS_MESH_BYTES + 4 * (size_t)number);
+}
+
+/* One number of one mesh of a Caligari figure. */
+TDS_INLINE uint32_t tds_get_cob_mesh(const uint8_t *meshes, size_t mesh, enum tds_cob_mesh number) {
+    return tds_get4(meshes + mesh * TDS_COB_MESH_BYTES + 4 * (size_t)number);
 }
 
 /* One number of one part. */

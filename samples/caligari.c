@@ -43,12 +43,20 @@ static void put_end(struct figure *figure) {
     put_head(figure, "END ", 1, 0, 0, 0);
 }
 
-/* A name with its dupecount, axes and a position, all at the origin. */
+/* A name with its dupecount, axes and a position: a quarter turn about z, and a step to the side.
+ */
 static void put_place(struct figure *figure, const char *name) {
+    static const float axes[] = {0, 0, 0, 1, 0, 0, 0, 1, 0, 0, 0, 1};
+    static const float position[] = {0, -1, 0, 2, 1, 0, 0, -0.5f, 0, 0, 1, 0.25f};
     put_word(figure, 0);
     put_word(figure, (unsigned)strlen(name));
     put_bytes(figure, name, strlen(name));
-    put_zeros(figure, 96);
+    for (int i = 0; i < 12; i++) {
+        put_float(figure, axes[i]);
+    }
+    for (int i = 0; i < 12; i++) {
+        put_float(figure, position[i]);
+    }
 }
 
 static void put_vertices(struct figure *figure, float width, float height) {

@@ -1,9 +1,9 @@
 /*
- * All meshes in one call: none, an empty one, one with all its lists and with some of them, in any
- * order, between objects without a mesh and unknown chunks; empty lists, which are there; fewer
- * mapping pairs than vertices; faults of the file; rooms of just what is needed, of less and of a
- * part of a mesh more; and the most meshes that a file can have. All answers are written down here
- * by hand, from the rules.
+ * All meshes, and all boxes, in one call: none, an empty one, one with all its lists and with some
+ * of them, in any order, between objects without a mesh and unknown chunks; empty lists, which are
+ * there; fewer mapping pairs than vertices; faults of the file; rooms of just what is needed, of
+ * less and of a part of a mesh more; and the most meshes that a file can have. All answers are
+ * written down here by hand, from the rules.
  */
 #include "all_meshes_cases.h"
 
@@ -22,7 +22,7 @@
 #define FIGURE(length) CHUNK(0x4D4D, 12 + (length)), CHUNK(0x3D3D, 6 + (length))
 
 /* AMPLE: room for more than any case has, so that a refusal has something to spoil. */
-enum { MOST_MESHES = 3, EMPTY_LENGTH = 13, AMPLE = (MOST_MESHES + 1) * TDS_MESH_BYTES };
+enum { MOST_MESHES = 3, EMPTY_LENGTH = 13, AMPLE = (MOST_MESHES + 1) * TDS_BOX_BYTES };
 
 static struct arena file_arena, meshes_arena;
 
@@ -179,12 +179,44 @@ static void try_room(size_t number, const uint8_t *file, size_t room, enum where
            "something else was changed");
 }
 
+/* Every coordinate of these files is 1: so is every number of a box; without vertices it is 0. */
+static void judge_box(const uint8_t *box, size_t mesh, uint32_t vertices) {
+    uint32_t right = vertices == 0 ? 0 : 0x3F800000u;
+    for (size_t number = 0; number < TDS_BOX_NUMBERS; number++) {
+        uint32_t is = tds_get4(box + 4 * number);
+        if (is != right) {
+            expect(0, "number %zu of box %zu is %lx instead of %lx", number, mesh,
+                   (unsigned long)is, (unsigned long)right);
+        }
+    }
+}
+
+static void try_boxes(size_t number, const uint8_t *file, size_t room, enum where where) {
+    uint64_t right = cases[number].refusal != 0 ? cases[number].refusal
+                     : room / TDS_BOX_BYTES < cases[number].meshes
+                         ? REFUSAL(15, cases[number].meshes)
+                         : cases[number].meshes;
+    size_t filled = TDS_REFUSED(right) ? 0 : cases[number].meshes;
+    uint8_t *boxes = arena_lend(&meshes_arena, room, where);
+    trying("tds_boxes of %s into %zu bytes (%d)", cases[number].what, room, (int)where);
+    judge_answer(tds_boxes(file, cases[number].length, room == 0 ? NULL : boxes, room), right);
+    for (size_t i = 0; i < filled; i++) {
+        judge_box(boxes + i * TDS_BOX_BYTES, i, cases[number].right[i][TDS_MESH_VERTICES]);
+    }
+    expect(arena_alive(&meshes_arena, boxes, filled * TDS_BOX_BYTES), "something else was changed");
+}
+
 static void try_one(size_t number, enum where where) {
     size_t all = cases[number].meshes * TDS_MESH_BYTES;
+    size_t boxes = cases[number].meshes * TDS_BOX_BYTES;
     const size_t rooms[] = {all, all - (all > 0), all + TDS_MESH_BYTES - 1, all / 2, 0, AMPLE};
+    const size_t box_rooms[] = {boxes, boxes - (boxes > 0), boxes + TDS_BOX_BYTES - 1, 0, AMPLE};
     const uint8_t *file = arena_hold(&file_arena, cases[number].file, cases[number].length, where);
     EACH(i, rooms) {
         try_room(number, file, rooms[i], where);
+    }
+    EACH(i, box_rooms) {
+        try_boxes(number, file, box_rooms[i], where);
     }
 }
 
@@ -202,6 +234,19 @@ static uint8_t *empty_meshes(size_t count) {
     return file;
 }
 
+static void try_most_boxes(const uint8_t *file, size_t length, size_t count) {
+    size_t all = TDS_BOX_BYTES * count;
+    struct arena arena = arena_make(all + 2);
+    uint8_t *boxes = arena_lend(&arena, all - 1, AT_END);
+    judge_answer(tds_boxes(file, length, boxes, all - 1), REFUSAL(15, count));
+    expect(arena_alive(&arena, boxes, 0), "a refusal changed something");
+    boxes = arena_lend(&arena, all, AT_END);
+    judge_answer(tds_boxes(file, length, boxes, all), count);
+    for (size_t i = 0; i < count; i++) {
+        judge_box(boxes + i * TDS_BOX_BYTES, i, 0);
+    }
+}
+
 static void try_most(size_t count) {
     size_t length = 12 + EMPTY_LENGTH * count, all = TDS_MESH_BYTES * count;
     struct arena arena = arena_make(all + 2);
@@ -215,6 +260,7 @@ static void try_most(size_t count) {
         const uint32_t right[TDS_MESH_NUMBERS] = {(uint32_t)(18 + EMPTY_LENGTH * i)};
         judge_mesh(meshes, i, right);
     }
+    try_most_boxes(file, length, count);
     free(file);
 }
 

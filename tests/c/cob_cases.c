@@ -36,6 +36,7 @@ static void try_refused(const uint8_t *file, size_t length, uint64_t right) {
     judge_call("tds_cob_list", tds_cob_list(file, length, row, 4096), right);
     judge_call("tds_cob_sizes", tds_cob_sizes(file, length, 0, row, 4096), right);
     judge_call("tds_cob_tables", tds_cob_tables(file, length, 0, row, 4096, second, 4096), right);
+    judge_call("tds_cob_meshes", tds_cob_meshes(file, length, row, 4096), right);
     untouched("a call", &row_arena, row);
     untouched("tds_cob_tables", &second_arena, second);
 }
@@ -144,6 +145,32 @@ static void try_sizes(const uint8_t *file, size_t length, uint32_t mesh, uint32_
     }
 }
 
+/* All meshes, of which the numbers are written down here, and a quarter turn about z at each. */
+static void try_meshes(const uint8_t *file, size_t length, const uint32_t (*right)[8], size_t count,
+                       size_t room) {
+    static const float position[] = {0, -1, 0, 2, 1, 0, 0, -0.5f, 0, 0, 1, 0.25f};
+    uint8_t *row = arena_lend(&row_arena, room, AT_END);
+    uint64_t answer = tds_cob_meshes(file, length, row, room);
+    if (room / TDS_COB_MESH_BYTES < count) {
+        judge_call("tds_cob_meshes", answer, REFUSAL(15, count));
+        untouched("tds_cob_meshes", &row_arena, row);
+        return;
+    }
+    judge_call("tds_cob_meshes", answer, count);
+    for (size_t mesh = 0; mesh < count; mesh++) {
+        for (int number = 0; number < TDS_COB_MESH_NUMBERS; number++) {
+            uint32_t found = tds_get_cob_mesh(row, mesh, (enum tds_cob_mesh)number);
+            expect(found == right[mesh][number], "mesh %zu has %lu for number %d and not %lu", mesh,
+                   (unsigned long)found, number, (unsigned long)right[mesh][number]);
+        }
+        const uint8_t *matrix = file + tds_get_cob_mesh(row, mesh, TDS_COB_MESH_POSITION);
+        for (size_t i = 0; i < 12; i++) {
+            expect(tds_get_float(matrix + 4 * i) == position[i], "another current position");
+        }
+    }
+    expect(arena_alive(&row_arena, row, count * TDS_COB_MESH_BYTES), "it writes elsewhere too");
+}
+
 static void try_no_mesh(const uint8_t *file, size_t length, uint32_t mesh, uint32_t meshes) {
     uint8_t *row = arena_lend(&row_arena, 100, IN_MIDDLE);
     uint8_t *second = arena_lend(&second_arena, 0, AT_END);
@@ -153,8 +180,11 @@ static void try_no_mesh(const uint8_t *file, size_t length, uint32_t mesh, uint3
     untouched("a call", &row_arena, row);
 }
 
+/* A square has two triangles and a face of four corners, which the tables leave out. */
 static void try_square(void) {
     static const uint32_t corners[] = {0, 1, 2, 0, 2, 3};
+    static const uint32_t meshes[2][8] = {{186, 5, 239, 4, 291, 3, 2, 1},
+                                          {474, 5, 527, 4, 579, 3, 2, 2}};
     static uint8_t bytes[65536];
     size_t length = read_sample("try-square.cob", bytes, sizeof bytes);
     const uint8_t *file = arena_hold(&file_arena, bytes, length, AT_START);
@@ -170,13 +200,17 @@ static void try_square(void) {
             try_tables(file, length, mesh, corners, 6, 48, room);
         }
     }
+    for (size_t room = 0; room < 3 * TDS_COB_MESH_BYTES; room++) {
+        try_meshes(file, length, meshes, 2, room);
+    }
+    expect(memcmp(file + meshes[0][TDS_COB_MESH_NAME], "blade", 5) == 0, "another name");
     try_no_mesh(file, length, 2, 2);
     try_no_mesh(file, length, 0xFFFFFFFFu, 2);
 }
 
 /* The face with the hole is not in the table. */
 static void try_gauge(void) {
-    static const uint32_t corners[] = {0, 2, 3};
+    static const uint32_t corners[] = {0, 2, 3}, meshes[1][8] = {{89, 13, 150, 4, 202, 2, 1, 0}};
     static uint8_t bytes[65536];
     size_t length = read_sample("marking-gauge.cob", bytes, sizeof bytes);
     const uint8_t *file = arena_hold(&file_arena, bytes, length, AT_END);
@@ -187,6 +221,7 @@ static void try_gauge(void) {
     expect(tds_get_cob_record(row, 0, TDS_COB_OWNER) == 7, "a private chunk owns the mesh");
     try_sizes(file, length, 0, 1);
     try_tables(file, length, 0, corners, 3, 48, 12);
+    try_meshes(file, length, meshes, 1, TDS_COB_MESH_BYTES);
     try_no_mesh(file, length, 1, 1);
 }
 

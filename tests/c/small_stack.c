@@ -45,6 +45,8 @@ static void *plain_calls(void *unused) {
     made(tds_counts(file, length, first, sizeof first));
     made(tds_name(file, length, 0, first, sizeof first));
     made(tds_box(file, length, 0, first, sizeof first));
+    made(tds_meshes(file, length, first, sizeof first));
+    made(tds_boxes(file, length, first, sizeof first));
     made(tds_parts(file, length, first, sizeof first));
     made(tds_write(file, 4, (const float *)(void *)row, 9, (const uint16_t *)(void *)row, 3, first,
                    sizeof first));
@@ -71,6 +73,7 @@ static void *caligari_calls(void *unused) {
     made(tds_cob_list(file, length, first, sizeof first));
     made(tds_cob_sizes(file, length, 0, first, sizeof first));
     made(tds_cob_tables(file, length, 0, first, sizeof first, second, sizeof second));
+    made(tds_cob_meshes(file, length, first, sizeof first));
     made(tds_stick_file((const uint8_t *)"a.cob", 5, length, file, length, second, TDS_ITEM_BYTES));
     return unused;
 }
