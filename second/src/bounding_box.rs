@@ -1,7 +1,8 @@
-//! The box of one mesh: the low and high corner, the first in file order
-//! among equals, and the centre between them.
+//! The box of one mesh, and those of all: the low and high corner, the first
+//! in file order among equals, and the centre between them.
 
-use crate::judge::find;
+use crate::judge::{find, found};
+use crate::own::Entries;
 use crate::{Number, Refusal};
 
 /// Two corners and the centre, each x, y, z.
@@ -16,6 +17,20 @@ pub struct BoundingBox {
 pub fn bounding_box(file: &[u8], mesh: u32) -> Result<BoundingBox, Refusal> {
     let vertices = find(file, mesh)?.mesh.vertices;
     Number::Empty.unless(vertices.count > 0, 0)?;
+    Ok(around(file, vertices))
+}
+
+/// The boxes of all meshes, in file order; none for one with no vertices.
+pub fn boxes(file: &[u8]) -> Result<Vec<Option<BoundingBox>>, Refusal> {
+    let meshes = found(file)?;
+    let vertices = meshes.iter().map(|found| found.mesh.vertices);
+    Ok(vertices
+        .map(|vertices| (vertices.count > 0).then(|| around(file, vertices)))
+        .collect())
+}
+
+/// The box of some vertices, of which there is at least one.
+fn around(file: &[u8], vertices: Entries) -> BoundingBox {
     let start = vertices.start();
     let points = file[start..start + 12 * vertices.count].as_chunks::<12>().0;
     let first = point(points[0]);
@@ -29,7 +44,7 @@ pub fn bounding_box(file: &[u8], mesh: u32) -> Result<BoundingBox, Refusal> {
         }
     }
     let centre = std::array::from_fn(|axis| low[axis] * 0.5 + high[axis] * 0.5);
-    Ok(BoundingBox { low, high, centre })
+    BoundingBox { low, high, centre }
 }
 
 /// The three floats of a vertex.

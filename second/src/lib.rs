@@ -25,7 +25,7 @@ mod tables;
 mod version;
 mod writer;
 
-pub use bounding_box::{bounding_box, BoundingBox};
+pub use bounding_box::{bounding_box, boxes, BoundingBox};
 pub use c4d::{read_c4d, C4d};
 pub use cob::{read_cob, Cob, CobMesh, CobRecord};
 pub use figures::{write_figure, Figure, Group, Material, Object};

@@ -1,10 +1,13 @@
 //! The calls over Caligari figures.
 
-use super::{answer, few, put, Second};
+use super::{answer, few, many, put, Second};
 use crate::{read_cob, Cob, CobMesh, Number, Refusal};
 
 /// The bytes of one record on the boundary.
 pub const COB_RECORD_BYTES: usize = 24;
+
+/// The bytes of what is told of one mesh on the boundary.
+pub const COB_MESH_BYTES: usize = 32;
 
 /// The calls over Caligari figures.
 pub trait Cobs {
@@ -16,6 +19,8 @@ pub trait Cobs {
     fn cob_sizes(&self, file: &[u8], mesh: u32, sizes: &mut [u8]) -> u64;
     /// The count of vertices, now in the slices with the corners.
     fn cob_tables(&self, file: &[u8], mesh: u32, vertices: &mut [u8], corners: &mut [u8]) -> u64;
+    /// The count of meshes, what is told of them now in the slice.
+    fn cob_meshes(&self, file: &[u8], meshes: &mut [u8]) -> u64;
 }
 
 impl Cobs for Second {
@@ -33,6 +38,10 @@ impl Cobs for Second {
 
     fn cob_tables(&self, file: &[u8], mesh: u32, vertices: &mut [u8], corners: &mut [u8]) -> u64 {
         cob_tables_of(read_cob(file), mesh, vertices, corners)
+    }
+
+    fn cob_meshes(&self, file: &[u8], meshes: &mut [u8]) -> u64 {
+        cob_meshes_of(read_cob(file), meshes)
     }
 }
 
@@ -77,6 +86,12 @@ pub(crate) fn cob_tables_of(
     }))
 }
 
+/// What is told of all meshes of what was read.
+pub(crate) fn cob_meshes_of(read: Result<Cob, Refusal>, meshes: &mut [u8]) -> u64 {
+    let each = |cob: Cob| cob.meshes.iter().map(|mesh| mesh.told).collect();
+    many(read.map(each), meshes)
+}
+
 /// A mesh of what was read; the file's own fault comes first.
 fn find(read: Result<Cob, Refusal>, mesh: u32) -> Result<CobMesh, Refusal> {
     let mut meshes = read?.meshes;
@@ -111,6 +126,7 @@ mod linked {
             corners: *mut u8,
             corners_len: usize,
         ) -> u64;
+        fn tds_cob_meshes(file: *const u8, file_len: usize, meshes: *mut u8, len: usize) -> u64;
     }
 
     // As for the calls over figures: the slices live through each call.
@@ -143,6 +159,12 @@ mod linked {
             let (vertices, corners) = (lend(vertices, &mut some), lend(corners, &mut more));
             let (file, len) = (read(file, &[0]), file.len());
             unsafe { tds_cob_tables(file, len, mesh, vertices, n, corners, c) }
+        }
+
+        fn cob_meshes(&self, file: &[u8], meshes: &mut [u8]) -> u64 {
+            let (len, mut some) = (meshes.len(), [0; 8]);
+            let meshes = lend(meshes, &mut some);
+            unsafe { tds_cob_meshes(read(file, &[0]), file.len(), meshes, len) }
         }
     }
 }

@@ -51,6 +51,7 @@ extern "C" {
         mapping_len: usize,
     ) -> u64;
     fn tds_meshes(file: *const u8, file_len: usize, meshes: *mut u8, meshes_len: usize) -> u64;
+    fn tds_boxes(file: *const u8, file_len: usize, boxes: *mut u8, boxes_len: usize) -> u64;
     fn tds_rescue(
         file: *const u8,
         file_len: usize,
@@ -155,6 +156,12 @@ impl Boundary for Tds {
         let (len, mut some) = (numbers.len(), [0; 8]);
         let numbers = lend(numbers, &mut some);
         unsafe { tds_meshes(read(file, &[0]), file.len(), numbers, len) }
+    }
+
+    fn boxes(&self, file: &[u8], floats: &mut [u8]) -> u64 {
+        let (len, mut some) = (floats.len(), [0; 8]);
+        let floats = lend(floats, &mut some);
+        unsafe { tds_boxes(read(file, &[0]), file.len(), floats, len) }
     }
 
     fn rescue(&self, file: &[u8], cuts: &mut [u8], out: &mut [u8]) -> u64 {

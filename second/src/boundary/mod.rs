@@ -11,16 +11,18 @@ mod sums;
 
 pub(crate) use c4ds::c4d_list_of;
 pub use c4ds::{C4ds, OBJECT_BYTES};
-pub(crate) use cobs::{cob_list_of, cob_sizes_of, cob_tables_of};
-pub use cobs::{Cobs, COB_RECORD_BYTES};
+pub(crate) use cobs::{cob_list_of, cob_meshes_of, cob_sizes_of, cob_tables_of};
+pub use cobs::{Cobs, COB_MESH_BYTES, COB_RECORD_BYTES};
 pub use figures::{Figures, Rows};
 pub use slips::{Slips, ENTRY_BYTES};
 pub use sticks::Sticks;
 pub(crate) use sticks::{numbers_of, set};
 pub use sums::Summing;
 
-use crate::{bounding_box, check, list, mapping, meshes, name, parts, rescue, tables, write};
-use crate::{Cut, MeshPlaces, Number, Refusal, RECORD};
+use crate::{
+    bounding_box, boxes, check, list, mapping, meshes, name, parts, rescue, tables, write,
+};
+use crate::{BoundingBox, Cut, MeshPlaces, Number, Refusal, RECORD};
 
 /// The bytes of one record on the boundary.
 pub const RECORD_BYTES: usize = 4 * RECORD;
@@ -30,6 +32,9 @@ pub const PART_BYTES: usize = 8;
 
 /// The bytes of one mesh's places on the boundary.
 pub const PLACES_BYTES: usize = 32;
+
+/// The bytes of one box on the boundary.
+pub const BOX_BYTES: usize = 36;
 
 /// The bytes of one cut on the boundary.
 pub const CUT_BYTES: usize = 12;
@@ -103,6 +108,8 @@ pub trait Boundary {
     fn parts(&self, file: &[u8], numbers: &mut [u8]) -> u64;
     /// The count of meshes, where they stand now in the slice.
     fn meshes(&self, file: &[u8], numbers: &mut [u8]) -> u64;
+    /// The count of meshes, their boxes and centres now in the slice.
+    fn boxes(&self, file: &[u8], floats: &mut [u8]) -> u64;
     /// The count of cuts, now in the slice, and the mended figure in the other.
     fn rescue(&self, file: &[u8], cuts: &mut [u8], out: &mut [u8]) -> u64;
 }
@@ -173,15 +180,7 @@ impl Boundary for Second {
     }
 
     fn bounding_box(&self, file: &[u8], mesh: u32, floats: &mut [u8]) -> u64 {
-        let nine = bounding_box(file, mesh).map(|found| {
-            let corners = [found.low, found.high, found.centre];
-            let mut nine = [0; 9];
-            for (slot, float) in nine.iter_mut().zip(corners.as_flattened()) {
-                *slot = float.to_bits();
-            }
-            nine
-        });
-        few(nine, floats)
+        few(bounding_box(file, mesh).map(nine), floats)
     }
 
     fn write(&self, name: &[u8], vertices: &[f32], corners: &[u16], out: &mut [u8]) -> u64 {
@@ -213,6 +212,14 @@ impl Boundary for Second {
         many(each, numbers)
     }
 
+    fn boxes(&self, file: &[u8], floats: &mut [u8]) -> u64 {
+        let each = |all: Vec<Option<BoundingBox>>| {
+            let all = all.into_iter();
+            all.map(|found| found.map_or([0; 9], nine)).collect()
+        };
+        many(boxes(file).map(each), floats)
+    }
+
     fn rescue(&self, file: &[u8], cuts: &mut [u8], out: &mut [u8]) -> u64 {
         let rescued = rescue(file).and_then(|rescued| {
             let (count, size) = (rescued.cuts.len(), rescued.figure.len());
@@ -224,6 +231,16 @@ impl Boundary for Second {
         let three = |cut: &Cut| [cut.offset as u32, cut.number, cut.bytes as u32];
         many(rescued.map(|all| all.iter().map(three).collect()), cuts)
     }
+}
+
+/// The nine numbers of a box.
+fn nine(found: BoundingBox) -> [u32; 9] {
+    let corners = [found.low, found.high, found.centre];
+    let mut nine = [0; 9];
+    for (slot, float) in nine.iter_mut().zip(corners.as_flattened()) {
+        *slot = float.to_bits();
+    }
+    nine
 }
 
 /// The eight numbers of a mesh.

@@ -4,8 +4,8 @@
 use super::{CobMesh, Kind};
 use crate::bytes::{all_finite, bits};
 
-/// Local axes and current position.
-const PLACED: usize = 48 + 48;
+/// Local axes, or current position: three rows of four floats.
+const MATRIX: usize = 48;
 
 /// Material number, shader, facet and angle, then eight floats.
 const MATERIAL: usize = 5 + 32;
@@ -25,6 +25,8 @@ pub enum Body<'a> {
 
 /// What stands in a PolH.
 pub struct Polygons<'a> {
+    /// The bytes of its name.
+    name: usize,
     vertices: &'a [u8],
     textures: &'a [u8],
     faces: Vec<Face<'a>>,
@@ -43,7 +45,7 @@ pub fn body(kind: Kind, bytes: &[u8]) -> Option<(Body<'_>, usize)> {
     let mut found = Body::Other;
     match kind {
         Kind::End => (),
-        Kind::Group => rest.placed()?,
+        Kind::Group => drop(rest.placed()?),
         Kind::Polygons => found = Body::Polygons(rest.polygons()?),
         Kind::Material => rest.material()?,
     }
@@ -78,21 +80,22 @@ impl<'a> Rest<'a> {
         usize::try_from(bits(bytes).next()? as i32).ok()
     }
 
-    /// Length and bytes of a string.
-    fn string(&mut self) -> Option<()> {
+    /// Length and bytes of a string; how many bytes.
+    fn string(&mut self) -> Option<usize> {
         let length = self.short()?;
-        self.take(length).map(|_| ())
+        self.take(length).map(<[u8]>::len)
     }
 
-    /// Name, local axes, current position.
-    fn placed(&mut self) -> Option<()> {
+    /// Name, local axes, current position; how many bytes the name has.
+    fn placed(&mut self) -> Option<usize> {
         let _dupecount = self.short()?;
-        self.string()?;
-        self.take(PLACED).map(|_| ())
+        let name = self.string()?;
+        self.take(2 * MATRIX)?;
+        Some(name)
     }
 
     fn polygons(&mut self) -> Option<Polygons<'a>> {
-        self.placed()?;
+        let name = self.placed()?;
         let vertices = self.counted(12)?;
         let textures = self.counted(8)?;
         let count = self.long()?;
@@ -101,6 +104,7 @@ impl<'a> Rest<'a> {
             faces.push(self.face()?);
         }
         Some(Polygons {
+            name,
             vertices,
             textures,
             faces,
@@ -148,8 +152,9 @@ impl Polygons<'_> {
         self.faces.first().is_none_or(|face| !face.hole) && self.faces.iter().all(good)
     }
 
-    /// The tables of faces with three corners and no holes.
-    pub fn mesh(&self) -> CobMesh {
+    /// The tables of faces with three corners and no holes, and what is told
+    /// of a body at an offset whose chunk has a record of a number.
+    pub fn mesh(&self, at: usize, record: usize) -> CobMesh {
         let mut corners = Vec::new();
         let mut faces = self.faces.iter().peekable();
         while let Some(face) = faces.next() {
@@ -158,9 +163,23 @@ impl Polygons<'_> {
                 corners.extend(bits(face.corners).step_by(2));
             }
         }
+        // Behind the dupecount and the length of the name.
+        let name = at + 4;
+        let position = name + self.name + MATRIX;
+        let told = [
+            name,
+            self.name,
+            position,
+            self.vertices.len() / 12,
+            position + MATRIX + 4,
+            self.faces.iter().filter(|face| !face.hole).count(),
+            corners.len() / 3,
+            record,
+        ];
         CobMesh {
             vertices: bits(self.vertices).collect(),
             corners,
+            told: told.map(|number| number as u32),
         }
     }
 }

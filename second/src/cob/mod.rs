@@ -32,6 +32,10 @@ pub struct CobMesh {
     /// The bits of the floats.
     pub vertices: Vec<u32>,
     pub corners: Vec<u32>,
+    /// Where its name stands and how long that is; where its current position
+    /// stands; its vertices, and where the first float stands; its faces, and
+    /// those in the table; the number of its record.
+    pub told: [u32; 8],
 }
 
 /// What is read from a file.
@@ -62,7 +66,7 @@ pub fn read_cob(file: &[u8]) -> Result<Cob, Refusal> {
         let owner = header.owner(&owners);
         let end = header.kind == Some(Kind::End);
         Number::Owner.unless(end || owner.is_some(), at)?;
-        let length = header.length(&file[at + HEADER..], at, &mut cob.meshes)?;
+        let length = header.length(&file[at + HEADER..], at, &mut cob)?;
         cob.records.extend(header.record(at, length, owner));
         at += length;
         if end {
@@ -107,7 +111,7 @@ impl Header {
 
     /// The length with header of a chunk that such bytes follow, or 22 and
     /// what its body is refused with; a mesh is put to the others.
-    fn length(&self, bytes: &[u8], at: usize, meshes: &mut Vec<CobMesh>) -> Result<usize, Refusal> {
+    fn length(&self, bytes: &[u8], at: usize, cob: &mut Cob) -> Result<usize, Refusal> {
         let open = matches!(self.kind, Some(Kind::End | Kind::Group | Kind::Polygons));
         Number::Size.unless(self.size >= 0 || (self.size == -1 && open), at)?;
         let stated = usize::try_from(self.size).ok();
@@ -120,7 +124,8 @@ impl Header {
         if let Body::Polygons(polygons) = found {
             Number::Number.unless(polygons.finite(), at)?;
             Number::Index.unless(polygons.indices_below_counts(), at)?;
-            meshes.push(polygons.mesh());
+            let record = cob.records.len();
+            cob.meshes.push(polygons.mesh(at + HEADER, record));
         }
         Ok(HEADER + length)
     }

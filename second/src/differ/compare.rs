@@ -5,7 +5,7 @@ use super::lent::{inside, spoken, Buffers, Difference, Lender, Lent};
 use super::random::Random;
 use super::run::{count, Tally, NO_CASE};
 use crate::boundary::{refusal, Boundary, Chunk};
-use crate::boundary::{CUT_BYTES, PART_BYTES, PLACES_BYTES, RECORD_BYTES};
+use crate::boundary::{BOX_BYTES, CUT_BYTES, PART_BYTES, PLACES_BYTES, RECORD_BYTES};
 use crate::{rescue, RECORD};
 
 /// One call, with the bytes it lends; of a row and a table, the elements.
@@ -21,6 +21,7 @@ pub enum Call {
     Mapping(u32, usize),
     Parts(usize),
     Meshes(usize),
+    Boxes(usize),
     /// Cuts, and the mended figure.
     Rescue(usize, usize),
 }
@@ -77,6 +78,7 @@ fn make(side: &impl Boundary, file: &[u8], call: Call, buffers: &mut Buffers) ->
         Call::Mapping(mesh, _) => side.mapping(file, mesh, first),
         Call::Parts(_) => side.parts(file, first),
         Call::Meshes(_) => side.meshes(file, first),
+        Call::Boxes(_) => side.boxes(file, first),
         Call::Rescue(..) => side.rescue(file, first, second),
     }
 }
@@ -115,7 +117,7 @@ impl Call {
         match self {
             Call::Check => [0, 0],
             Call::List(bytes) | Call::Counts(bytes) => [bytes, 0],
-            Call::Parts(bytes) | Call::Meshes(bytes) => [bytes, 0],
+            Call::Parts(bytes) | Call::Meshes(bytes) | Call::Boxes(bytes) => [bytes, 0],
             Call::Records(row, table) => [4 * row, RECORD_BYTES * table],
             Call::Name(_, bytes) | Call::Box(_, bytes) | Call::Mapping(_, bytes) => [bytes, 0],
             Call::Tables(_, vertices, corners) => [vertices, corners],
@@ -132,6 +134,7 @@ impl Call {
             Call::List(_) => [RECORD_BYTES * count, 0],
             Call::Parts(_) => [PART_BYTES * count, 0],
             Call::Meshes(_) => [PLACES_BYTES * count, 0],
+            Call::Boxes(_) => [BOX_BYTES * count, 0],
             Call::Rescue(..) => {
                 let mended = rescue(file).map_or(0, |rescued| rescued.figure.len());
                 [CUT_BYTES * count, mended]
@@ -173,6 +176,10 @@ impl<L: Boundary, R: Boundary> Pair<L, R> {
             places + random.below(40),
         ] {
             self.ask(file, Call::Meshes(bytes))?;
+        }
+        let boxes = BOX_BYTES * count as usize;
+        for bytes in [0, boxes.saturating_sub(1), boxes, boxes + random.below(44)] {
+            self.ask(file, Call::Boxes(bytes))?;
         }
         self.meshes(file, count, random)?;
         Ok(answer)
@@ -277,7 +284,7 @@ impl<L: Boundary, R: Boundary> Pair<L, R> {
 }
 
 /// All calls but the check, with rooms as they come.
-fn some_calls(random: &mut Random) -> [Call; 9] {
+fn some_calls(random: &mut Random) -> [Call; 10] {
     let mesh = random.pick(&[0, 1, 2, u32::MAX]);
     [
         Call::List(random.below(200)),
@@ -289,5 +296,6 @@ fn some_calls(random: &mut Random) -> [Call; 9] {
         Call::Mapping(mesh, random.below(20)),
         Call::Parts(random.below(20)),
         Call::Meshes(random.below(80)),
+        Call::Boxes(random.below(90)),
     ]
 }

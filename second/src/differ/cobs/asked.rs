@@ -2,7 +2,7 @@
 //! and larger, and against what is to be said of a file.
 
 use super::grow::File;
-use crate::boundary::{refusal, Cobs, COB_RECORD_BYTES};
+use crate::boundary::{refusal, Cobs, COB_MESH_BYTES, COB_RECORD_BYTES};
 use crate::differ::compare::Pair;
 use crate::differ::drafts::Asks;
 use crate::differ::facts::numbers;
@@ -17,13 +17,14 @@ enum Call {
     List(usize),
     Sizes(u32, usize),
     Tables(u32, usize, usize),
+    Meshes(usize),
 }
 
 impl Call {
     fn lent(self) -> [usize; 2] {
         match self {
             Call::Check => [0, 0],
-            Call::List(bytes) | Call::Sizes(_, bytes) => [bytes, 0],
+            Call::List(bytes) | Call::Sizes(_, bytes) | Call::Meshes(bytes) => [bytes, 0],
             Call::Tables(_, vertices, corners) => [vertices, corners],
         }
     }
@@ -38,6 +39,7 @@ impl Call {
             Call::List(_) => [COB_RECORD_BYTES * count, 0],
             Call::Sizes(..) => [4 * count, 0],
             Call::Tables(_, _, corners) => [12 * count, corners],
+            Call::Meshes(_) => [COB_MESH_BYTES * count, 0],
         }
     }
 
@@ -48,6 +50,7 @@ impl Call {
             Call::List(_) => side.cob_list(file, first),
             Call::Sizes(mesh, _) => side.cob_sizes(file, mesh, first),
             Call::Tables(mesh, ..) => side.cob_tables(file, mesh, first, second),
+            Call::Meshes(_) => side.cob_meshes(file, first),
         }
     }
 }
@@ -85,12 +88,17 @@ impl<L: Cobs, R: Cobs> Asks<File> for Pair<L, R> {
         }
         let count = ask(file, Call::Sizes(u32::MAX, 8), self)? as u32;
         if refusal(answer).is_some() {
+            ask(file, Call::Meshes(random.below(80)), self)?;
             ask(
                 file,
                 Call::Tables(random.below(2) as u32, random.below(50), random.below(50)),
                 self,
             )?;
             return Ok(answer);
+        }
+        let all = COB_MESH_BYTES * count as usize;
+        for room in [all, all.saturating_sub(1), all + random.below(40), 0] {
+            ask(file, Call::Meshes(room), self)?;
         }
         // 0 in fewer bits, and no mesh.
         let wide = 1 << random.from_to(16, 31);
@@ -160,7 +168,10 @@ fn all(side: &dyn Cobs, file: &[u8], expected: &Cob) -> Result<Cob, String> {
     let count = accepted(side.cob_list(file, &mut records))?;
     cob.records = numbers(&records);
     cob.records.truncate(count);
-    for (number, mesh) in expected.meshes.iter().enumerate() {
+    let mut meshes = vec![0; COB_MESH_BYTES * expected.meshes.len()];
+    let count = accepted(side.cob_meshes(file, &mut meshes))?;
+    let told = &numbers::<8>(&meshes)[..count.min(expected.meshes.len())];
+    for (number, (mesh, told)) in expected.meshes.iter().zip(told).enumerate() {
         let rows = [&mesh.vertices, &mesh.corners];
         let [mut vertices, mut corners] = rows.map(|row| vec![0; 4 * row.len()]);
         let n = accepted(side.cob_tables(file, number as u32, &mut vertices, &mut corners))?;
@@ -172,7 +183,11 @@ fn all(side: &dyn Cobs, file: &[u8], expected: &Cob) -> Result<Cob, String> {
         if sizes != [n, rows[1].len() / 3].map(|size| size as u32) {
             return Err(format!("sizes {sizes:?} of mesh {number}"));
         }
-        cob.meshes.push(CobMesh { vertices, corners });
+        cob.meshes.push(CobMesh {
+            vertices,
+            corners,
+            told: *told,
+        });
     }
     Ok(cob)
 }

@@ -1,7 +1,7 @@
 //! This library over Caligari figures with one error, to see that the cases
 //! that show it are met; without one it is this library.
 
-use crate::boundary::{cob_list_of, cob_sizes_of, cob_tables_of, Cobs};
+use crate::boundary::{cob_list_of, cob_meshes_of, cob_sizes_of, cob_tables_of, Cobs};
 use crate::{read_cob, Cob, Number, Refusal};
 
 listed! {
@@ -11,6 +11,7 @@ listed! {
     OpenSizeRefused LastMeshLost EmptyMeshLost FacesAllWithoutHoles MinusZeroLost
     OpenBodyBeyond StrayHeaderMissing TrailingAtLength NegativeSizeIsLength
     OwnerOfUnlistedFree MeshFaultsExchanged
+    PositionIsAxes FacesAreThoseTabled RecordIsMesh NameWithCount
 }
 
 /// This library, with an error or without.
@@ -34,6 +35,10 @@ impl Cobs for Erring {
 
     fn cob_tables(&self, file: &[u8], mesh: u32, vertices: &mut [u8], corners: &mut [u8]) -> u64 {
         cob_tables_of(self.read(file), mesh, vertices, corners)
+    }
+
+    fn cob_meshes(&self, file: &[u8], meshes: &mut [u8]) -> u64 {
+        cob_meshes_of(self.read(file), meshes)
     }
 }
 
@@ -71,6 +76,16 @@ fn misread(error: Error, file: &[u8], mut cob: Cob) -> Result<Cob, Refusal> {
             Error::OpenSizeRefused if *identifier != 0 && size(file, *at as usize) == -1 => {
                 return Err(Number::Size.at(*at as usize));
             }
+            _ => (),
+        }
+    }
+    for (number, mesh) in cob.meshes.iter_mut().enumerate() {
+        let [name, _, position, _, _, faces, tabled, record] = &mut mesh.told;
+        match error {
+            Error::PositionIsAxes => *position -= 48,
+            Error::FacesAreThoseTabled => *faces = *tabled,
+            Error::RecordIsMesh => *record = number as u32,
+            Error::NameWithCount => *name -= 2,
             _ => (),
         }
     }

@@ -182,12 +182,12 @@ impl File {
                 b"END " => [0; 3],
                 _ => [chunk.identifier, chunk.parent, owner],
             };
+            if let (Body::Mesh(mesh), Some(_)) = (&chunk.body, chunk.kind()) {
+                cob.meshes.push(mesh.read(at, cob.records.len()));
+            }
             if let Some(letters) = chunk.kind() {
                 cob.records
                     .push([letters, at as u32, length as u32, who[0], who[1], who[2]]);
-            }
-            if let (Body::Mesh(mesh), Some(_)) = (&chunk.body, chunk.kind()) {
-                cob.meshes.push(mesh.read());
             }
             at += length;
         }
@@ -374,8 +374,9 @@ impl Mesh {
         bytes
     }
 
-    /// The tables that are to be read.
-    fn read(&self) -> CobMesh {
+    /// The tables that are to be read, and what is to be told of the mesh
+    /// whose chunk stands at an offset, where so many records come before.
+    fn read(&self, at: usize, record: usize) -> CobMesh {
         let hole = |face: &Face| face.flags & 8 != 0;
         let mut corners = Vec::new();
         for (number, face) in self.faces.iter().enumerate() {
@@ -384,9 +385,22 @@ impl Mesh {
                 corners.extend(face.corners.iter().map(|pair| pair[0]));
             }
         }
+        // Header, dupecount and length before the name; two matrices behind it.
+        let behind = at + 20 + self.placed.len();
+        let told = [
+            at + 24,
+            self.placed.len() - 100,
+            behind - 48,
+            self.vertices.len() / 3,
+            behind + 4,
+            self.faces.iter().filter(|face| !hole(face)).count(),
+            corners.len() / 3,
+            record,
+        ];
         CobMesh {
             vertices: self.vertices.clone(),
             corners,
+            told: told.map(|number| number as u32),
         }
     }
 }

@@ -1,7 +1,7 @@
 //! Every call over one file, with just the room that is needed, a byte less
 //! and a byte more; of every mesh, and of some that are not there.
 
-use crate::boundary::{refusal, Boundary, PART_BYTES, PLACES_BYTES, RECORD_BYTES};
+use crate::boundary::{refusal, Boundary, BOX_BYTES, PART_BYTES, PLACES_BYTES, RECORD_BYTES};
 use crate::differ::compare::{Call, Pair};
 use crate::differ::lent::Difference;
 use crate::differ::random::Random;
@@ -35,6 +35,7 @@ pub fn all<L: Boundary, R: Boundary>(
     around(file, parts, pair, Call::Parts)?;
     let count = pair.ask(file, Call::Name(u32::MAX, 8))? as u32;
     around(file, PLACES_BYTES * count as usize, pair, Call::Meshes)?;
+    around(file, BOX_BYTES * count as usize, pair, Call::Boxes)?;
     for mesh in count..count + 3 {
         absent(file, mesh, pair)?;
     }

@@ -82,6 +82,10 @@ impl Boundary for Seeded {
         answer(self.placed(file, numbers))
     }
 
+    fn boxes(&self, file: &[u8], floats: &mut [u8]) -> u64 {
+        answer(self.all_boxed(file, floats))
+    }
+
     fn rescue(&self, file: &[u8], cuts: &mut [u8], out: &mut [u8]) -> u64 {
         answer(self.mended(file, cuts, out))
     }
@@ -261,6 +265,34 @@ impl Seeded {
         });
         let bytes = places.flatten().flat_map(|number| number.to_le_bytes());
         put(numbers, &bytes.collect::<Vec<u8>>());
+        Ok(needed)
+    }
+
+    fn all_boxed(self, file: &[u8], floats: &mut [u8]) -> Result<usize, Refusal> {
+        let read = read(self, file)?;
+        let needed = read.meshes.len();
+        let part = if self.makes(Error::BoxesRoomOfPart) {
+            35
+        } else {
+            0
+        };
+        if (floats.len() + part) / 36 < needed {
+            let numbers = self.makes(Error::BoxesRoomInNumbers);
+            return Err(Number::NoRoom.at(if numbers { 9 * needed } else { needed }));
+        }
+        for (slot, mesh) in floats.as_chunks_mut::<36>().0.iter_mut().zip(&read.meshes) {
+            let mesh = match self.makes(Error::BoxesOfFirst) {
+                true => &read.meshes[0],
+                false => mesh,
+            };
+            match self.boxed(mesh) {
+                Err(_) if self.makes(Error::BoxesOfEmptyKept) => (),
+                nine => {
+                    let numbers = nine.unwrap_or([0; 9]).map(u32::to_le_bytes);
+                    put(slot, numbers.as_flattened());
+                }
+            }
+        }
         Ok(needed)
     }
 

@@ -82,6 +82,8 @@ errors! {
     PlacesOfChunk PlacesOfCount PlacesOfFewNone PlacesOfNameEnd PlacesTurned
     PlacesOfAbsent PlacesInNumbers PlacesRoomOfPart PlacesRoomInNumbers PlacesOfFirst PlacesOfPairsLast
 
+    BoxesOfFirst BoxesOfEmptyKept BoxesRoomOfPart BoxesRoomInNumbers
+
     CutFirstOnly CutBytesOfBody CutFigureLengthKept CutEditLengthKept CutInsideFirst
     CutBehindUnjudged CutOutsidePlace CutOfHeaderOnly CutUnlisted CutAtInner CutOfDeepHeader CutNumber
     CutRoomOfPart CutRoomOfOutputFirst CutWritesBeforeRefusing CutRestCleared CutWithoutVersion
