@@ -481,6 +481,53 @@ fn tables_have_the_triangles_without_holes() {
     }
 }
 
+/// What is told of a mesh named Cube whose chunk stands at an offset.
+fn told(at: usize, [vertices, faces, tabled, record]: [usize; 4]) -> Vec<u8> {
+    let position = at + 24 + 4 + 48;
+    let numbers = [
+        at + 24,
+        4,
+        position,
+        vertices,
+        position + 52,
+        faces,
+        tabled,
+        record,
+    ];
+    numbers.map(|number| (number as u32).to_le_bytes()).concat()
+}
+
+#[test]
+fn all_meshes_with_the_faces_that_are_left_out() {
+    let file = two_meshes();
+    let meshes = |room| both([room, 0], |side, meshes, _| side.cob_meshes(&file, meshes));
+    // Holes are no faces; of the second mesh four faces are in no table.
+    let second = 32 + 20 + triangle().len();
+    let known = [told(32, [3, 1, 1, 0]), told(second, [6, 6, 2, 1])].concat();
+    assert_eq!(meshes(64), (2, [known.clone(), vec![]]));
+    let more = [&known[..], &[0xA5; 31]].concat();
+    assert_eq!(meshes(95), (2, [more, vec![]]));
+    for room in [0, 32, 63] {
+        assert_eq!(meshes(room), (refused(15, 2), [vec![0xA5; room], vec![]]));
+    }
+}
+
+#[test]
+fn a_mesh_is_numbered_among_the_records() {
+    let group = sized(GROUP, [5, 0], &placed(b"g"));
+    let other = sized(OTHER, [6, 0], b"private");
+    let mesh = chunk(MESH, [7, 5], -1, &triangle());
+    let at = 32 + group.len() + other.len();
+    let file = file(&[group, other, mesh, end()]);
+    assert_eq!(
+        both([32, 0], |side, meshes, _| side.cob_meshes(&file, meshes)),
+        (1, [told(at, [3, 1, 1, 1]), vec![]])
+    );
+    let cut = &file[..file.len() - 1];
+    let answer = both([32, 0], |side, meshes, _| side.cob_meshes(cut, meshes)).0;
+    assert_eq!(answer, refused(5, cut.len() - 19));
+}
+
 #[test]
 fn tables_of_meshes_that_are_not_there() {
     let file = two_meshes();

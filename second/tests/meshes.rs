@@ -78,3 +78,35 @@ fn pairs_as_they_stand() {
     let known = bytes(&[[18, 0, 2, 33, 0, 0, 1, 65]]);
     assert_eq!(both(&file, 32), (1, known));
 }
+
+/// All boxes on both sides.
+fn boxes(file: &[u8], room: usize) -> (u64, Vec<u8>) {
+    let [left, right] = [&Second as &dyn Boundary, &Right::default()].map(|side| {
+        let mut lent = vec![0xA5; room];
+        (side.boxes(file, &mut lent), lent)
+    });
+    assert_eq!(right, left, "right, left");
+    left
+}
+
+#[test]
+fn every_box_and_zeros_without_vertices() {
+    let points = object(&[&vertices(&[-0.0, 1.0, -3.0, 0.0, -1.0, 5.0])]);
+    let file = figure(&[&object(&[]), &points, &object(&[&vertices(&[])])]);
+    // Of zero and minus zero the first; the centre is the sum of the halves.
+    let nine = [-0.0_f32, -1.0, -3.0, -0.0, 1.0, 5.0, -0.0, 0.0, 1.0];
+    let floats = [[0.0; 9], nine, [0.0; 9]].as_flattened().to_vec();
+    let known: Vec<u8> = floats.iter().flat_map(|f| f.to_le_bytes()).collect();
+    assert_eq!(boxes(&file, 108), (3, known.clone()));
+    let more = [&known[..], &[0xA5; 35]].concat();
+    assert_eq!(boxes(&file, 143), (3, more));
+    for room in [0, 72, 107] {
+        assert_eq!(boxes(&file, room), (refused(15, 3), vec![0xA5; room]));
+    }
+    let mut one = [0; 36];
+    assert_eq!(Second.bounding_box(&file, 1, &mut one), 9);
+    assert_eq!(one, known[36..72]);
+    assert_eq!(Second.bounding_box(&file, 2, &mut one), refused(17, 0));
+    assert_eq!(boxes(&file[..20], 108), (refused(5, 0), vec![0xA5; 108]));
+    assert_eq!(boxes(&figure(&[]), 0).0, 0);
+}
