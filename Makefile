@@ -10,7 +10,7 @@
 .DEFAULT_GOAL := run
 SHELL := /bin/bash
 .SHELLFLAGS := -o pipefail -c
-.PHONY: prove test gate rust-test differ fuzz real real-lib3ds turned bench bench-build c-check clean
+.PHONY: prove test gate rust-test differ fuzz real real-lib3ds real-assimp turned bench bench-build c-check clean
 
 prove:
 	rt check
@@ -55,15 +55,19 @@ real: export FOLDER_TO_READ = $(value FOLDER)
 real: differ
 	@test -n "$$FOLDER_TO_READ" || { echo 'make real FOLDER=folder-of-3ds-files (docs/REAL_FILES.md says where some are)'; exit 2; }
 	second/target/release/differ --real "$$FOLDER_TO_READ"
-	@if echo '#include <lib3ds/file.h>' | $(CC) -E - > /dev/null 2>&1; then $(MAKE) --no-print-directory -o target/staticlib/libtds.a real-lib3ds; \
-	else echo 'lib3ds is not here (Debian: lib3ds-dev): the files were not compared with what it reads'; fi
+	@$(MAKE) --no-print-directory -o target/staticlib/libtds.a real-lib3ds real-assimp
 
-# against lib3ds, another reader, where it is installed
-real-lib3ds: export FOLDER_TO_READ = $(value FOLDER)
-real-lib3ds: target/staticlib/libtds.a
+# against other readers, each where it is installed
+real-lib3ds: OTHER = lib3ds/file.h
+real-lib3ds: OTHER_LINK = -l3ds -lm
+real-assimp: OTHER = assimp/cimport.h
+real-assimp: OTHER_LINK = -lassimp
+real-lib3ds real-assimp: export FOLDER_TO_READ = $(value FOLDER)
+real-lib3ds real-assimp: real-%: target/staticlib/libtds.a
 	@mkdir -p $(BUILD)
-	@$(C_COMPILE) tests/real/lib3ds.c $(C_LIBRARY) -l3ds -lm -o $(BUILD)/lib3ds
-	@find "$$FOLDER_TO_READ" -iname '*.3ds' -exec $(BUILD)/lib3ds {} +
+	@if ! echo '#include <$(OTHER)>' | $(CC) -E - > /dev/null 2>&1; then echo '$* is not here: the files were not compared with what it reads'; \
+	else $(C_COMPILE) tests/real/$*.c $(C_LIBRARY) $(OTHER_LINK) -o $(BUILD)/$* && \
+	    find "$$FOLDER_TO_READ" -iname '*.3ds' -exec $(BUILD)/$* {} +; fi
 
 # what structure alone finds of turned bits, and that a slip finds all of them
 turned: differ samples

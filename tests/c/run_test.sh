@@ -8,7 +8,7 @@ lib=$(cd "$(dirname "$TDS_LIB")" && pwd)/$(basename "$TDS_LIB")
 tree=$T/tree
 mkdir -p "$tree/crates/tds/src" "$T/kit"
 touch -d '2001-01-01' "$tree/crates/tds/src/lib.rt" "$tree/crates.txt"
-ln -s "$PWD/Makefile" "$PWD/stick" "$PWD/packaging" "$PWD/include" "$PWD/samples" "$tree"
+ln -s "$PWD/Makefile" "$PWD/stick" "$PWD/packaging" "$PWD/include" "$PWD/samples" "$PWD/tests" "$tree"
 cat >"$T/kit/rt" <<END
 #!/bin/sh
 echo "\$*" >>'$T/asked'
@@ -128,6 +128,8 @@ printf '#!/bin/sh\necho "$#: $2"\n' >"$tree/second/target/release/differ"
 chmod +x "$tree/second/target/release/differ"
 (cd "$tree" && unset MAKEFLAGS MFLAGS MAKEOVERRIDES && PATH=$T/kit:$without && make --no-print-directory -o differ real FOLDER="$T/my stick") \
     >"$T/out" 2>"$T/err"
+status=$?
+status_is 0
 has out "2: $T/my stick"
 
 try 'a source has changed'
