@@ -58,7 +58,7 @@ relative() {
 
 put() {
     if [ "$1" = link ]; then
-        mkdir -p "$(dirname "$DESTDIR$3")"
+        install -d "$(dirname "$DESTDIR$3")"
         ln -sfn "$2" "$DESTDIR$3"
     else
         install -D -m "$1" "$2" "$DESTDIR$3"

@@ -105,6 +105,13 @@ made BUILD="$BUILD" uninstall PREFIX="$odd/tds"
 status_is 0
 if [ "$(find "$odd" ! -type d)" = "$odd/libtds.a" ]; then pass; else fail "$(find "$odd" ! -type d)"; fi
 
+try 'others can read what someone with a strict umask installs'
+(umask 077 && made BUILD="$BUILD" install DESTDIR="$T/strict" PREFIX=/usr && exit "$status")
+status=$?
+status_is 0
+chmod 755 "$T/strict"
+if [ -z "$(find "$T/strict" ! -type l ! -perm -o=r)" ]; then pass; else fail "$(find "$T/strict" ! -type l ! -perm -o=r | head -n 3)"; fi
+
 try 'the tool was linked with a library from elsewhere: what is missing is named'
 made BUILD="$BUILD" install DESTDIR="$T/none" TDS_LIB="$T/not here/libtds.a"
 status_is 2
