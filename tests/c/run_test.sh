@@ -111,7 +111,7 @@ lines out 1
 
 try 'a warning of the compiler ends the gate, and nothing else'
 rm "$tree/build/c/stick/text.o"
-make_run "$T/kit" CFLAGS='-O0 -Wtraditional'
+make_run "$T/kit" CFLAGS='-O0 -Wtraditional' C_WERROR= # (the gate has it in the environment)
 status_is 0
 has err 'warning: '
 rm "$tree/build/c/stick/text.o"
