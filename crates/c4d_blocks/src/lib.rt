@@ -1,5 +1,7 @@
 // Chunks and sub-chunks in a slice: what the header at a position tells. The three kinds of header differ in how many bytes they
 // have for the identifier and for the size.
+#![tactic(auto)]
+
 ghost use Rattle.std.specs.Prelude.{List, ℕ, ◌+◌, ◌<◌, ◌≤◌, length};
 ghost use Rattle.c4d_rules.specs.Blocks.{chunk_header, material_header, object_header};
 ghost use Rattle.c4d_blocks.specs.Headers.{Sees, Headed};
@@ -7,7 +9,7 @@ ghost use Rattle.c4d_blocks.specs.Headers.{Sees, Headed};
 use shared_big_endian::long_at;
 
 // What stands between a position and an end: a whole block, its identifier and its size, or not even one.
-#[derive(Drop)]
+#[derive(Clone, Copy)]
 pub enum Seen {
     Cut,
     Block(usize, usize),

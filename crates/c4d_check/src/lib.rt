@@ -1,4 +1,6 @@
 // The strict reading of a Cinema 4D file: its length, its header, its chunks.
+#![tactic(auto)]
+
 ghost use Rattle.std.specs.Prelude.{◌≡◌, true, ◌-◌, ◌≤◌, length, take};
 ghost use Rattle.shared_words.specs.Lists.{same};
 ghost use Rattle.shared_words.specs.Refusals.{limit};

@@ -1,4 +1,6 @@
 // The chunks of a file one after another: PLTF, MAT4 and OBJ5 in their order, the others skipped.
+#![tactic(auto)]
+
 ghost use Rattle.std.specs.Prelude.{◌≡◌, true, List, ℕ, ◌+◌, ◌≤◌, length};
 ghost use Rattle.shared_words.specs.Refusals.{limit};
 ghost use Rattle.c4d_rules.specs.Kinds.{Platform, Materials, Objects, kind_of};
@@ -16,14 +18,14 @@ const MAT4: usize = 0x4D41_5434;
 const OBJ5: usize = 0x4F42_4A35;
 
 // How many objects and textures there are.
-#[derive(Drop)]
+#[derive(Clone, Copy)]
 pub struct Figure {
     pub objects: usize,
     pub textures: usize,
 }
 
 // A file that has been read: what it has, or its first fault.
-#[derive(Drop)]
+#[derive(Clone, Copy)]
 pub enum Checked {
     Good(Figure),
     Refused(Refusal),
@@ -31,14 +33,14 @@ pub enum Checked {
 
 // What is known before a chunk: a number that all materials are below, 0 where there is no MAT4; whether there is an OBJ5, and
 // what it has.
-#[derive(Drop)]
+#[derive(Clone, Copy)]
 struct State {
     below: usize,
     seen: bool,
     figure: Figure,
 }
 
-#[derive(Drop)]
+#[derive(Clone, Copy)]
 enum Stepped {
     Next(State),
     Refused(Refusal),

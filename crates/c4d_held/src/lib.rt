@@ -1,4 +1,6 @@
 // One sub-chunk of OBJ5: whether it may stand where it does, and what is then known of the object that it belongs to.
+#![tactic(auto)]
+
 ghost use Rattle.std.specs.Prelude.{◌≡◌, not, List, [], ◌∷◌, ◌++◌, ℕ, ◌+◌, ◌≤◌, ◌<◌, length};
 ghost use Rattle.c4d_rules.specs.Kinds.{t_object};
 ghost use Rattle.c4d_rules.specs.Combinations.{once_each};
@@ -9,21 +11,21 @@ use shared_big_endian::long_at;
 use shared_words::Refusal;
 
 // Of the object that is open: whether it repeats what it may not; which sub-chunks it has, as bits.
-#[derive(Drop)]
+#[derive(Clone, Copy)]
 pub struct Held {
     pub repeated: bool,
     pub present: usize,
 }
 
 // A texture judged: its material, or its fault.
-#[derive(Drop)]
+#[derive(Clone, Copy)]
 pub enum Texture {
     Material(usize),
     Refused(Refusal),
 }
 
 // A sub-chunk between two objects judged: it is passed over, or refused.
-#[derive(Drop)]
+#[derive(Clone, Copy)]
 pub enum Outside {
     Skipped,
     Refused(Refusal),

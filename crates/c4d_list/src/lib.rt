@@ -1,5 +1,7 @@
 // The objects of a file and the materials of their textures, into two lent rows of bytes: a check of the whole file, which notes them, and
 // then the rows filled from these notes.
+#![tactic(auto)]
+
 ghost use Rattle.std.specs.Prelude.{◌≡◌, [], ◌∷◌, ◌+◌, ◌-◌, ◌*◌, ◌<◌, ◌≤◌, length};
 ghost use Rattle.std.proofs.Math.Seq.{slice};
 ghost use Rattle.shared_words.specs.Bytes.{packed};

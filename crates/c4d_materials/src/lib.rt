@@ -1,4 +1,6 @@
 // MAT4: its sub-chunks one after another, up to MAT_END.
+#![tactic(auto)]
+
 ghost use Rattle.std.specs.Prelude.{◌≡◌, false, ◌+◌, ◌≤◌, length};
 ghost use Rattle.std.proofs.Math.Seq.{slice};
 ghost use Rattle.c4d_rules.specs.Read.{walk};
@@ -13,7 +15,7 @@ const MAT_END: usize = 0;
 const MAT_NEXT: usize = 65;
 
 // How many MAT_NEXTs there are.
-#[derive(Drop)]
+#[derive(Clone, Copy)]
 pub enum Nexts {
     Count(usize),
     Refused(Refusal),

@@ -1,5 +1,7 @@
 // One object of OBJ5: its sub-chunks from behind its T_OBJECT to its T_END, each judged where it stands. The materials of its textures
 // are noted, so that a list need not go over the sub-chunks again.
+#![tactic(auto)]
+
 ghost use Rattle.std.specs.Prelude.{[], ◌∷◌, ◌+◌, ◌*◌, ◌<◌, ◌≤◌, length};
 ghost use Rattle.shared_numbers.specs.Put.{Put};
 ghost use Rattle.c4d_held.specs.Held.{last_of};
@@ -16,7 +18,7 @@ const T_OBJECT: usize = 1;
 const T_TEXTURE: usize = 23;
 
 // A whole object: the position behind it, its combination, how many textures it has; or the first fault.
-#[derive(Drop)]
+#[derive(Clone, Copy)]
 pub enum One {
     Whole(usize, usize, usize),
     Refused(Refusal),

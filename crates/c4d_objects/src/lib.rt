@@ -1,4 +1,6 @@
 // OBJ5: its objects one after another. What a list needs of them is noted, so that it need not go over the sub-chunks again.
+#![tactic(auto)]
+
 ghost use Rattle.std.specs.Prelude.{◌≡◌, ◌+◌, ◌≤◌, length};
 ghost use Rattle.std.proofs.Math.Option.{none};
 ghost use Rattle.shared_words.specs.Refusals.{limit};
@@ -15,7 +17,7 @@ use shared_words::Refusal;
 const T_OBJECT: usize = 1;
 
 // How many objects and textures there are.
-#[derive(Drop)]
+#[derive(Clone, Copy)]
 pub enum Tally {
     Count(usize, usize),
     Refused(Refusal),

@@ -1,4 +1,6 @@
 // The sub-chunks that an object has, as the bits of one number: bit k is set where the one with identifier 16 + k is there.
+#![tactic(auto)]
+
 ghost use Rattle.std.specs.Prelude.{◌≡◌, List, [], ◌∷◌, ◌++◌, ℕ, ◌≤◌, ◌<◌};
 ghost use Rattle.c4d_rules.specs.Combinations.{is_in, combination as combination_of};
 ghost use Rattle.c4d_parts.specs.Bits.{bits, exclusive_in, looked_up};

@@ -1,5 +1,7 @@
 // Answers of a few numbers, four bytes each, into lent bytes. Each function answers how many numbers now stand in the front
 // of out, or a refusal.
+#![tactic(auto)]
+
 ghost use Rattle.std.specs.Prelude.{◌≡◌, ◌*◌, ◌≤◌, length};
 ghost use Rattle.shared_words.specs.Bytes.{packed};
 ghost use Rattle.shared_words.specs.Effects.{filled};

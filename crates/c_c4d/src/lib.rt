@@ -1,4 +1,6 @@
 // What a Cinema 4D file read answers as one number, for C.
+#![tactic(auto)]
+
 ghost use Rattle.std.specs.Prelude.{◌≡◌};
 ghost use Rattle.c_c4d.specs.Codes.{objects_or};
 

@@ -1,4 +1,6 @@
 // What a call on a Caligari file answers as one number, for C.
+#![tactic(auto)]
+
 ghost use Rattle.std.specs.Prelude.{◌≡◌};
 ghost use Rattle.c_cob.specs.Codes.{count_or};
 

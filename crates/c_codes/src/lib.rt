@@ -1,4 +1,6 @@
 // An answer as one number, for C.
+#![tactic(auto)]
+
 ghost use Rattle.std.specs.Prelude.{◌≡◌};
 ghost use Rattle.studio_rules.specs.Within.{SizesWithin};
 ghost use Rattle.c_codes.specs.Codes.{refusal_code, records_or, sizes_or, numbers_or, size_or};

@@ -1,4 +1,6 @@
 // What the calls about all parts and about all meshes of a figure answer as one number, for C.
+#![tactic(auto)]
+
 ghost use Rattle.std.specs.Prelude.{◌≡◌};
 ghost use Rattle.c_counted.specs.Codes.{counted_or};
 

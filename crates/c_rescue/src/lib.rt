@@ -1,4 +1,6 @@
 // What the rescue of a figure answers as one number, for C.
+#![tactic(auto)]
+
 ghost use Rattle.std.specs.Prelude.{◌≡◌};
 ghost use Rattle.c_rescue.specs.Codes.{cuts_or};
 

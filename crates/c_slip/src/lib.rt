@@ -1,4 +1,6 @@
 // What a slip read answers as one number, for C. (What a slip written answers is the size, as of a figure: c_codes.)
+#![tactic(auto)]
+
 ghost use Rattle.std.specs.Prelude.{◌≡◌};
 ghost use Rattle.c_slip.specs.Codes.{entries_or};
 

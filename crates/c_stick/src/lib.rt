@@ -1,4 +1,6 @@
 // What the judge of a stick answers as one number, for C.
+#![tactic(auto)]
+
 ghost use Rattle.std.specs.Prelude.{◌≡◌};
 ghost use Rattle.c_stick.specs.Codes.{one_or};
 

@@ -1,4 +1,6 @@
 // The checksum's answers as one number, for C: the sums of a file, a file against an entry, and both part by part.
+#![tactic(auto)]
+
 ghost use Rattle.std.specs.Prelude.{◌≡◌, ◌/◌, ◌%◌};
 ghost use Rattle.slip_sums.specs.Fletcher.{sum_of};
 ghost use Rattle.slip_sums.specs.Passes.{sums_call, match_of};

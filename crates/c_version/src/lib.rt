@@ -1,4 +1,6 @@
 // The version of the library as one number, for C. CHANGELOG.md says what came with each; include/tds.h has the same numbers.
+#![tactic(auto)]
+
 ghost use Rattle.std.specs.Prelude.{◌≡◌};
 ghost use Rattle.c_version.specs.Version.{version};
 

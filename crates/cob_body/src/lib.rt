@@ -1,5 +1,6 @@
 // Where a body ends: the position behind its parts, for each of the four types and any other. Each function answers for what
 // stands from a position of a slice on; `Ends` says it by the rules' own reading.
+#![tactic(auto)]
 
 ghost use Rattle.std.specs.Prelude.{◌+◌, ◌≤◌, length, [], ◌∷◌, ◌++◌};
 ghost use Rattle.cob_rules.specs.Kinds.{natural, times, faces, optional, string, group, vertices, textures, parts};
@@ -11,14 +12,14 @@ use cob_rules::Kind;
 use shared_numbers::{long_at, wide, word_at};
 
 // The position behind something, or that it does not fit.
-#[derive(Drop)]
+#[derive(Clone, Copy)]
 pub enum Place {
     At(usize),
     Nowhere,
 }
 
 // A count that is there and not negative.
-#[derive(Drop)]
+#[derive(Clone, Copy)]
 enum Counted {
     Of(usize),
     Bad,

@@ -1,5 +1,7 @@
 // The check of a file: the header, then the walk over its chunks. What must be remembered, the identifiers seen, stands in
 // zeroed rows that the caller of the walk lends.
+#![tactic(auto)]
+
 ghost use Rattle.std.specs.Prelude.{◌≡◌, [], ◌≤◌, length, take, drop};
 ghost use Rattle.shared_words.specs.Lists.{same};
 ghost use Rattle.cob_rules.specs.Layout.{file_header};
@@ -12,7 +14,7 @@ use cob_step::{Step, step_at};
 use shared_words::Refusal;
 
 // What the walk came to: a refusal; or the nodes of the search tree, one more than the chunks before END, and the records.
-#[derive(Drop)]
+#[derive(Clone, Copy)]
 pub enum Walked {
     Refused(Refusal),
     Good(usize, usize),

@@ -1,4 +1,6 @@
 // One chunk of a file: its kind, and what its size and its body are judged.
+#![tactic(auto)]
+
 ghost use Rattle.std.specs.Prelude.{◌≡◌, true, ◌&&◌, ◌+◌, ◌≤◌, eqb, length};
 ghost use Rattle.cob_rules.specs.Kinds.{is_end, is_mesh, listed, tells_end, parts};
 ghost use Rattle.cob_rules.specs.Body.{behind_all, exact, up_to};
@@ -100,7 +102,7 @@ fn tells_end(k: Kind) -> bool
 // ---- the body
 
 // Which of the refusals 22, 10, 11 and 12 is due first; else the bytes of the body.
-#[derive(Drop)]
+#[derive(Clone, Copy)]
 pub enum Judgement {
     Size,
     Length,

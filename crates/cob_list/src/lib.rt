@@ -1,6 +1,8 @@
 // The list of a file's chunks of the four types, with their topmost owners, into a lent row of bytes: a check pass, then a pass
 // that fills the row. In the second pass `up` holds for each node of the search tree the number of its topmost owner, so that
 // the way up is one step.
+#![tactic(auto)]
+
 ghost use Rattle.std.specs.Prelude.{◌≡◌, [], ◌∷◌, ◌+◌, ◌-◌, ◌<◌, ◌≤◌, length};
 ghost use Rattle.shared_numbers.specs.Put.{Put};
 ghost use Rattle.cob_rules.specs.Calls.{record_bytes, list_call};

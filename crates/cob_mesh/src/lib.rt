@@ -1,5 +1,7 @@
 // What stands in the body of a PolH: where its lists stand, one face, and whether floats and indices are allowed. The body
 // fits its parts exactly, which the caller has judged before.
+#![tactic(auto)]
+
 ghost use Rattle.std.specs.Prelude.{◌≡◌, true, not, ◌&&◌, ◌+◌, ◌*◌, ◌≤◌, length, drop};
 ghost use Rattle.shared_words.specs.Bytes.{numbers};
 ghost use Rattle.shared_words.specs.Lists.{every};
@@ -15,7 +17,7 @@ use shared_numbers::{long_at, wide, word_at};
 use studio_scan::all_finite;
 
 // Where the counts of the three lists stand.
-#[derive(Drop)]
+#[derive(Clone, Copy)]
 pub struct Lists {
     pub vertices: usize,
     pub textures: usize,
@@ -23,7 +25,7 @@ pub struct Lists {
 }
 
 // A face or a hole: where its corners stand, and how many there are.
-#[derive(Drop)]
+#[derive(Clone, Copy)]
 pub struct Corners {
     pub hole: bool,
     pub at: usize,
@@ -31,7 +33,7 @@ pub struct Corners {
 }
 
 // Which of the refusals 11 and 12 is due first.
-#[derive(Drop)]
+#[derive(Clone, Copy)]
 pub enum Judged {
     Number,
     Index,

@@ -1,5 +1,7 @@
 // All meshes of a Caligari file in one call: eight numbers each, into a lent row of bytes. The file is checked first, and nothing is
 // written before room for all meshes is there. Linear in the file: the check, and two passes over the chunks.
+#![tactic(auto)]
+
 ghost use Rattle.std.specs.Prelude.{◌≡◌, true, cond, [], ◌∷◌, ◌+◌, ◌*◌, ◌<◌, ◌≤◌, length, drop};
 ghost use Rattle.shared_words.specs.Bytes.{packed};
 ghost use Rattle.shared_numbers.specs.Put.{Put};
@@ -26,7 +28,7 @@ use shared_words::Refusal;
 // ---- one mesh
 
 // What is told of a mesh.
-#[derive(Drop)]
+#[derive(Clone, Copy)]
 struct Numbers {
     name: u32,
     size: u32,

@@ -1,4 +1,6 @@
 // The topmost owner of a record, through its parents.
+#![tactic(auto)]
+
 ghost use Rattle.std.specs.Prelude.{◌≡◌, ◌<◌, length};
 ghost use Rattle.cob_owner.specs.Top.{top_of};
 

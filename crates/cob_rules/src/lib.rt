@@ -1,8 +1,10 @@
 // What the calls of the Caligari reader answer. The definitions in specs/ speak of these types.
+#![tactic(auto)]
+
 use shared_words::Refusal;
 
 // The four chunk types of Q-4, and any other.
-#[derive(Drop)]
+#[derive(Clone, Copy)]
 pub enum Kind {
     End,
     Grou,
@@ -13,7 +15,7 @@ pub enum Kind {
 
 // One chunk of the four in the list. `kind` is its four letters, the first in the lowest byte.
 #[repr(C)]
-#[derive(Drop)]
+#[derive(Clone, Copy)]
 pub struct Record {
     pub kind: u32,
     pub offset: u32,
@@ -24,7 +26,7 @@ pub struct Record {
 }
 
 // What a call answers: a count (of records, of numbers filled, of vertices), or a refusal.
-#[derive(Drop)]
+#[derive(Clone, Copy)]
 pub enum Answered {
     Count(usize),
     Refused(Refusal),

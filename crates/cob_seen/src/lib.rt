@@ -1,6 +1,8 @@
 // A set of 32-bit identifiers, as a digital search tree in lent rows: at most some 32 steps for any identifier, however they are
 // chosen. Node k holds ids[k]; its two links are links[2 * k] and links[2 * k + 1], the number of a later node or 0 for none. A search
 // takes the bits of x from the lowest up.
+#![tactic(auto)]
+
 ghost use Rattle.std.specs.Prelude.{◌≡◌};
 ghost use Rattle.shared_tree.specs.Tree.{Ended};
 ghost use Rattle.cob_seen.specs.Tree.{bits, tree_in, Represents, Ready, Grown, Admitted, number_in};
@@ -8,14 +10,14 @@ ghost use Rattle.cob_seen.specs.Tree.{bits, tree_in, Represents, Ready, Grown, A
 use shared_numbers::wide;
 
 // Where a search ended: at a node, with the bits that are left.
-#[derive(Drop)]
+#[derive(Clone, Copy)]
 struct Spot {
     at: usize,
     rest: u32,
 }
 
 // The number of an identifier, or that it is not there.
-#[derive(Drop)]
+#[derive(Clone, Copy)]
 pub enum Place {
     At(usize),
     Nowhere,

@@ -1,4 +1,6 @@
 // One step of the walk: the chunk at an offset, judged whole, after the chunks whose identifiers are in the search tree.
+#![tactic(auto)]
+
 ghost use Rattle.std.specs.Prelude.{◌≡◌, ◌≤◌, length};
 ghost use Rattle.cob_seen.specs.Tree.{Ready};
 ghost use Rattle.cob_chunk.specs.Chunks.{Stated};
@@ -10,7 +12,7 @@ use shared_numbers::long_at;
 use shared_words::Refusal;
 
 // The refusal that is due at a chunk, or where the next one begins.
-#[derive(Drop)]
+#[derive(Clone, Copy)]
 pub enum Step {
     Refused(Refusal),
     Last(usize),
@@ -19,7 +21,7 @@ pub enum Step {
 }
 
 // What a chunk's size and body come to: a refusal, or where they end.
-#[derive(Drop)]
+#[derive(Clone, Copy)]
 enum Body {
     Refused(Refusal),
     Ends(usize),

@@ -1,4 +1,6 @@
 // The mesh of a number: where its body stands, and its sizes and tables into lent rows.
+#![tactic(auto)]
+
 ghost use Rattle.std.specs.Prelude.{◌≡◌, true, cond, ◌+◌, ◌*◌, ◌<◌, ◌≤◌, length, drop};
 ghost use Rattle.shared_words.specs.Bytes.{packed};
 ghost use Rattle.shared_words.specs.Effects.{filled};
@@ -27,13 +29,13 @@ use studio_mesh_rows::fill_float_bytes;
 // ---- the mesh that is asked for
 
 // Where the body of a mesh stands, from and to; or how many meshes there are.
-#[derive(Drop)]
+#[derive(Clone, Copy)]
 enum Found {
     At(usize, usize),
     Nowhere(usize),
 }
 
-#[derive(Drop)]
+#[derive(Clone, Copy)]
 enum Asked {
     At(usize, usize),
     Refused(Refusal),
@@ -82,7 +84,7 @@ fn ask(file: &[u8], mesh: u32) -> Asked
 // ---- the faces with three corners and no holes
 
 // A face: whether it is one of them, where its corners stand, and where the next face stands.
-#[derive(Drop)]
+#[derive(Clone, Copy)]
 struct Triangle {
     yes: bool,
     at: usize,

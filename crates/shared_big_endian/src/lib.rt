@@ -1,4 +1,6 @@
 // Big-endian numbers in a slice, read and written, and single bytes.
+#![tactic(auto)]
+
 ghost use Rattle.std.specs.Prelude.{◌≡◌, ◌+◌, ◌<◌, ◌≤◌, length, get_or};
 ghost use Rattle.shared_words.specs.Bytes.{be};
 ghost use Rattle.shared_numbers.specs.Put.{Put};

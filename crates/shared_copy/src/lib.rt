@@ -1,4 +1,6 @@
 // A part of a slice put into another one.
+#![tactic(auto)]
+
 ghost use Rattle.std.specs.Prelude.{◌+◌, ◌≤◌, length, take, drop};
 ghost use Rattle.shared_numbers.specs.Put.{Put};
 

@@ -1,4 +1,6 @@
 // Eight bytes looked at side by side, as one number: how many of them pass a test before the first that does not.
+#![tactic(auto)]
+
 ghost use Rattle.std.specs.Prelude.{◌≡◌, Bool, List, ℕ, ◌≤◌, ◌<◌, length, take};
 ghost use Rattle.shared_words.specs.Bytes.{value};
 ghost use Rattle.shared_words.specs.Labels.{printable};

@@ -1,4 +1,6 @@
 // How much of a name a label takes: the one test behind refusal 24, for figures, slips and writers.
+#![tactic(auto)]
+
 ghost use Rattle.std.specs.Prelude.{◌≡◌, true, ◌+◌, ◌≤◌, length};
 ghost use Rattle.std.proofs.Math.Seq.{slice};
 ghost use Rattle.shared_words.specs.Labels.{printable, fits_label, label_fault};

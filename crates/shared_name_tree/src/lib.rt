@@ -1,6 +1,8 @@
 // A set of names that stand in one slice, as a digital search tree in a lent row. A node has four numbers: where its name begins, how long it
 // is, and two links, each the number of a later node or 0. A search takes its first 32 sides by a number that is mixed from all bytes of the
 // name, and then eight by each of its bytes: so however names are chosen, it takes no more steps than that.
+#![tactic(auto)]
+
 ghost use Rattle.std.specs.Prelude.{◌≡◌, ◌+◌, ◌*◌, ◌<◌, ◌≤◌, length, get_or, take, drop};
 ghost use Rattle.shared_words.specs.Lists.{same};
 ghost use Rattle.shared_name_tree.specs.Names.{name_of, held, mixed, next_of, Holds, Ready, Landed, Grown};
@@ -8,14 +10,14 @@ ghost use Rattle.shared_name_tree.specs.Names.{name_of, held, mixed, next_of, Ho
 use shared_names::same_name;
 
 // How far a search has come: the bits that are left, with a 1 above them, and how many bytes were taken.
-#[derive(Drop)]
+#[derive(Clone, Copy)]
 struct Turn {
     rest: usize,
     taken: usize,
 }
 
 // Where a search ended: at its name, or at a link that is free.
-#[derive(Drop)]
+#[derive(Clone, Copy)]
 enum Spot {
     Found,
     Free(usize),

@@ -1,4 +1,6 @@
 // Names compared: four bytes at a time, then byte by byte. So long names that begin alike do not take long.
+#![tactic(auto)]
+
 ghost use Rattle.std.specs.Prelude.{◌≡◌, ◌+◌, ◌≤◌, length, take, drop};
 ghost use Rattle.shared_words.specs.Lists.{same};
 ghost use Rattle.shared_names.specs.Alike.{BlocksAlike};

@@ -1,4 +1,6 @@
 // Bytes and little-endian numbers in a slice, read and written, 32-bit floats read, and the test of a float's exponent.
+#![tactic(auto)]
+
 ghost use Rattle.std.specs.Prelude.{◌≡◌, true, [], ◌∷◌, ◌+◌, ◌<◌, ◌≤◌, length, get_or};
 ghost use Rattle.shared_words.specs.Bytes.{le};
 ghost use Rattle.shared_words.specs.Floats.{finite};

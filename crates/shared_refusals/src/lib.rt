@@ -1,4 +1,6 @@
 // A refusal by the table: its number and its place.
+#![tactic(auto)]
+
 ghost use Rattle.std.specs.Prelude.{◌≡◌};
 ghost use Rattle.shared_words.specs.Refusals.{place_of, Numbered};
 

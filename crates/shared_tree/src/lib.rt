@@ -1,1 +1,2 @@
 // Nothing runs here: specs/ and proofs/ hold what digital search trees have in common.
+#![tactic(auto)]

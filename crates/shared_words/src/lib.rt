@@ -1,9 +1,10 @@
 // The words that every format shares. The definitions in specs/ speak of these types, and every crate that reads or
 // writes anything answers with them.
+#![tactic(auto)]
 
 // The table of refusals of documents 01 and 02, by its names; the last seven are those of a stick. The number that a case
 // holds is its place; a case that holds none has place 0.
-#[derive(Drop)]
+#[derive(Clone, Copy)]
 pub enum Refusal {
     TooLong,
     NotAFigure,
@@ -45,14 +46,14 @@ pub enum Refusal {
 }
 
 // What is found of something that is judged: nothing wrong, or the first refusal.
-#[derive(Drop)]
+#[derive(Clone, Copy)]
 pub enum Judged {
     Good,
     Refused(Refusal),
 }
 
 // What a writer answers: the size of what was written, or a refusal.
-#[derive(Drop)]
+#[derive(Clone, Copy)]
 pub enum Written {
     Size(usize),
     Refused(Refusal),

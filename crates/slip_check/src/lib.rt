@@ -1,4 +1,6 @@
 // The check pass over a slip: whether it meets the rules. The names that were met are kept in a tree.
+#![tactic(auto)]
+
 ghost use Rattle.std.specs.Prelude.{◌≡◌, true, ◌+◌, ◌*◌, ◌<◌, ◌≤◌, length};
 ghost use Rattle.shared_name_tree.specs.Names.{Holds};
 ghost use Rattle.slip_seen.specs.Seen.{Seen};
@@ -11,7 +13,7 @@ use shared_words::Refusal;
 use slip_rules::Found;
 
 // What the walk over the entries answers: the place of refusal 18, or that there is none.
-#[derive(Drop)]
+#[derive(Clone, Copy)]
 enum Walked {
     Bad(usize),
     Good,

@@ -1,4 +1,6 @@
 // A slip read into a lent row of bytes: a check pass over the slip, then a pass that fills the row, 16 bytes an entry.
+#![tactic(auto)]
+
 ghost use Rattle.std.specs.Prelude.{◌≡◌, [], ◌∷◌, ◌+◌, ◌*◌, ◌≤◌, length};
 ghost use Rattle.std.proofs.lemmas.List.Edits.{sets};
 ghost use Rattle.shared_numbers.specs.Put.{Put};

@@ -1,4 +1,6 @@
 // The checksum of a file, the 8-bit Fletcher sum of RFC 1146: of a whole file, part by part, and against an entry of a slip.
+#![tactic(auto)]
+
 ghost use Rattle.std.specs.Prelude.{◌≡◌, ◌+◌, ◌-◌, ◌^◌, ◌<◌, min, length};
 ghost use Rattle.slip_sums.specs.Fletcher.{sum_of};
 ghost use Rattle.slip_sums.specs.Joined.{join, capped, with_part};
@@ -8,7 +10,7 @@ ghost use Rattle.slip_sums.specs.Totals.{TotalsOf};
 use shared_words::Refusal;
 
 // What is known of a part of a file: how many bytes it has, and their two sums.
-#[derive(Drop)]
+#[derive(Clone, Copy)]
 pub struct Sum {
     pub len: u64,
     pub first: u64,
@@ -16,21 +18,21 @@ pub struct Sum {
 }
 
 // What the making of an entry answers.
-#[derive(Drop)]
+#[derive(Clone, Copy)]
 pub enum Summed {
     Sums(Sum),
     Refused(Refusal),
 }
 
 // What the check of a file against an entry answers.
-#[derive(Drop)]
+#[derive(Clone, Copy)]
 pub enum Matched {
     Same,
     Refused(Refusal),
 }
 
 // The two sums of a few bytes, before the remainders are taken.
-#[derive(Drop)]
+#[derive(Clone, Copy)]
 struct Totals {
     first: u64,
     second: u64,

@@ -1,5 +1,7 @@
 // A slip written into a lent buffer: all is judged, then its bytes are put, the entries one behind the other. The functions
 // that put answer the position behind what they put.
+#![tactic(auto)]
+
 ghost use Rattle.std.specs.Prelude.{◌≡◌, ◌+◌, ◌<◌, ◌≤◌, length};
 ghost use Rattle.shared_words.specs.Lists.{All};
 ghost use Rattle.shared_numbers.specs.Put.{Put};

@@ -1,5 +1,7 @@
 // The judgement of the slip that is to be written: the first entry that is bad, or that there is too little room, or how
 // long the slip is. Nothing is written before all is judged.
+#![tactic(auto)]
+
 ghost use Rattle.std.specs.Prelude.{◌≡◌, ◌+◌, ◌*◌, ◌≤◌, length};
 ghost use Rattle.shared_words.specs.Lists.{first_fault};
 ghost use Rattle.shared_name_tree.specs.Names.{Holds};
@@ -16,7 +18,7 @@ use shared_words::{Refusal, Written};
 use slip_rules::Numbers;
 
 // What the judgement of the rows alone answers: the number of the first bad one, or the size of the slip.
-#[derive(Drop)]
+#[derive(Clone, Copy)]
 enum Judged {
     Bad(usize),
     Good(usize),

@@ -1,4 +1,6 @@
 // The evidence for a file of a stick: the record of its item, filled from its bytes.
+#![tactic(auto)]
+
 ghost use Rattle.std.specs.Prelude.{◌≡◌, cond, ◌+◌, ◌*◌, ◌≤◌, length};
 ghost use Rattle.shared_words.specs.Bytes.{le};
 ghost use Rattle.shared_numbers.specs.Put.{Put};

@@ -1,5 +1,7 @@
 // The judge of a stick: its slip, and the items that a walk met, each with the evidence for it. It answers the first problem, or
 // that there is none.
+#![tactic(auto)]
+
 ghost use Rattle.std.specs.Prelude.{◌≡◌, true, ◌+◌, ◌*◌, ◌<◌, ◌≤◌, length, take, drop};
 ghost use mathlib.Core.List.{[], tail};
 ghost use Rattle.shared_words.specs.Conditions.{accepted, answered};
@@ -32,7 +34,7 @@ use stick_records::{has_figure, is_whole, item_record};
 use stick_rules::ItemRecord;
 
 // What is expected at a path: the number of its entry, counted from 1, where 0 is the slip itself; the length and the sums.
-#[derive(Drop)]
+#[derive(Clone, Copy)]
 struct Sought {
     number: usize,
     file: u64,

@@ -1,4 +1,6 @@
 // Names on a stick: whether two are one, and what a name stands for.
+#![tactic(auto)]
+
 ghost use Rattle.std.specs.Prelude.{◌≡◌, ◌+◌, ◌≤◌, length, take, drop};
 ghost use Rattle.stick_rules.specs.Names.{lower, equal_ignoring_case, is_inside, belongs, format_of, slip_name};
 ghost use Rattle.stick_names.specs.Digest.{digest_of};

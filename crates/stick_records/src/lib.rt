@@ -1,5 +1,7 @@
 // The records of items in a lent row of bytes: one of them, whether the walk that met them was whole, and whether a figure is
 // among them.
+#![tactic(auto)]
+
 ghost use Rattle.std.specs.Prelude.{◌≡◌, not, ◌&&◌, cond, ◌+◌, ◌-◌, ◌*◌, ◌≤◌, eqb, leb, length};
 ghost use Rattle.shared_words.specs.Lists.{any};
 ghost use Rattle.stick_rules.specs.Items.{is_figure};

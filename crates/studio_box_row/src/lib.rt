@@ -1,4 +1,6 @@
 // The box of a mesh and its centre in a lent row of bytes: nine floats, or nine zeros where there are no vertices.
+#![tactic(auto)]
+
 ghost use Rattle.std.specs.Prelude.{◌≡◌, true, ◌+◌, ◌*◌, ◌≤◌, length, drop};
 ghost use Rattle.shared_words.specs.Bytes.{packed, numbers};
 ghost use Rattle.shared_words.specs.Lists.{every};

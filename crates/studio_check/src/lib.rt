@@ -1,4 +1,6 @@
 // The check of a whole file: the conditions of the file itself, then the walk through the children of its one chunk 4D4D.
+#![tactic(auto)]
+
 ghost use Rattle.std.specs.Prelude.{◌≡◌, ◌+◌, ◌*◌, ◌≤◌, length};
 ghost use Rattle.shared_words.specs.Conditions.{broken};
 ghost use Rattle.studio_rules.specs.Walk.{file_conditions, length_field};

@@ -1,5 +1,7 @@
 // The first child of an identifier in a run of an accepted file: siblings are passed over by their lengths, and nothing is judged
 // again.
+#![tactic(auto)]
+
 ghost use Rattle.std.specs.Prelude.{◌≡◌, true};
 ghost use Rattle.studio_rules.specs.Table.{listed};
 ghost use Rattle.studio_rules.specs.Layout.{Run, offset_of};

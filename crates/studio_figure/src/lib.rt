@@ -1,4 +1,6 @@
 // The writer of figures with many objects and materials. All is judged before the first byte is written.
+#![tactic(auto)]
+
 ghost use Rattle.std.specs.Prelude.{◌≡◌};
 ghost use Rattle.studio_figure_rules.specs.Described.{write_flat};
 ghost use Rattle.studio_figure_rows.specs.Rows.{flat};

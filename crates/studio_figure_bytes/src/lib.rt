@@ -1,4 +1,6 @@
 // The bytes of a figure of flat rows. Each function puts bytes at a position of out, and answers the position behind them.
+#![tactic(auto)]
+
 ghost use Rattle.std.specs.Prelude.{◌≡◌, ℕ, ◌+◌, ◌*◌, ◌/◌, ◌<◌, ◌≤◌, length};
 ghost use Rattle.shared_words.specs.declared.Written.{Written};
 ghost use Rattle.shared_numbers.specs.Put.{Put};
@@ -19,7 +21,7 @@ const ANY: usize = 0x7FFF_FFFF_FFFF_FFFF;
 
 // Where an object begins in each row: its name, its floats, corners and smoothing words; its first group, with its name and
 // faces.
-#[derive(Drop)]
+#[derive(Clone, Copy)]
 struct Place {
     name: usize,
     vertex: usize,

@@ -1,4 +1,6 @@
 // The chunks of a figure. Each function puts bytes at a position of out, and answers the position behind them.
+#![tactic(auto)]
+
 ghost use Rattle.std.specs.Prelude.{◌≡◌, true, ℕ, ◌+◌, ◌-◌, ◌*◌, ◌%◌, ◌<◌, ◌≤◌, length, drop};
 ghost use Rattle.shared_words.specs.Lists.{every};
 ghost use Rattle.shared_words.specs.Bytes.{packed};

@@ -1,4 +1,6 @@
 // The judgement of a figure of flat rows: the first fault in the papers' order, or the size of the file.
+#![tactic(auto)]
+
 ghost use Rattle.std.specs.Prelude.{◌≡◌, ◌+◌, ◌*◌, ◌/◌, ◌<◌, ◌≤◌, length};
 ghost use Rattle.shared_words.specs.Conditions.{answered};
 ghost use Rattle.studio_figure_rules.specs.Described.{judged_flat};

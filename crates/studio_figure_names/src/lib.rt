@@ -1,5 +1,7 @@
 // The names of flat rows: zeros in them, whether they fit the label, whether they differ, and whether each group's is a
 // material's.
+#![tactic(auto)]
+
 ghost use Rattle.std.specs.Prelude.{◌≡◌, true, ◌+◌, ◌*◌, ◌<◌, ◌≤◌, [], length};
 ghost use Rattle.shared_words.specs.Conditions.{answered};
 ghost use Rattle.shared_words.specs.Lists.{first_fault};
@@ -195,7 +197,7 @@ fn first_absent(
 
 // What is asked of `count` names, and of n groups against them: the first name that is among those before it, and the first group
 // whose name is none of them; or how many there are.
-#[derive(Drop)]
+#[derive(Clone, Copy)]
 struct Told {
     repeated: usize,
     unnamed: usize,

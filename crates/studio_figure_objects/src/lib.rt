@@ -1,4 +1,6 @@
 // The objects of flat rows that fit, judged one after another: their counts, floats and indices; and the size of the file.
+#![tactic(auto)]
+
 ghost use Rattle.std.specs.Prelude.{◌≡◌, ◌+◌, ◌*◌, ◌/◌, ◌<◌, ◌≤◌, length};
 ghost use Rattle.shared_words.specs.Conditions.{answered};
 ghost use Rattle.studio_figure_rules.specs.Given.{over};

@@ -1,4 +1,6 @@
 // Flat rows: what their descriptions add up to, and whether they fit it.
+#![tactic(auto)]
+
 ghost use Rattle.std.specs.Prelude.{◌≡◌, ◌+◌, ◌*◌, ◌/◌, ◌<◌, ◌≤◌, eqb, length};
 ghost use Rattle.shared_words.specs.Conditions.{answered};
 ghost use Rattle.studio_figure_rows.specs.Rows.{flat, entry, sum_to, names_length, Capped};

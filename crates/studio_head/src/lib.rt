@@ -1,4 +1,6 @@
 // What stands at a chunk's start: its header, its place, its slot and its own data, tested in this order.
+#![tactic(auto)]
+
 ghost use Rattle.std.specs.Prelude.{◌≡◌, true, List, ℕ, ◌+◌, ◌≤◌, ◌<◌, length};
 ghost use Rattle.std.proofs.Math.Seq.{slice};
 ghost use Rattle.studio_rules.specs.Table.{listed, under};
@@ -17,7 +19,7 @@ use shared_words::Refusal;
 use studio_own_data::Judged;
 
 // The header of a chunk: a fault, or its identifier and where the chunk ends.
-#[derive(Drop)]
+#[derive(Clone, Copy)]
 pub enum Header {
     Fault(Refusal),
     Is { id: usize, stop: usize },
@@ -46,7 +48,7 @@ fn read_header(file: &[u8], at: usize, end: usize) -> Header
 }
 
 // What stands at a chunk's start: a fault, an unlisted chunk, one that has no children, or one that may have.
-#[derive(Drop)]
+#[derive(Clone, Copy)]
 pub enum Head {
     Fault(Refusal),
     Skip {

@@ -1,4 +1,6 @@
 // The list of an accepted file's known chunks: seven numbers for each, into a lent row of numbers or of bytes.
+#![tactic(auto)]
+
 ghost use Rattle.std.specs.Prelude.{◌≡◌};
 ghost use Rattle.studio_rules.specs.Encodings.{flat_records, record_bytes};
 ghost use Rattle.shared_words.specs.Effects.{leaving};

@@ -1,4 +1,6 @@
 // One record of the list into the rows that a caller lends: one of numbers and one of bytes.
+#![tactic(auto)]
+
 ghost use Rattle.std.specs.Prelude.{◌≡◌, [], ◌∷◌, ◌+◌, ◌*◌, ◌≤◌, length};
 ghost use Rattle.std.proofs.lemmas.List.Edits.{sets};
 ghost use Rattle.shared_words.specs.Bytes.{packed};

@@ -1,5 +1,7 @@
 // The list of an accepted file's known chunks as a lent table of records. There is no heap, so the numbers go through a
 // lent flat row, and both must have room.
+#![tactic(auto)]
+
 ghost use Rattle.std.specs.Prelude.{◌≡◌, ◌+◌, ◌*◌, ◌≤◌, length};
 ghost use Rattle.shared_words.specs.Encodings.{beside};
 ghost use Rattle.studio_rules.specs.Encodings.{flat_records};

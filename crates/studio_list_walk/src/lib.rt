@@ -1,6 +1,8 @@
 // The records of an accepted file's known chunks. The check has judged the file, so this pass judges nothing: it steps from
 // chunk to chunk by their lengths. A chunk holds a run of children and a run is made of chunks: `list_chunk` and `list_run`
 // call each other.
+#![tactic(auto)]
+
 ghost use Rattle.std.specs.Prelude.{◌≡◌, true, List, ◌++◌, ℕ, ◌+◌, ◌≤◌, ◌<◌, length};
 ghost use Rattle.std.proofs.Math.Seq.{slice};
 ghost use Rattle.studio_row.specs.Packed.{plus_in, kind_in};

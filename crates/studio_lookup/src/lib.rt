@@ -1,5 +1,7 @@
 // The row of an identifier by one look-up, so that no branch depends on what it is: the slots of specs/Slots, made once for
 // a file and lent to whoever looks up. (A constant array in `row` would be written to the stack at each call.)
+#![tactic(auto)]
+
 ghost use Rattle.std.specs.Prelude.{◌≡◌, ◌<◌};
 ghost use Rattle.studio_rules.specs.Table.{listed};
 ghost use Rattle.studio_row.specs.Packed.{row_of};

@@ -1,5 +1,7 @@
 // What a run of children leaves behind: for each of five slots of "at most one" the offset of the chunk that was seen there,
 // or 0; and in the sixth how many chunks of no group there were. The rules at a chunk's end are read off these marks.
+#![tactic(auto)]
+
 ghost use Rattle.std.specs.Prelude.{◌≡◌, cond, ◌+◌, ◌*◌, ◌<◌, min, length};
 ghost use Rattle.studio_rules.specs.OwnData.{root};
 ghost use Rattle.studio_row.specs.Packed.{slot_in};

@@ -1,4 +1,6 @@
 // What all calls about one mesh begin with: the file is checked, the mesh is found, and its tables have room.
+#![tactic(auto)]
+
 ghost use Rattle.std.specs.Prelude.{◌≡◌};
 ghost use Rattle.studio_mesh_asked.specs.Choices.{yes, room_for, fitting, AskedIs};
 
@@ -7,7 +9,7 @@ use studio_mesh_find::{Found, Place};
 use studio_rules::Checked;
 
 // Where the mesh asked for stands; or the refusal of the file, or of the number.
-#[derive(Drop)]
+#[derive(Clone, Copy)]
 pub enum Asked {
     Mesh(Place),
     Refused(Refusal),
@@ -27,7 +29,7 @@ pub fn ask(file: &[u8], mesh: u32) -> Asked
 }
 
 // What is lent for a table of the mesh: room for so many numbers; or it is not asked for.
-#[derive(Drop)]
+#[derive(Clone, Copy)]
 pub enum Lent {
     Numbers(usize),
     Unasked,

@@ -1,4 +1,6 @@
 // The box around the vertices of a mesh, and its centre.
+#![tactic(auto)]
+
 ghost use Rattle.std.specs.Prelude.{◌≡◌, true, ◌+◌, ◌*◌, ◌≤◌, ◌<◌, length, drop};
 ghost use Rattle.shared_words.specs.Bytes.{numbers};
 ghost use Rattle.shared_words.specs.Lists.{every};

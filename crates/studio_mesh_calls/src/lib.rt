@@ -1,4 +1,6 @@
 // The name of one mesh's object in a file, its box and centre. Each call answers for every file and every number.
+#![tactic(auto)]
+
 ghost use Rattle.std.specs.Prelude.{◌≡◌};
 ghost use Rattle.studio_rules.specs.Calls.{name_call, box_call};
 ghost use Rattle.studio_rules.specs.Within.{NameWithin, BoxNumbers};

@@ -1,5 +1,7 @@
 // Where a mesh stands in an accepted file. A 4100 stands only in a 4000, which stands only in the one 3D3D of 4D4D: so
 // nothing else is looked into, and siblings are passed over by their lengths.
+#![tactic(auto)]
+
 ghost use Rattle.std.specs.Prelude.{◌≡◌, true, List, map, ℕ, ◌+◌, length};
 ghost use Rattle.studio_rules.specs.Table.{listed, shape, counted};
 ghost use Rattle.studio_rules.specs.OwnData.{count};
@@ -15,7 +17,7 @@ use shared_numbers::{long_at, word_at};
 use studio_child::next_child;
 
 // The elements of counted own data: where they begin, and how many there are.
-#[derive(Drop)]
+#[derive(Clone, Copy)]
 pub struct Elements {
     pub at: usize,
     pub count: usize,
@@ -23,7 +25,7 @@ pub struct Elements {
 
 // An object: the length of its name without the zero, where its mesh stands, and where it ends. A mesh at the end is
 // none.
-#[derive(Drop)]
+#[derive(Clone, Copy)]
 pub struct Object {
     pub size: usize,
     pub mesh: usize,
@@ -32,7 +34,7 @@ pub struct Object {
 
 // The mapping of a mesh: where the pairs that the file has begin, how many they are, and how many there are with the missing
 // ones.
-#[derive(Drop)]
+#[derive(Clone, Copy)]
 pub struct Mapping {
     pub at: usize,
     pub count: usize,
@@ -40,7 +42,7 @@ pub struct Mapping {
 }
 
 // A mesh: where the name of its object stands, its length without the zero, its vertices, its faces and its mapping.
-#[derive(Drop)]
+#[derive(Clone, Copy)]
 pub struct Place {
     pub name: usize,
     pub size: usize,
@@ -50,14 +52,14 @@ pub struct Place {
 }
 
 // Where the objects of a figure stand, with what else is between and behind them.
-#[derive(Drop)]
+#[derive(Clone, Copy)]
 pub struct Between {
     pub from: usize,
     pub stop: usize,
 }
 
 // The mesh asked for, or how many there are.
-#[derive(Drop)]
+#[derive(Clone, Copy)]
 pub enum Found {
     Mesh(Place),
     Meshes(usize),

@@ -1,4 +1,6 @@
 // The mapping of a mesh into a lent row, as numbers or as bytes: the pairs that the file has, and zeros for the missing ones.
+#![tactic(auto)]
+
 ghost use Rattle.std.specs.Prelude.{◌≡◌, true, ◌++◌, map, ◌+◌, ◌-◌, ◌*◌, ◌≤◌, length, take, drop, replicate};
 ghost use Rattle.shared_words.specs.Bytes.{numbers, packed};
 ghost use Rattle.shared_words.specs.Lists.{every};

@@ -1,4 +1,6 @@
 // The lists of a mesh: vertices and corners into lent rows, as numbers or as bytes.
+#![tactic(auto)]
+
 ghost use Rattle.std.specs.Prelude.{◌≡◌, true, map, ◌+◌, ◌*◌, ◌≤◌, length, take, drop};
 ghost use Rattle.shared_words.specs.Bytes.{numbers, packed};
 ghost use Rattle.shared_words.specs.Lists.{every};

@@ -1,4 +1,6 @@
 // The tables of one mesh of a file, into lent rows: as numbers or as bytes. Each call answers for every file and every number.
+#![tactic(auto)]
+
 ghost use Rattle.std.specs.Prelude.{◌≡◌};
 ghost use Rattle.studio_rules.specs.Calls.{in_numbers, in_bytes, mapping_in_bytes, tables_call};
 ghost use Rattle.studio_rules.specs.Within.{SizesWithin};

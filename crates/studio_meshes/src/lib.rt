@@ -1,6 +1,8 @@
 // All meshes of a figure in one call: eight numbers each, or the nine of its box, into a lent row of bytes. The file is checked first,
 // and nothing is written before room for all meshes is there. Linear in the file: the check, and two passes over the objects; for the
 // boxes, one over all vertices.
+#![tactic(auto)]
+
 ghost use Rattle.std.specs.Prelude.{◌≡◌, List, [], ◌∷◌, ℕ, ◌+◌, ◌/◌, ◌≤◌, ◌<◌, ◌^◌, length};
 ghost use Rattle.shared_words.specs.Bytes.{packed};
 ghost use Rattle.shared_words.specs.Effects.{filled};
@@ -50,7 +52,7 @@ fn put_place(place: Place, at: usize, row: &mut [u8]) -> usize
 }
 
 // What is wanted of each mesh: its eight numbers, or those of its box.
-#[derive(Drop)]
+#[derive(Clone, Copy)]
 enum Wanted {
     Numbers,
     Boxes,
@@ -121,7 +123,7 @@ fn fill(file: &[u8], from: usize, stop: usize, wanted: Wanted, row: &mut [u8])
 }
 
 // Where the objects stand and how many meshes there are; or the refusal of the file, or of the room.
-#[derive(Drop)]
+#[derive(Clone, Copy)]
 enum Asked {
     Refused(Refusal),
     Meshes {

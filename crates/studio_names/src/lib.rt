@@ -1,4 +1,6 @@
 // Where a name ends: the scan for its zero, and for what does not fit the label.
+#![tactic(auto)]
+
 ghost use Rattle.std.specs.Prelude.{◌≡◌, true, ◌+◌, ◌≤◌, min, length};
 ghost use Rattle.std.proofs.Math.Seq.{slice};
 ghost use Rattle.studio_rules.specs.OwnData.{name_size};

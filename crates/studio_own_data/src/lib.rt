@@ -1,4 +1,6 @@
 // Own data of a chunk: whether what stands in it is allowed. How many bytes it takes is told by crate studio_own_size.
+#![tactic(auto)]
+
 ghost use Rattle.std.specs.Prelude.{◌≡◌, ◌+◌, ◌≤◌, ◌<◌, length, leb, true, not, ◌||◌};
 ghost use Rattle.std.proofs.Math.Seq.{slice};
 ghost use Rattle.studio_rules.specs.Table.{listed, under};
@@ -67,7 +69,7 @@ fn leaves_bytes(row: u64, from: usize, stop: usize) -> bool
 }
 
 // What own data of the chunk at a position comes to: a fault, or so many bytes.
-#[derive(Drop)]
+#[derive(Clone, Copy)]
 pub enum Judged {
     Fault(Refusal),
     Size(usize),

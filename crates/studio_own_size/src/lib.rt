@@ -1,4 +1,6 @@
 // How many bytes the own data of a chunk takes, by the shape that its row gives.
+#![tactic(auto)]
+
 ghost use Rattle.std.specs.Prelude.{◌≡◌, List, [], ℕ, ◌≤◌, ◌<◌, length};
 ghost use Rattle.std.proofs.Math.Seq.{slice};
 ghost use Rattle.studio_rules.specs.Table.{name, counted, named_words, named};
@@ -10,7 +12,7 @@ use shared_numbers::word_at;
 use studio_names::{fit_size, fit_size_16};
 
 // The size of own data: no zero ends its name; its name does not fit the label; it is longer than the body; or so many bytes.
-#[derive(Drop)]
+#[derive(Clone, Copy)]
 pub enum Own {
     NoName,
     Unfit,

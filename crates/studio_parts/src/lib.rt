@@ -1,5 +1,7 @@
 // Who hangs on whom: the father and the depth of each part of a moving figure, into a lent row of numbers or of bytes. The file
 // is checked first, and nothing is written before room for all parts is there.
+#![tactic(auto)]
+
 ghost use Rattle.std.specs.Prelude.{◌≡◌};
 ghost use Rattle.studio_rules.specs.Encodings.{part_row, part_bytes};
 ghost use Rattle.studio_rules.specs.Calls.{parts_call};
@@ -11,7 +13,7 @@ use studio_parts_find::{count_parts, find_parts};
 use studio_rules::{Checked, Counted};
 
 // Where the parts stand and how many there are; or the refusal of the file, or of the room.
-#[derive(Drop)]
+#[derive(Clone, Copy)]
 enum Asked {
     Refused(Refusal),
     Parts {

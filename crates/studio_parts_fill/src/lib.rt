@@ -1,5 +1,7 @@
 // The parts of an accepted file into a lent row, of numbers or of bytes: two numbers a part, its father and its depth. A father
 // stands earlier, so its depth is read back from the row itself.
+#![tactic(auto)]
+
 ghost use Rattle.std.specs.Prelude.{◌≡◌, [], ◌∷◌, ◌+◌, ◌/◌, ◌≤◌, length};
 ghost use Rattle.shared_words.specs.Bytes.{packed};
 ghost use Rattle.shared_words.specs.Effects.{filled};

@@ -1,5 +1,7 @@
 // Where the parts of an accepted file stand, and what father each tells. A B002 stands only in the one B000 of 4D4D, so nothing
 // else is looked into.
+#![tactic(auto)]
+
 ghost use Rattle.std.specs.Prelude.{◌≡◌, List, ℕ, ◌+◌, ◌<◌, length};
 ghost use Rattle.studio_rules.specs.OwnData.{father};
 ghost use Rattle.studio_rules.specs.Layout.{Run, known, size, child, offset_of};
@@ -12,7 +14,7 @@ use shared_numbers::{long_at, word_at};
 use studio_child::next_child;
 
 // Where a run of chunks stands.
-#[derive(Drop)]
+#[derive(Clone, Copy)]
 pub struct Between {
     pub from: usize,
     pub stop: usize,

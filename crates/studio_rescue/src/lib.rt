@@ -1,5 +1,7 @@
 // The rescue of a damaged figure into two lent rows: all is judged and counted, and then the cuts and the mended file are put. The
 // file itself is read only.
+#![tactic(auto)]
+
 ghost use Rattle.std.specs.Prelude.{◌≡◌, ◌+◌, ◌-◌, ◌<◌, ◌≤◌, length};
 ghost use Rattle.std.proofs.Math.Seq.{slice};
 ghost use Rattle.shared_numbers.specs.Put.{Put};

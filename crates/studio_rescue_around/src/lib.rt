@@ -1,4 +1,6 @@
 // What stands around the children of 3D3D in a damaged figure: the first fault there, or where 3D3D stands.
+#![tactic(auto)]
+
 ghost use Rattle.std.specs.Prelude.{◌≡◌, [], ◌+◌, ◌<◌, ◌≤◌, length, drop};
 ghost use Rattle.studio_rules.specs.Walk.{top, ended};
 ghost use Rattle.studio_rescue_rules.specs.Rescue.{mend, mended};
@@ -11,7 +13,7 @@ use studio_lookup::FIGURE;
 use studio_walk::Ran;
 
 // A fault that nothing mends, or 3D3D: where it begins and ends.
-#[derive(Drop)]
+#[derive(Clone, Copy)]
 pub enum Outside {
     Beyond(Refusal),
     Scene { at: usize, stop: usize },

@@ -1,9 +1,11 @@
 // The rescue of a damaged figure: its meaning. The definitions and statements stand in specs/, their proofs in proofs/; the
 // call answers this.
+#![tactic(auto)]
+
 use shared_words::Refusal;
 
 // How many cuts there are, and how many bytes the mended file has.
-#[derive(Drop)]
+#[derive(Clone, Copy)]
 pub enum Mended {
     Written { cuts: usize, size: usize },
     Refused(Refusal),

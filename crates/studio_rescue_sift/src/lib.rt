@@ -1,5 +1,7 @@
 // The children of 3D3D, each judged by itself: how many of them fail and how many bytes that is; and then what is kept of them,
 // and the cuts, put into two rows. So each child is judged twice, and nothing is written before all are judged.
+#![tactic(auto)]
+
 ghost use Rattle.std.specs.Prelude.{◌≡◌, [], ◌∷◌, ◌+◌, ◌<◌, ◌≤◌, length};
 ghost use Rattle.std.proofs.Math.Seq.{slice};
 ghost use Rattle.shared_words.specs.Bytes.{packed};
@@ -32,7 +34,7 @@ fn end_of(file: &[u8], at: usize, end: usize) -> usize
 }
 
 // A child judged: it is cut, with the number of its refusal, or kept.
-#[derive(Drop)]
+#[derive(Clone, Copy)]
 enum Child {
     Cut(u32),
     Kept,
@@ -60,7 +62,7 @@ fn judge(file: &[u8], table: &[u64; 128], version: u32, at: usize, stop: usize) 
 }
 
 // How many cuts there are, and how many bytes they are together.
-#[derive(Drop)]
+#[derive(Clone, Copy)]
 pub struct Cuts {
     pub count: usize,
     pub gone: usize,

@@ -1,5 +1,7 @@
 // A row of the chunk table as one number, so that looking at it costs nothing: the row of crate studio_rules, packed as specs/Packed
 // says. Here are its fields; crate studio_lookup looks rows up.
+#![tactic(auto)]
+
 ghost use Rattle.std.specs.Prelude.{◌≡◌};
 ghost use Rattle.studio_row.specs.Packed.{may_hold_in, plus_in, plain_in, kind_in, Slot, Size};
 

@@ -1,10 +1,12 @@
 // What the calls of the reader answer. The definitions in specs/ speak of these types, and every crate that reads a
 // figure answers with them.
+#![tactic(auto)]
+
 use shared_words::Refusal;
 
 // One known chunk in the list. `next` is the number of the first record behind it and all that it holds.
 #[repr(C)]
-#[derive(Drop)]
+#[derive(Clone, Copy)]
 pub struct Record {
     pub identifier: u32,
     pub offset: u32,
@@ -16,7 +18,7 @@ pub struct Record {
 }
 
 // How many records the list has, and the three byte counts.
-#[derive(Drop)]
+#[derive(Clone, Copy)]
 pub struct Counts {
     pub records: usize,
     pub headers: usize,
@@ -25,14 +27,14 @@ pub struct Counts {
 }
 
 // The answer of the check and of the list.
-#[derive(Drop)]
+#[derive(Clone, Copy)]
 pub enum Checked {
     Accepted(Counts),
     Refused(Refusal),
 }
 
 // How many vertices and faces a mesh has, and how many pairs its mapping.
-#[derive(Drop)]
+#[derive(Clone, Copy)]
 pub struct Sizes {
     pub vertices: usize,
     pub faces: usize,
@@ -40,35 +42,35 @@ pub struct Sizes {
 }
 
 // The answer of a mesh's tables.
-#[derive(Drop)]
+#[derive(Clone, Copy)]
 pub enum Tabled {
     Filled(Sizes),
     Refused(Refusal),
 }
 
 // The answer of a call that gives out all parts, or all meshes: how many the row holds.
-#[derive(Drop)]
+#[derive(Clone, Copy)]
 pub enum Counted {
     Filled(usize),
     Refused(Refusal),
 }
 
 // Where a name stands in the file, and its length without the zero.
-#[derive(Drop)]
+#[derive(Clone, Copy)]
 pub struct Span {
     pub offset: usize,
     pub size: usize,
 }
 
 // The answer of a mesh's name.
-#[derive(Drop)]
+#[derive(Clone, Copy)]
 pub enum Named {
     At(Span),
     Refused(Refusal),
 }
 
 // A corner of a box.
-#[derive(Drop)]
+#[derive(Clone, Copy)]
 pub struct Corner {
     pub x: f32,
     pub y: f32,
@@ -76,14 +78,14 @@ pub struct Corner {
 }
 
 // A box: its low and its high corner.
-#[derive(Drop)]
+#[derive(Clone, Copy)]
 pub struct BoundingBox {
     pub low: Corner,
     pub high: Corner,
 }
 
 // The answer of a mesh's box: the box and its centre.
-#[derive(Drop)]
+#[derive(Clone, Copy)]
 pub enum Boxed {
     Around(BoundingBox, Corner),
     Refused(Refusal),

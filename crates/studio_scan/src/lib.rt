@@ -1,5 +1,7 @@
 // Scans of a list in a slice: whether all its numbers pass a test. The loops branch on nothing that they read, so that they
 // run as fast as the bytes come.
+#![tactic(auto)]
+
 ghost use Rattle.std.specs.Prelude.{◌≡◌, ◌+◌, ◌*◌, ◌≤◌, max, length, drop};
 ghost use Rattle.shared_words.specs.Bytes.{numbers};
 ghost use Rattle.shared_words.specs.Lists.{every};

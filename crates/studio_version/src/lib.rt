@@ -1,4 +1,6 @@
 // The version of a file, by its bytes: accepted or not, it decides how many mapping pairs a mesh may have.
+#![tactic(auto)]
+
 ghost use Rattle.std.specs.Prelude.{◌≡◌, drop};
 ghost use Rattle.studio_rules.specs.Walk.{version_in};
 

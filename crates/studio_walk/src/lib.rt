@@ -1,6 +1,8 @@
 // The strict reading of chunks. A chunk holds a run of children and a run is made of chunks: `chunk` and `run` call each
 // other, and the first fault met in file order is answered. The tests at a chunk's start are in crate studio_head, those at its end
 // in crate studio_marks.
+#![tactic(auto)]
+
 ghost use Rattle.std.specs.Prelude.{◌≡◌, List, ℕ, ◌≤◌, ◌<◌, length};
 ghost use Rattle.std.proofs.Math.Seq.{slice};
 ghost use Rattle.studio_rules.specs.Rules.{Parent};
@@ -14,7 +16,7 @@ use shared_words::{Judged, Refusal};
 use studio_head::Head;
 
 // What a chunk or a run of chunks comes to: where it ends, how many records it has and how many bytes were skipped.
-#[derive(Drop)]
+#[derive(Clone, Copy)]
 pub enum Ran {
     Refused(Refusal),
     Done {

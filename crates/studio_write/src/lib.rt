@@ -1,4 +1,6 @@
 // The writer of a bare figure. All is judged before the first byte is written.
+#![tactic(auto)]
+
 ghost use Rattle.std.specs.Prelude.{◌≡◌};
 ghost use Rattle.studio_write.specs.Write.{write_call};
 

@@ -1,4 +1,6 @@
 // Whether a bare figure can be written: the first fault of what is given, or the size of the file.
+#![tactic(auto)]
+
 ghost use Rattle.std.specs.Prelude.{◌≡◌, ltb};
 ghost use Rattle.shared_words.specs.Lists.{every, first_fault};
 ghost use Rattle.shared_words.specs.Labels.{label_fault};

@@ -1,4 +1,6 @@
 // The functions that C calls. Each answers one number and fills byte slices; include/tds.h describes them for C.
+#![tactic(auto)]
+
 ghost use Rattle.std.specs.Prelude.{◌≡◌, ◌/◌, ◌%◌};
 ghost use Rattle.studio_rules.specs.Encodings.{record_bytes, part_bytes};
 ghost use Rattle.studio_rules.specs.Calls.{check_call, list_call, in_bytes, mapping_in_bytes, tables_call, name_call, box_call, parts_call};
