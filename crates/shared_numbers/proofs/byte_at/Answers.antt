@@ -1,0 +1,10 @@
+-- A byte that was read is below 256.
+use mathlib.Core.Path.{refl}
+use native.Mathlib.Omega.{arith}
+use Rattle.shared_numbers.proofs.byte_at.Goals as goal
+
+pub overflow_cast-result : goal.overflow_cast-result
+overflow_cast-result c = omega (arith, c.type_inv.s c.args.at)
+
+pub returns : goal.returns
+returns c = (refl, omega (arith, c.type_inv.s c.args.at))
