@@ -1,7 +1,7 @@
 -- The writer: what it writes reads back, and what is read is written again as it was.
 -- Its conditions are the rules of the entries that its numbers stand for; and the numbers of a slip's entries stand for
 -- those entries, with the slip itself as the names.
-use mathlib.Core.Path.{◌≡◌, refl, sym, ap, subst, ◌∙◌}
+use mathlib.Core.Path.{◌≡◌, refl, sym, ap, ap₂, subst, ◌∙◌}
 use Prim.Native.Nat.{ℕ, suc, ◌+◌, ◌*◌, ◌/◌, ◌%◌, ◌≤◌}
 use native.Mathlib.Omega.{arith}
 use mathlib.Core.Bool.{true}
@@ -117,7 +117,8 @@ entries-back : (es : List Entry) (seen : List (List ℕ)) (before : List ℕ) �
 entries-back [] seen before h = refl
 entries-back (e ∷ es) seen before h =
     let n = entries-back es (remember seen e) (before ++ entry_bytes e) h.1 in
-    rw (entry-back before e (all_bytes es) h.0.sums_proper_lem, behind-back before e (all_bytes es), next-back before e (all_bytes es), n)
+    ap₂ (λ (x : Entry) (xs : List Entry). x ∷ xs) (entry-back before e (all_bytes es) h.0.sums_proper_lem)
+    (ap₂ (λ (names : List ℕ) (at : ℕ). entries_from names (all_numbers at es)) (next-back before e (all_bytes es)) (behind-back before e (all_bytes es)) ∙ n)
 
 rows_back : (es : List Entry) (seen : List (List ℕ)) (i : ℕ) (before : List ℕ) (later : List Condition) → AllLawful seen es →
     i + length es ≤ most_entries → Met later → Met (row_conditions (before ++ all_bytes es) seen i (all_numbers (length before) es) later)
@@ -130,8 +131,17 @@ rows_back (e ∷ es) seen i before later h l k =
       (
         within-back before e (all_bytes es),
         subst (λ (x : Entry). Met (entry_conditions seen i x (row_conditions names (remember seen x) (suc i) (all_numbers (behind (length before) e) es) later)))
-            (sym (entry-back before e (all_bytes es) p.sums_proper_lem))
-            (p.is-named, (p.sums_proper_lem, (p.not_twice_lem, (rw (behind-back before e (all_bytes es), next-back before e (all_bytes es)) n)))),
+            (sym (entry-back before e (all_bytes es) p.sums_proper_lem)) (
+              p.is-named,
+              (
+                p.sums_proper_lem,
+                (
+                  p.not_twice_lem,
+                  subst (λ (s : List ℕ). Met (row_conditions s (remember seen e) (suc i) (all_numbers (behind (length before) e) es) later)) (sym (next-back before e (all_bytes es)))
+                      (subst (λ (at : ℕ). Met (row_conditions (before ++ entry_bytes e ++ all_bytes es) (remember seen e) (suc i) (all_numbers at es) later)) (sym (behind-back before e (all_bytes es))) n),
+                ),
+              ),
+            ),
       ),
     )
 
