@@ -20,7 +20,7 @@ use Rattle.cob_rules.specs.Theorems.{OwnersFound, OneOwner}
 pub one_owner : OneOwner
 one_owner cs x t t' a b = go a b
   where
-    go : {x t t' : ℕ} → WayUp cs t x → WayUp cs t' x → t ≡ t'
+    go : {t t' x : ℕ} → WayUp cs t x → WayUp cs t' x → t ≡ t'
     go (top h) (top h') = refl
     go (top h) (up n w) = absurd (n h)
     go (up n w) (top h) = absurd (n h)
@@ -69,9 +69,9 @@ module _ (seen : List Chunk) (g : Good seen) (c : Chunk) (n : New seen c) where
   used-more : (x : ℕ) → used x seen ≡ true → used x (c ∷ seen) ≡ true
   used-more x u = or_else (eqb (identifier c) x) (used x seen) (λ e. u)
 
-  way_same : {x t : ℕ} → used x seen ≡ true → WayUp seen t x → WayUp (c ∷ seen) t x
+  way_same : {t x : ℕ} → used x seen ≡ true → WayUp seen t x → WayUp (c ∷ seen) t x
   way_same u (top h) = top (parent-same _ u ∙ h)
-  way_same {x} {t} u (up m w) =
+  way_same {t} {x} u (up m w) =
       let k : used (parent_of seen x) seen ≡ true = or_second (eqb (parent_of seen x) 0) (used (parent_of seen x) seen) (g.closed x u) (ne_eqb (parent_of seen x) 0 m) in
       up (λ e. m (sym (parent-same x u) ∙ e)) (subst (WayUp (c ∷ seen) t) (sym (parent-same x u)) (way_same k w))
 

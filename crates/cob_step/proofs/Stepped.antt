@@ -85,9 +85,10 @@ module _ (s : List ℕ) (at : ℕ) {ids : List ℕ} {count id up : ℕ} (i : ide
   pub tree_grows : b ≡ true → count < length ids → Represents ids' links' (suc (suc (length seen))) × Holds ids' (chunk_in s at ∷ seen)
   tree_grows t l =
       let g = a.new t in
-      let m : count + 1 ≡ suc (suc (length seen)) = omega arith in (
+      let m : count + 1 ≡ suc (suc (length seen)) = omega arith in
+      let e = rw (← n, ← i) at g.0 in (
         subst (Represents ids' links') m g.1,
-        rw (g.0, ← n, ← i) (holds_more ids seen (chunk_in s at) (omega arith) h),
+        subst (λ (l : List ℕ). Holds l (chunk_in s at ∷ seen)) (sym e) (holds_more ids seen (chunk_in s at) (omega arith) h),
       )
 
   -- a good chunk before END
