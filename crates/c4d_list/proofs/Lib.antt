@@ -1,3 +1,4 @@
-pub mod Noted
-pub mod Filling
 pub mod Calls
+pub mod Filling
+pub mod Noted
+pub mod Putting

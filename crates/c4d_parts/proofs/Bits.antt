@@ -3,7 +3,7 @@ use mathlib.Core.Path.{◌≡◌, refl, sym, ap, ◌∙◌}
 use Prim.Native.Nat.{ℕ, zero, suc, ◌+◌, ◌-◌, ◌*◌, ◌/◌, ◌%◌, ◌^◌, ◌<◌, ◌≤◌}
 use native.Mathlib.Omega.{arith}
 use native.Mathlib.Nat.{div-div-eq-div-mul, pow-succ', pow-zero, pow-le-pow_right}
-use mathlib.Core.Bool.{Bool, true, false, ◌||◌, cond, or_false}
+use mathlib.Core.Bool.{Bool, true, false, ◌||◌, cond, or-false}
 use mathlib.Core.List.{List, [], ◌∷◌, ◌++◌}
 use lib.Dec.{eqb}
 use borrow.Author.Tests.{eqb-true, eq-eqb, ne_eqb}
@@ -87,7 +87,7 @@ module _ (ids : List ℕ) (id : ℕ) where
     where
       go : (b : Bool) → eqb j id ≡ b → (among j ids || b) ≡ among j ids
       go true e = let i : among j ids ≡ true = ap (is_in ids) (eqb-true j id e) ∙ h in rw i
-      go false e = or_false (among j ids)
+      go false e = or-false (among j ids)
 
   pub bits-again : is_in ids id ≡ true → bits (ids ++ (id ∷ [])) ≡ bits ids
   unfolding bits
@@ -98,7 +98,7 @@ module _ (ids : List ℕ) (id : ℕ) where
   unfolding bits
   bits_other h =
       bits-same (is_in (ids ++ (id ∷ []))) (is_in ids) 17 16
-      (λ j l m. among_snoc j ids id ∙ rw (ne_eqb j id (λ (e : j ≡ id). let n = h (omega arith) in omega arith)) (or_false (among j ids)))
+      (λ j l m. among_snoc j ids id ∙ rw (ne_eqb j id (λ (e : j ≡ id). let n = h (omega arith) in omega arith)) (or-false (among j ids)))
 
   pub bits-more : 16 ≤ id → id ≤ 32 → is_in ids id ≡ false → bits ids + 2 ^ (id - 16) ≡ bits (ids ++ (id ∷ []))
   unfolding bits
@@ -106,7 +106,7 @@ module _ (ids : List ℕ) (id : ℕ) where
       let e : 16 + (id - 16) ≡ id = omega arith in
       let q : is_in (ids ++ (id ∷ [])) id ≡ true = among_snoc id ids id ∙ rw (h, eq-eqb id id refl) in
       bits-set (is_in ids) (is_in (ids ++ (id ∷ []))) 17 (id - 16) 16 (omega arith) (rw e h) (rw e q)
-      (rw e (λ j n. sym (among_snoc j ids id ∙ rw (ne_eqb j id n) (or_false (among j ids)))))
+      (rw e (λ j n. sym (among_snoc j ids id ∙ rw (ne_eqb j id n) (or-false (among j ids)))))
 
 -- the bit of an identifier, as it is made by a shift
 pub shift_small : (id : ℕ) → 16 ≤ id → id ≤ 32 → 2 ^ (id - 16) ≤ 65536
