@@ -18,7 +18,7 @@ use Rattle.studio_marks.specs.Marks.{free, noted}
 use Rattle.studio_head.specs.declared.Header.{Header}
 use Rattle.studio_head.specs.declared.Head.{Head}
 use Rattle.studio_head.specs.Heads.{HeaderIs, HeaderWithin, OrderIs, HeadIs, MarksAre, opened_by}
-use Rattle.studio_head.specs.Contexts.{Context}
+use Rattle.studio_head.specs.Contexts.{Room, Context}
 use Rattle.studio_head.proofs.Opens.{step-fault, step_skip, step_misplaced, step_twice, step-opened, head_skip, row_listed, row-unlisted, marks-opened}
 use Rattle.studio_head.proofs.Places.{under-is, few-is}
 use Rattle.studio_head.proofs.Orders.{order_is}
@@ -103,3 +103,9 @@ module _ (s : List ℕ) (at end parent word : ℕ) (ms : List ℕ) where
               is = opens p seen rest (placed p seen k) k.bound-is (order_is p seen parent word ms k id (placed p seen k) order o);
               marks = subst (MarksAre at (opened_by p at id body rest) ms) (sym m) (marks-opened p at id body rest ms);
             }
+
+-- what the code knows once it has looked up the row
+pub looked : (s : List ℕ) (at end parent word : ℕ) (ms : List ℕ) (id past row : ℕ) (r : Header) → at < end → Room end word s ms →
+    HeaderIs s at (broken (header_conditions at (slice at end s) (length_field (slice at end s)))) r → r ≡ Header.Is id past → HeaderWithin at end (Header.Is id past) → row ≡ row_of id →
+    Looked s at end parent word ms id past row
+looked s at end parent word ms id past row r o room i e w h = record { order = o; stays = room.ends; six = room.six; header = r; told = i; fine = e; within = w; row_is = h }

@@ -234,6 +234,10 @@ pub length-noted : (b : Bool) (ms : List ℕ) (k at : ℕ) → length (cond b (n
 length-noted true ms k at = noted-length k at ms
 length-noted false ms k at = refl
 
+-- a slot noted or not, there are six marks
+pub six_still : (b : Bool) (ms ms' : List ℕ) (k at : ℕ) → ms' ≡ cond b (noted k at ms) ms → length ms ≡ 6 → length ms' ≡ 6
+six_still b ms ms' k at e six = ap length e ∙ length-noted b ms k at ∙ six
+
 pub within_more : (at past end : ℕ) → past ≤ end → (r : Head) → HeadWithin at past r → HeadWithin at end r
 within_more at past end h (Head.Fault x) w = tt
 within_more at past end h (Head.Skip q) w = omega arith

@@ -1,7 +1,7 @@
 -- The conditions at a chunk's end, read off the marks that its children left.
 use mathlib.Core.Path.{◌≡◌, refl, sym, ap, ◌∙◌, subst}
 use mathlib.Core.Logic.{inl, inr, ◌↔◌}
-use mathlib.Core.Bool.{Bool, true, false, not, ◌||◌, cond, true≢false, false≢true, and-true, or_false}
+use mathlib.Core.Bool.{Bool, true, false, not, ◌||◌, cond, true≢false, false≢true, and-true, or-false}
 use mathlib.Core.List.{List, [], ◌∷◌}
 use mathlib.Core.Option.{Option, none, some}
 use Prim.Native.Nat.{ℕ, ◌+◌, ◌*◌, ◌≤◌, ◌<◌}
@@ -41,7 +41,7 @@ alone : (x : ℕ) (ys : List ℕ) → all_slot ys (x ∷ []) ≡ true → Alone 
 alone x [] h = tt
 alone x (y ∷ ys) h =
     let a = and_parts (SlotTest y (x ∷ [])) (all_slot ys (x ∷ [])) h in
-    (sym (same-is (among y (x ∷ [])) (eqb (slot_of y) (slot_of x)) (and_parts _ _ a.0).0) ∙ or_false (eqb y x), alone x ys a.1)
+    (sym (same-is (among y (x ∷ [])) (eqb (slot_of y) (slot_of x)) (and_parts _ _ a.0).0) ∙ or-false (eqb y x), alone x ys a.1)
 
 -- equal conditions, where their refusals differ only if they hold
 broken-same : (b c : Bool) (x y : Refusal) (bs cs : List Condition) → b ≡ c → (c ≡ false → x ≡ y) → broken bs ≡ broken cs → broken (must b x ∷ bs) ≡ broken (must c y ∷ cs)

@@ -28,6 +28,8 @@ use Rattle.studio_rescue_rules.proofs.File.{MendedFile, file-mended}
 use Rattle.studio_rescue_rules.proofs.Back.{damaged, result, old-length, len_lowered, sizes, body_is, sifted-is}
 use Rattle.studio_rescue_around.specs.declared.Outside.{Outside}
 use Rattle.studio_rescue_around.specs.Around.{outside_of}
+use Rattle.studio_rescue_sift.specs.declared.Cuts.{Cuts}
+use Rattle.studio_rescue_sift.specs.Children.{cuts_of}
 use Rattle.studio_rescue.specs.Parts.{rescue_rows, front_of, PutIs}
 
 pub front_length : (s : List ℕ) (at n m : ℕ) → 6 ≤ at → at + 6 ≤ length s → length (front_of s at n m) ≡ at + 6
@@ -116,6 +118,16 @@ module _ (s : List ℕ) (b : Bytes s) (at stop : ℕ) (g : Found s at stop) wher
 
   sifted-there : sifted_at (offset_of 0x3D3D 6 g.kids) s ≡ after
   sifted-there = ap (λ (e : ℕ). sifted_at e s) w.place ∙ sifted-is s g.kids f ∙ after_is
+
+  -- what the code counted
+  pub count-is : (x : ℕ) → x ≡ version_of s → (r : Cuts) → r ≡ cuts_of (sift x (at + 6) (slice (at + 6) stop s)).cuts → r.count ≡ length after.cuts
+  count-is x e r h = ap (λ (c : Cuts). c.count) h ∙ ap (λ (y : ℕ). length (sift y (at + 6) (slice (at + 6) stop s)).cuts) e
+
+  pub lost-is : (x : ℕ) → x ≡ version_of s → (r : Cuts) → r ≡ cuts_of (sift x (at + 6) (slice (at + 6) stop s)).cuts → r.gone ≡ gone after.cuts
+  lost-is x e r h = ap (λ (c : Cuts). c.gone) h ∙ ap (λ (y : ℕ). gone (sift y (at + 6) (slice (at + 6) stop s)).cuts) e
+
+  pub lost-within : (lost : ℕ) → lost ≡ gone after.cuts → lost ≤ length s
+  lost-within lost e = omega (arith, kept_or_cut v s (at + 6) stop b places.2, places.2)
 
   pub rescue-is : rescue s ≡ saved (bytes (figure g.kids)) after.cuts
   unfolding rescue

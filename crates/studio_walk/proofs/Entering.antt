@@ -18,7 +18,7 @@ use Rattle.studio_marks.proofs.Ends.{mesh-placed}
 use Rattle.studio_head.specs.declared.Head.{Head}
 use Rattle.studio_walk.specs.declared.Ran.{Ran}
 use Rattle.studio_head.specs.Heads.{HeadIs, MarksAre, HeadWithin}
-use Rattle.studio_head.specs.Contexts.{Context}
+use Rattle.studio_head.specs.Contexts.{Room, Context}
 use Rattle.studio_walk.specs.Runs.{ClosesBy, ChunkIs, RunIs}
 use Rattle.studio_walk.proofs.Contexts.{context_inside, own_bytes, bound_small}
 use Rattle.studio_walk.proofs.Parts.{bytes-slice, PartsAt, EnteredAt, step-parts}
@@ -34,6 +34,13 @@ pub record Opened (s : List ℕ) (at end : ℕ) (q : Parent) (seen ms ms₁ : Li
   pub head : HeadIs q seen at (step q seen at (slice at end s)) (Head.Enter id row word from past)
   pub marks : MarksAre at (step q seen at (slice at end s)) ms ms₁
   pub within : HeadWithin at end (Head.Enter id row word from past)
+
+-- by what the code knows of it
+pub opened : (s : List ℕ) (at end count : ℕ) (q : Parent) (seen ms ms₁ : List ℕ) (id row word from past : ℕ) → at < end → Room end count s ms → Bytes s →
+    HeadIs q seen at (step q seen at (slice at end s)) (Head.Enter id row word from past) → MarksAre at (step q seen at (slice at end s)) ms ms₁ → HeadWithin at end (Head.Enter id row word from past) →
+    Opened s at end q seen ms ms₁ id row word from past
+opened s at end count q seen ms ms₁ id row word from past o room b h m w =
+    record { starts = o; ends = room.ends; small = omega (arith, room.short); are_bytes = b; head = h; marks = m; within = w }
 
 module _ {s : List ℕ} {at end : ℕ} {q : Parent} {seen ms ms₁ : List ℕ} {id row word from past : ℕ} (o : Opened s at end q seen ms ms₁ id row word from past) where
   pub ent : Entering q seen at (step q seen at (slice at end s)) id row word from past

@@ -11,9 +11,11 @@ use Rattle.studio_rules.specs.Rules.{Parent}
 use Rattle.studio_rules.specs.Walk.{Step, pass, step, taken, walk}
 use Rattle.studio_head.specs.Passes.{Passes, none_yet, one_more}
 use Rattle.studio_walk.specs.declared.Ran.{Ran}
-use Rattle.studio_walk.specs.Runs.{RunIs}
+use Rattle.studio_marks.specs.Marks.{RuleIs}
+use Rattle.studio_head.specs.Contexts.{Context}
+use Rattle.studio_walk.specs.Runs.{ChunkIs, ChunkWithin, RunIs}
 use Rattle.studio_walk.proofs.Parts.{PartsAt, step-parts}
-use Rattle.studio_walk.proofs.Runs.{begun, skip-on}
+use Rattle.studio_walk.proofs.Runs.{begun, skip-on, GoesOn, goes_on}
 use Rattle.studio_walk.proofs.Loop.{Sofar}
 
 passes-past : (p : Parent) (seen s : List ℕ) (at end o : ℕ) → Passes p seen s at end o → at ≤ o
@@ -36,6 +38,29 @@ module _ (p : Parent) (seen s : List ℕ) (end records : ℕ) (ms : List ℕ) (b
   passed_over at o skips (one_more o' id body rest h less e) t =
       let n : skips + (o' + (6 + length body) - at) ≡ skips + (o' - at) + (6 + length body) = omega (arith, passes-past p seen s at end o' h) in
       passed_over at o' skips h (one-skipped o' (skips + (o' - at)) id body rest less e (rw n at t))
+
+-- the run goes on behind a chunk that was done
+pub sofar_stepped : {s : List ℕ} {row word : ℕ} {as_many : Bool} {at end : ℕ} {ms₀ ms ms' : List ℕ} {p records skips : ℕ} (next n k : ℕ) → Bytes s → end ≤ length s → 1 ≤ at → p < end →
+    Sofar s row word as_many at end ms₀ ms p records skips → length ms' ≡ 6 → ChunkWithin p end (Ran.Done next n k) →
+    ((q : Parent) (seen : List ℕ) → RuleIs q as_many → Context q seen row word ms → ChunkIs q seen p (step q seen p (slice p end s)) (Ran.Done next n k) ms ms') →
+    Sofar s row word as_many at end ms₀ ms' next (records + n) (skips + k)
+sofar_stepped {s} {row} {word} {as_many} {at} {end} {ms₀} {ms} {ms'} {p} {records} {skips} next n k b l o h i six f came =
+    let y = i.somewhere in
+    let z = went_on y.0 y.1 y.2 y.3 in
+    record {
+      past = omega (arith, i.past, f.0);
+      before = f.1;
+      six = six;
+      within = omega (arith, i.within, i.past, f.0, f.2);
+      somewhere = (y.0, z.seen', y.2, z.context);
+      later = λ q seen rule c.
+          let j = i.later q seen rule c in
+          let d = went_on q j.seen' rule j.context in
+          record { seen' = d.seen'; context = d.context; tells = λ r ms'' t. j.tells r ms'' (d.tells records skips r ms'' t) };
+    }
+  where
+    went_on : (q : Parent) (seen : List ℕ) → RuleIs q as_many → Context q seen row word ms → GoesOn q seen s p end ms row word (walk q seen p (slice p end s)) next n k ms'
+    went_on q seen rule c = goes_on q seen s p end ms h l row word c i.six (omega (arith, i.past, o)) b next n k ms' (came q seen rule c)
 
 -- so the run has come as far as they end
 pub sofar_passed : {s : List ℕ} {row word : ℕ} {as_many : Bool} {at end : ℕ} {ms₀ ms : List ℕ} {p records skips o : ℕ} → Bytes s → end ≤ length s → p ≤ o → o ≤ end → ((q : Parent) (seen : List ℕ) → Passes q seen s p end o) →

@@ -1,0 +1,23 @@
+-- A fault of the file itself, or what its chunks come to.
+use mathlib.Core.Path.{◌∙◌}
+use Rattle.studio_check.proofs.Files.{file-refused, file-is_fine, file-read, file-bounds}
+use Rattle.studio_check.proofs.check.Goals as goal
+
+pub check_figure-requires : goal.check_figure-requires
+check_figure-requires c =
+    let x = c in
+    let w = c.judge_file in
+    file-bounds x.args.file.now (file-is_fine x.args.file.now w.result c.in-Good.is w.ensures)
+
+pub returns-in-Refused : goal.returns-in-Refused
+returns-in-Refused c =
+    let x = c in
+    let w = c.judge_file in
+    let g = c.in-Refused in
+    file-refused x.args.file.now g.r w.result g.is w.ensures
+
+pub returns-in-Good : goal.returns-in-Good
+returns-in-Good c =
+    let x = c in
+    let w = c.judge_file in
+    c.check_figure.ensures ∙ file-read x.args.file.now (file-is_fine x.args.file.now w.result c.in-Good.is w.ensures)

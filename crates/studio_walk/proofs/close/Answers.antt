@@ -1,0 +1,28 @@
+-- The chunk comes to what is found at its end.
+use mathlib.Core.Path.{refl, subst}
+use Rattle.shared_words.specs.Conditions.{broken}
+use Rattle.studio_rules.specs.Walk.{end_conditions}
+use Rattle.studio_marks.specs.Marks.{ShutIs}
+use Rattle.studio_walk.proofs.Chunks.{closed-fault, closed_fine}
+use Rattle.studio_walk.proofs.close.Goals as goal
+
+pub returns-in-Refused : goal.returns-in-Refused
+returns-in-Refused c =
+    let x = c in
+    let w = c.at_end in
+    let g = c.in-Refused in record {
+      is = λ q t stop i rule kept.
+          closed-fault x.args.stop x.args.records x.args.skipped (broken (end_conditions q x.args.at t)) g.r
+          (subst (ShutIs (broken (end_conditions q x.args.at t))) g.is (w.ensures q t stop i rule kept));
+      counts = tt;
+    }
+
+pub returns-in-Good : goal.returns-in-Good
+returns-in-Good c =
+    let x = c in
+    let w = c.at_end in record {
+      is = λ q t stop i rule kept.
+          closed_fine x.args.stop x.args.records x.args.skipped (broken (end_conditions q x.args.at t))
+          (subst (ShutIs (broken (end_conditions q x.args.at t))) c.in-Good.is (w.ensures q t stop i rule kept));
+      counts = (refl, refl, refl);
+    }
