@@ -55,6 +55,8 @@ number x (f, k) =
     record { not-nan = no_nan x f; finite-bits = pattern_finite (to_bits binary32 x) (rw e f); read_back = e }
   where
     no_nan : (x : Float) → Finite x → T (not (is_nan x))
+    no_nan nan f = elim f [ ]
+    no_nan (inf _) f = elim f [ ]
     no_nan (fin s m e) f = tt
 
 -- ---- the middle
@@ -64,9 +66,13 @@ unfolding middle
 middle_32 x y (f, k) (g, l) = (of-within (middle x y) (middle-within x y (within x f k) (within y g l)), add-fits binary32 (mul binary32 x half) (mul binary32 y half))
   where
     within : (x : Float) → Finite x → T (fits binary32 x) → Within 104 x
+    within nan f k = elim f [ ]
+    within (inf _) f k = elim f [ ]
     within (fin s m e) f k = fits-within s m e k
 
     of-within : (x : Float) → Within 104 x → Finite x
+    of-within nan h = elim h [ ]
+    of-within (inf _) h = elim h [ ]
     of-within (fin s m e) h = tt
 
 -- ---- the lowest and the highest

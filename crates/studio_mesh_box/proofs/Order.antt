@@ -78,6 +78,12 @@ mixed true true true B DB A DA C DC pb pa pc h k = by (ltb (C * DB) (B * DC)) re
 -- what is less than a is less than what is not less than a
 pub lt-mixed : (b a c : Float) → Finite b → Finite a → Finite c → lt b a ≡ true → lt c a ≡ false → lt b c ≡ true
 unfolding lt
+lt-mixed nan a c fb fa fc h k = elim fb [ ]
+lt-mixed (inf _) a c fb fa fc h k = elim fb [ ]
+lt-mixed (fin sb B eb) nan c fb fa fc h k = elim fa [ ]
+lt-mixed (fin sb B eb) (inf _) c fb fa fc h k = elim fa [ ]
+lt-mixed (fin sb B eb) (fin sa A ea) nan fb fa fc h k = elim fc [ ]
+lt-mixed (fin sb B eb) (fin sa A ea) (inf _) fb fa fc h k = elim fc [ ]
 lt-mixed (fin sb B eb) (fin sa A ea) (fin sc C ec) fb fa fc h k = mixed sb sa sc (B * up eb) (down eb) (A * up ea) (down ea) (C * up ec) (down ec) (down_pos eb) (down_pos ea) (down_pos ec) h k
 
 irrefl : (s : Bool) (x : ℕ) → below s x s x ≡ false
@@ -86,6 +92,8 @@ irrefl true x = le-ltb x x (omega arith)
 
 pub lt_irrefl : (x : Float) → Finite x → lt x x ≡ false
 unfolding lt
+lt_irrefl nan f = elim f [ ]
+lt_irrefl (inf _) f = elim f [ ]
 lt_irrefl (fin s m e) f = irrefl s (m * up e * down e)
 
 asym : (s t : Bool) (x y : ℕ) → below s x t y ≡ true → below t y s x ≡ false
@@ -96,6 +104,10 @@ asym true true x y h = let l = ltb-true y x h in le-ltb x y (omega arith)
 
 pub lt_asym : (x y : Float) → Finite x → Finite y → lt x y ≡ true → lt y x ≡ false
 unfolding lt
+lt_asym nan y f g h = elim f [ ]
+lt_asym (inf _) y f g h = elim f [ ]
+lt_asym (fin s m e) nan f g h = elim g [ ]
+lt_asym (fin s m e) (inf _) f g h = elim g [ ]
 lt_asym (fin s m e) (fin t n d) f g h = asym s t (m * up e * down d) (n * up d * down e) h
 
 apart : (s t : Bool) (x y : ℕ) → below s x t y ≡ true → (level t y s x ≡ false) × (level s x t y ≡ false)
@@ -115,4 +127,8 @@ apart true true x y h = let l = ltb-true y x h in (rw (ne_eqb y x (λ e. omega a
 -- the lesser of two is equal to the other neither way
 pub lt-apart : (x y : Float) → Finite x → Finite y → lt x y ≡ true → (eq y x ≡ false) × (eq x y ≡ false)
 unfolding lt eq
+lt-apart nan y f g h = elim f [ ]
+lt-apart (inf _) y f g h = elim f [ ]
+lt-apart (fin s m e) nan f g h = elim g [ ]
+lt-apart (fin s m e) (inf _) f g h = elim g [ ]
 lt-apart (fin s m e) (fin t n d) f g h = apart s t (m * up e * down d) (n * up d * down e) h
