@@ -10,7 +10,7 @@ use Rattle.studio_rules.specs.Layout.{Run, end, known, size, bytes, figure}
 use Rattle.studio_rules.specs.Gives.{Mesh, mesh_of, meshes_of, meshes}
 use Rattle.studio_write_bytes.specs.Bare.{name_data, face_data}
 use Rattle.studio_figure_rules.specs.Given.{Group, Object, Material, Figure}
-use Rattle.studio_figure_rules.specs.Built.{vertex_list, each, group_chunk, smoothing_chunk, mesh_children, object_chunk, material_children, material_chunk, scene, layout}
+use Rattle.studio_figure_rules.specs.Built.{vertex_list, each, group_data, group_chunk, smoothing_chunk, mesh_children, object_chunk, material_children, material_chunk, scene, layout}
 use Rattle.studio_figure_rules.specs.Judged.{object_size, material_size}
 use Rattle.studio_figure_rules.specs.ReadsBack.{mesh_given, meshes_given, first_object, name_in}
 use Rattle.studio_figure_rules.proofs.Ready.{ObjectReady}
@@ -24,9 +24,9 @@ smoothing_none : (at n l : ℕ) (words : List ℕ) → meshes_of at n l (smoothi
 smoothing_none at n l [] = refl
 smoothing_none at n l (w ∷ ws) = refl
 
-groups_none : (at n l : ℕ) (gs : List Group) (words : List ℕ) → meshes_of at n l (each group_chunk gs (smoothing_chunk words)) ≡ []
-groups_none at n l [] words = smoothing_none at n l words
-groups_none at n l (g ∷ gs) words = groups_none _ n l gs words
+groups_none : (gs : List Group) (at n l : ℕ) (words : List ℕ) → meshes_of at n l (each group_chunk gs (smoothing_chunk words)) ≡ []
+groups_none [] at n l words = smoothing_none at n l words
+groups_none (g ∷ gs) at n l words = groups_none gs (at + (6 + length (group_data g) + size end)) n l words
 
 materials_none : (at n l : ℕ) (ms : List Material) (rest : Run) → meshes_of at n l (each material_chunk ms rest) ≡ meshes_of (at + total material_size ms) n l rest
 materials_none at n l [] rest = ap (λ (k : ℕ). meshes_of k n l rest) (omega arith)
@@ -50,7 +50,7 @@ object-mesh : (at n l : ℕ) (o : Object) (rest : Run) → ObjectReady o → mes
 object-mesh at n l o rest r =
     let mesh-at : ℕ = at + (6 + length (name_data o.name)) in
     let faces-at : ℕ = mesh-at + (6 + 0) + (6 + length (vertex_list o.vertices) + 0) in
-    let none = groups_none (faces-at + (6 + length (face_data o.corners))) (faces-at + 6) (length (face_data o.corners) - 1) o.groups o.smoothing in
+    let none = groups_none o.groups (faces-at + (6 + length (face_data o.corners))) (faces-at + 6) (length (face_data o.corners) - 1) o.smoothing in
     rw (object-is o r, none) (ap (λ (m : Mesh). m ∷ meshes_of (at + object_size o) n l rest) (mesh-is (at + 6) o r))
 
 objects-meshes : (at n l : ℕ) (os : List Object) → All ObjectReady os → meshes_of at n l (each object_chunk os end) ≡ meshes_given at os

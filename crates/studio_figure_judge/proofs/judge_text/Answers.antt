@@ -1,0 +1,47 @@
+-- `studio_figure_judge::judge_text` meets its contract: the objects, then the materials.
+use mathlib.Core.Path.{◌≡◌, sym, ap, ◌∙◌}
+use Prim.Native.Nat.{ℕ}
+use native.Mathlib.Omega.{arith}
+use lib.ListN.{length}
+use Rattle.shared_words.specs.Conditions.{answered}
+use Rattle.studio_figure_rules.specs.Given.{over}
+use Rattle.studio_figure_rows.proofs.Answers.{front-refused, front-passed}
+use Rattle.studio_figure_rows.proofs.Runs.{capped-under}
+use Rattle.studio_figure_names.specs.Names.{name_asked, names_in}
+use Rattle.studio_figure_judge.specs.Judged.{object_names, materials_at, material_names}
+use Rattle.studio_figure_judge.proofs.judge_text.Lts as lts
+use Rattle.studio_figure_judge.proofs.judge_text.Reads as reads
+use Rattle.studio_figure_judge.proofs.judge_text.Tie as tie
+use Rattle.studio_figure_judge.proofs.judge_text.Goals as goal
+
+-- what is known at a place of the code
+abbrev Lts-After-sum-first : Type 0
+Lts-After-sum-first = lts.After-sum tie.the-claims reads.Pre reads.Post
+
+-- where the names of the materials begin
+begins : (c : Lts-After-sum-first) → c.sum-first.result ≡ materials_at c.args.objects.now
+begins c = let k = capped-under _ _ _ _ c.sum-first.ensures (omega arith) in omega arith
+
+pub judge_names-requires-in-Good : goal.judge_names-requires-in-Good
+judge_names-requires-in-Good c =
+    let e = begins c.before in
+    (omega arith, omega arith, omega arith)
+
+pub returns-in-Refused : goal.returns-in-Refused
+returns-in-Refused c =
+    let c3 = c in
+    let x = c in
+    let a = x.args in
+    front-refused (over (name_asked a.text) (object_names a.names.now a.objects.now)) (over (name_asked a.text) (material_names a.names.now a.objects.now a.materials.now)) _
+    (sym c.in-Refused.is ∙ c3.judge_names.ensures)
+
+pub returns-in-Good : goal.returns-in-Good
+returns-in-Good c =
+    let c2 = c in
+    let c4 = c in
+    let x = c in
+    let a = x.args in
+    let e = ap (λ (k : ℕ). answered (over (name_asked a.text) (names_in 1 a.materials.now a.names.now k (length a.materials.now)))) (begins c.before.before) in
+    c.judge_names-in-Good.ensures ∙ e ∙
+    front-passed (over (name_asked a.text) (object_names a.names.now a.objects.now)) (over (name_asked a.text) (material_names a.names.now a.objects.now a.materials.now))
+    (sym c2.in-Good.is ∙ c4.judge_names.ensures)

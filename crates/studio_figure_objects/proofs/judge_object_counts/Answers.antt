@@ -1,0 +1,99 @@
+-- `studio_figure_objects::judge_object_counts` meets its contract: its tests are the conditions in their order.
+use mathlib.Core.Path.{◌≡◌, sym, ap, ◌∙◌}
+use Prim.Native.Nat.{ℕ, ◌/◌}
+use native.Mathlib.Omega.{arith}
+use mathlib.Core.List.{List, ◌∷◌}
+use Rattle.shared_words.specs.declared.Refusal.TheVariants.{Count}
+use Rattle.shared_words.specs.declared.Judged.TheVariants.{Refused}
+use Rattle.shared_words.specs.Conditions.{Condition, must, answered}
+use Rattle.studio_write_judge.specs.Judged.{is_whole_row}
+use Rattle.studio_figure_rules.specs.Judged.{none_or_each}
+use Rattle.studio_figure_rows.specs.Rows.{entry, sum_to}
+use Rattle.studio_figure_rows.proofs.Answers.{here, later}
+use Rattle.studio_figure_objects.specs.Asked.{group_counts}
+use Rattle.studio_figure_objects.proofs.judge_object_counts.Lts as lts
+use Rattle.studio_figure_objects.proofs.judge_object_counts.Reads as reads
+use Rattle.studio_figure_objects.proofs.judge_object_counts.Tie as tie
+use Rattle.studio_figure_objects.proofs.judge_object_counts.Goals as goal
+
+-- what is known at a place of the code
+abbrev Lts-Else-not-whole_row : Type 0
+Lts-Else-not-whole_row = lts.Else1 tie.the-claims reads.Pre reads.Post
+
+-- what is known at a place of the code
+abbrev Lts-Else-not-whole_row-2 : Type 0
+Lts-Else-not-whole_row-2 = lts.Else2 tie.the-claims reads.Pre reads.Post
+
+module _ (objects groups : List ℕ) (i : ℕ) where
+  abbrev last : List Condition
+  last = group_counts groups (sum_to 5 4 objects i) (entry 5 4 objects i)
+
+  abbrev third : List Condition
+  third = must (none_or_each (entry 5 3 objects i) (entry 5 2 objects i / 3)) (Count (entry 5 3 objects i)) ∷ last
+
+  abbrev second : List Condition
+  second = must (is_whole_row (entry 5 2 objects i)) (Count (entry 5 2 objects i)) ∷ third
+
+-- past the first test, and past the second
+past-1 : (c : Lts-Else-not-whole_row) →
+    let x = c.before.before.before.before.before in
+    answered (second x.args.objects.now x.args.groups.now x.args.i) ≡ answered (must (is_whole_row (entry 5 1 x.args.objects.now x.args.i)) (Count (entry 5 1 x.args.objects.now x.args.i)) ∷ second x.args.objects.now x.args.groups.now x.args.i)
+past-1 c =
+    let c2 = c.before.before in
+    let x = c.before.before.before.before.before in
+    later _ _ (second x.args.objects.now x.args.groups.now x.args.i) (ap is_whole_row (sym c2.number-floats.ensures.0) ∙ sym c.whole_row.ensures ∙ c.if-not-whole_row.false)
+
+past-2 : (c : Lts-Else-not-whole_row-2) →
+    let x = c.before.before.before.before.before.before.before.before in
+    answered (third x.args.objects.now x.args.groups.now x.args.i) ≡ answered (second x.args.objects.now x.args.groups.now x.args.i)
+past-2 c =
+    let c2 = c.before.before in
+    let x = c.before.before.before.before.before.before.before.before in
+    later _ _ (third x.args.objects.now x.args.groups.now x.args.i) (ap is_whole_row (sym c2.number-corners.ensures.0) ∙ sym c.whole_row-2.ensures ∙ c.if-not-whole_row-2.false)
+
+pub returns-then-not-whole_row : goal.returns-then-not-whole_row
+returns-then-not-whole_row c =
+    let c2 = c in
+    let c5 = c in
+    ap (λ (x : ℕ). Refused (Count x)) c2.number-floats.ensures.0 ∙
+    here _ _ (second c5.args.objects.now c5.args.groups.now c5.args.i) (ap is_whole_row (sym c2.number-floats.ensures.0) ∙ sym c.whole_row.ensures ∙ c.if-not-whole_row.true)
+
+pub returns-then-not-whole_row-2 : goal.returns-then-not-whole_row-2
+returns-then-not-whole_row-2 c =
+    let c2 = c in
+    let c3 = c.before.before.before.before in
+    let c8 = c in
+    ap (λ (x : ℕ). Refused (Count x)) c2.number-corners.ensures.0 ∙
+    here _ _ (third c8.args.objects.now c8.args.groups.now c8.args.i) (ap is_whole_row (sym c2.number-corners.ensures.0) ∙ sym c.whole_row-2.ensures ∙ c.if-not-whole_row-2.true) ∙ past-1 c3
+
+pub returns-then-not-none_or_each : goal.returns-then-not-none_or_each
+returns-then-not-none_or_each c =
+    let c2 = c in
+    let c3 = c.before.before.before.before in
+    let c5 = c in
+    let c6 = c.before.before.before.before.before.before.before in
+    let c11 = c in
+    let w = c2.number-words.ensures.0 in
+    let k = c5.number-corners.ensures.0 in
+    let e : none_or_each (entry 5 3 c11.args.objects.now c11.args.i) (entry 5 2 c11.args.objects.now c11.args.i / 3) ≡ none_or_each c2.number-words.result (c5.number-corners.result / 3) = rw (w, k) in
+    ap (λ (x : ℕ). Refused (Count x)) w ∙
+    here _ _ (last c11.args.objects.now c11.args.groups.now c11.args.i) (e ∙ sym c.none_or_each.ensures ∙ c.if-not-none_or_each.true) ∙ past-2 c3 ∙ past-1 c6
+
+pub judge_group_counts-requires : goal.judge_group_counts-requires
+judge_group_counts-requires c = omega (arith, c.number.ensures.0)
+
+pub returns : goal.returns
+returns c =
+    let c2 = c in
+    let c3 = c in
+    let c4 = c in
+    let c5 = c.before.before.before.before.before.before in
+    let c7 = c in
+    let c8 = c.before.before.before.before.before.before.before.before.before in
+    let x = c in
+    let w = c4.number-words.ensures.0 in
+    let k = c7.number-corners.ensures.0 in
+    let e : none_or_each (entry 5 3 x.args.objects.now x.args.i) (entry 5 2 x.args.objects.now x.args.i / 3) ≡ none_or_each c4.number-words.result (c7.number-corners.result / 3) = rw (w, k) in
+    let g : answered (group_counts x.args.groups.now x.args.group c.number.result) ≡ answered (last x.args.objects.now x.args.groups.now x.args.i) = rw (x.requires.1, c.number.ensures.0) in
+    c.judge_group_counts.ensures ∙ g ∙
+    later _ _ (last x.args.objects.now x.args.groups.now x.args.i) (e ∙ sym c3.none_or_each.ensures ∙ c2.if-not-none_or_each.false) ∙ past-2 c5 ∙ past-1 c8
