@@ -6,15 +6,17 @@ use mathlib.Core.Path.{◌≡◌}
 use native.Mathlib.Omega.{arith}
 use lib.Dec.{leb}
 use borrow.Author.Tests.{leb-true, le-leb, lt-leb}
+use mathlib.Core.Bool.{cond}
 use Rattle.shared_words.specs.declared.Refusal.{Refusal}
+use Rattle.shared_words.specs.declared.Refusal.TheVariants.{NoRoom}
 use Rattle.shared_words.specs.Conditions.{accepted}
-use Rattle.shared_words.specs.Effects.{leaving}
+use Rattle.shared_words.specs.Effects.{leaving, filled}
 use Rattle.shared_flat.specs.Put.{Mark, without, with, pieces, Moved}
 use Rattle.cob_rules.specs.declared.Answered.{Answered}
 use Rattle.cob_rules.specs.Layout.{Chunk, Layout, size, bytes}
 use Rattle.cob_rules.specs.Rules.{Meets}
 use Rattle.cob_rules.specs.Walk.{verdict}
-use Rattle.cob_rules.specs.Gives.{list, meshes}
+use Rattle.cob_rules.specs.Gives.{list, meshes, Mesh}
 use Rattle.cob_rules.specs.Calls.{check_of, check_call, give, list_of, list_call, of_mesh, sizes_of, sizes_call, tables_of, tables_call}
 use Rattle.cob_rules.specs.PutIn.{ending, SameRecord, Unchanged}
 use Rattle.cob_rules.proofs.Verdict.{accepted_exactly, verdict-good}
@@ -61,17 +63,21 @@ demand2 = record {
   sized = λ e s mesh row n. (
     λ h.
         let l = layout-found (λ a. (of_mesh (λ r. leaving (Answered.Refused r) row) (λ m. give e (sizes_of m) row) mesh a).answer) (never-counted n) (verdict s) h in
-        let m = mesh-found _ _ _ (never-counted n) (get_elem? (meshes l.0) mesh) l.2 in
-        let r = room-found (leb (length (sizes_of m.0)) (e.room (length row))) _ _ (never-counted n _) m.2 in
+        let m = mesh-found (λ r. leaving (Answered.Refused r) row) (λ (m : Mesh). give e (sizes_of m) row) (length (meshes l.0)) (never-counted n) (get_elem? (meshes l.0) mesh) l.2 in
+        let k = length (sizes_of m.0) in
+        let r = room-found (leb k (e.room (length row))) (leaving (Answered.Count k) (filled (e.encode (sizes_of m.0)) row)) (leaving (Answered.Refused (NoRoom k)) row) (never-counted n (NoRoom k)) m.2 in
         (l.0, (accepted_exactly s l.0).0 l.1, (m.0, m.1, count-is r.1, leb-true _ _ r.0)),
     λ l. let m = l.2 in rw ((given s l.0 l.1).sizes_are e mesh m.0 m.1 row m.3, m.2),
   );
   tabled = λ e s mesh rows n. (
     λ h.
         let l = layout-found (λ a. (of_mesh (λ r. leaving (Answered.Refused r) rows) (tables_of e rows) mesh a).answer) (never-counted n) (verdict s) h in
-        let m = mesh-found _ _ _ (never-counted n) (get_elem? (meshes l.0) mesh) l.2 in
-        let v = room-found (leb (length m.0.vertices) (e.room (length rows.vertices))) _ _ (never-counted n _) m.2 in
-        let c = room-found (leb (length m.0.corners) (e.room (length rows.corners))) _ _ (never-counted n _) v.1 in
+        let m = mesh-found (λ r. leaving (Answered.Refused r) rows) (tables_of e rows) (length (meshes l.0)) (never-counted n) (get_elem? (meshes l.0) mesh) l.2 in
+        let full = leaving (Answered.Count m.0.vertex_count) record { vertices = filled (e.encode m.0.vertices) rows.vertices; corners = filled (e.encode m.0.corners) rows.corners } in
+        let few = leaving (Answered.Refused (NoRoom (length m.0.corners))) rows in
+        let fitting = cond (leb (length m.0.corners) (e.room (length rows.corners))) full few in
+        let v = room-found (leb (length m.0.vertices) (e.room (length rows.vertices))) fitting (leaving (Answered.Refused (NoRoom (length m.0.vertices))) rows) (never-counted n _) m.2 in
+        let c = room-found (leb (length m.0.corners) (e.room (length rows.corners))) full few (never-counted n _) v.1 in
         (l.0, (accepted_exactly s l.0).0 l.1, (m.0, m.1, count-is c.1, (leb-true _ _ v.0, leb-true _ _ c.0))),
     λ l. let m = l.2 in rw ((given s l.0 l.1).tables_are e mesh m.0 m.1 rows m.3.0 m.3.1, m.2),
   );

@@ -75,6 +75,8 @@ demand2 = record {
 
 materials_same : (ps : List Piece) (rs rs' : List Object) → Pairwise (Moved (λ r. r.offset) SameObject ps) rs rs' → all_materials rs' ≡ all_materials rs
 materials_same ps [] [] h = refl
+materials_same ps [] (r' ∷ rs') h = absurd h
+materials_same ps (r ∷ rs) [] h = absurd h
 materials_same ps (r ∷ rs) (r' ∷ rs') h = rw (h.0.else_same.materials_same, materials_same ps rs rs' h.1)
 
 same-answers : (m : List (Mark Chunk)) (s s' : List ℕ) → verdict s ≡ accepted (without m) → verdict s' ≡ accepted (with m) → Unchanged m →

@@ -16,7 +16,7 @@ use Rattle.studio_rules.specs.declared.Tabled.{Tabled}
 use Rattle.studio_rules.specs.declared.Counted.{Counted}
 use Rattle.studio_rules.specs.declared.Named.{Named}
 use Rattle.studio_rules.specs.declared.Boxed.{Boxed}
-use Rattle.studio_rules.specs.Layout.{Run, figure}
+use Rattle.studio_rules.specs.Layout.{Run, figure, bytes}
 use Rattle.shared_words.specs.Conditions.{Answer, refused, accepted, broken}
 use Rattle.studio_rules.specs.Walk.{verdict}
 use Rattle.studio_rules.specs.Gives.{record_count, Mesh, meshes, parts}
@@ -34,10 +34,13 @@ use Rattle.shared_words.specs.declared.Written.{Written}
 use Rattle.shared_words.specs.declared.Judged.{Judged}
 use Rattle.shared_words.specs.declared.Written.TheVariants.{Size, Refused}
 use Rattle.studio_write_judge.specs.Judged.{judged}
-use Rattle.studio_figure_rules.specs.Described.{judged_flat, write_flat}
+use Rattle.studio_figure_rules.specs.Described.{described, judged_flat, write_flat}
+use Rattle.studio_figure_rules.specs.Built.{layout}
+use Rattle.studio_write_bytes.specs.Bare.{bare_bytes}
+use Rattle.slip_rules.specs.Slip.{bytes as slip_bytes}
 use Rattle.studio_write.specs.Write.{writing, write_call}
 use Rattle.slip_rules.specs.Walk.{verdict as slip_verdict}
-use Rattle.slip_rules.specs.Calls.{write_conditions, slip_read_call, slip_write_call}
+use Rattle.slip_rules.specs.Calls.{entries_from, write_conditions, slip_read_call, slip_write_call}
 use Rattle.stick_rules.specs.Records.{judge_call}
 use Rattle.cob_rules.specs.declared.Answered.{Answered as CobAnswered}
 use Rattle.cob_rules.specs.Walk.{verdict as cob_verdict}
@@ -153,12 +156,12 @@ demand1 = record {
   box = λ s mesh.
       by-mesh (Answered around Boxed.Refused) Boxed.Refused around_of (refuses around Boxed.Refused box-apart) boxed mesh (verdict s);
   rescue = λ e s rows. rescued e rows (rescue s);
-  write = λ name vertices corners out. written _ out (judged name vertices corners (length out));
-  figure = λ rows out. written _ out (judged_flat rows (length out));
+  write = λ name vertices corners out. written (bare_bytes name vertices corners) out (judged name vertices corners (length out));
+  figure = λ rows out. written (bytes (figure (layout (described rows)))) out (judged_flat rows (length out));
   sums = summed;
   matches = matched;
   slip-read = λ e s row. slip-given e row (slip_verdict s);
-  slip-write = λ names given out. slip-written _ out (broken (write_conditions names given (length out)));
+  slip-write = λ names given out. slip-written (slip_bytes (entries_from names given.rows)) out (broken (write_conditions names given (length out)));
   stick_judge = λ slip names items. stick_judged (judge_call slip names items);
   cob_check = λ s. cob_checked (cob_verdict s);
   cob_list = λ e s row. cob_listed e row (cob_verdict s);

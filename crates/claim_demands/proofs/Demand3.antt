@@ -52,6 +52,8 @@ module _ (m : Marked) (s s' : List ℕ) (v : verdict s ≡ accepted (without m))
 
       go : (x y : Option Mesh) → Both (SameMesh (put_in m)) x y → Q (pick_mesh refuse use-it n x) (pick_mesh refuse use-it n y)
       go none none h = same-refusal (NoSuchMesh n)
+      go none (some y) h = absurd h
+      go (some x) none h = absurd h
       go (some x) (some y) h = same-mesh x y h
 
   same-answers : SameAnswers (put_in m) (all_put m) s s'

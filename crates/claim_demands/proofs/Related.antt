@@ -16,9 +16,13 @@ module _ {A : Type 0} (R : A → A → Type 0) where
 
   pub both_at : (xs ys : List A) → Pairwise R xs ys → (i : ℕ) → Both (get_elem? xs i) (get_elem? ys i)
   both_at [] [] p i = tt
+  both_at [] (y ∷ ys) p i = absurd p
+  both_at (x ∷ xs) [] p i = absurd p
   both_at (x ∷ xs) (y ∷ ys) p zero = p.0
   both_at (x ∷ xs) (y ∷ ys) p (suc i) = both_at xs ys p.1 i
 
   pub equally_long : (xs ys : List A) → Pairwise R xs ys → length ys ≡ length xs
   equally_long [] [] p = refl
+  equally_long [] (y ∷ ys) p = absurd p
+  equally_long (x ∷ xs) [] p = absurd p
   equally_long (x ∷ xs) (y ∷ ys) p = ap suc (equally_long xs ys p.1)

@@ -26,7 +26,9 @@ use Rattle.studio_rules.specs.declared.Tabled.{Tabled}
 use Rattle.studio_rules.specs.declared.Named.{Named}
 use Rattle.studio_rules.specs.declared.Boxed.{Boxed}
 use Rattle.studio_rules.specs.declared.Counted.{Counted}
-use Rattle.studio_rules.specs.Layout.{Run, figure, size}
+use Rattle.studio_rules.specs.Layout.{Run, figure, size, bytes}
+use Rattle.studio_figure_rules.specs.Built.{layout}
+use Rattle.studio_write_bytes.specs.Bare.{bare_bytes}
 use Rattle.studio_rules.specs.Walk.{verdict}
 use Rattle.studio_rules.specs.Gives.{record_count, headers, owned, skipped, Mesh, meshes, parts}
 use Rattle.studio_rules.specs.Box.{bounding_box_of, centre_of}
@@ -195,6 +197,6 @@ studio_told = record {
   meshes = λ e s row. all_told standing e row (λ kids. standing-few 0 0 0 (figure kids)) (verdict s) (verdict-within s);
   boxes = λ e s row. all_told meshes e row meshes-few (verdict s) (verdict-within s);
   rescue = λ e s b rows. rescue-told e rows (rescue s) (rescue-within s b);
-  write = λ name vertices corners out. write-told name vertices corners out _;
-  figure = λ rows out. figure-told rows out _;
+  write = λ name vertices corners out. write-told name vertices corners out (bare_bytes name vertices corners);
+  figure = λ rows out. figure-told rows out (bytes (figure (layout (described rows))));
 }

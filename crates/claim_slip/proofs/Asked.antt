@@ -26,7 +26,7 @@ use Rattle.slip_rules.specs.declared.Numbers.{Numbers}
 use Rattle.slip_rules.specs.declared.Found.{Found}
 use Rattle.slip_rules.specs.Slip.{Entry, sum_bytes, behind_name, entry_bytes, all_bytes, rest, bytes}
 use Rattle.slip_rules.specs.Rules.{remember, AllLawful, Meets}
-use Rattle.slip_rules.specs.Walk.{verdict}
+use Rattle.slip_rules.specs.Walk.{behind, verdict}
 use Rattle.slip_rules.specs.Calls.{all_numbers, flat, byte_row, entry_from, entries_from, Given, whole, rows_in, given_bytes, slip_read_call}
 use Rattle.slip_rules.proofs.Verdict.{accepted_exactly, verdict-good}
 use Rattle.slip_rules.proofs.Given.{Small, given_back, all_small}
@@ -59,7 +59,7 @@ bytes_packed w (n ∷ ns) = bytes_append (le w n) (packed w ns) (bytes_le w n) (
 
 all-counted : (o : ℕ) (es : List Entry) → length (all_numbers o es) ≡ length es
 all-counted o [] = refl
-all-counted o (e ∷ es) = ap suc (all-counted _ es)
+all-counted o (e ∷ es) = ap suc (all-counted (behind o e) es)
 
 -- ---- the slip's own entries, by its numbers
 

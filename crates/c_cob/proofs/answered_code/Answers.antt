@@ -1,0 +1,7 @@
+-- The count, or a refusal.
+use mathlib.Core.Path.{sym, ap, ◌∙◌}
+use Rattle.c_cob.specs.Codes.{count_or}
+use Rattle.c_cob.proofs.answered_code.Goals as goal
+
+pub returns-in-Refused : goal.returns-in-Refused
+returns-in-Refused c = c.refusal_code.ensures ∙ ap count_or (sym c.in-Refused.is)

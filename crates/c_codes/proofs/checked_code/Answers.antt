@@ -1,0 +1,7 @@
+-- The count of records, or the refusal's number.
+use mathlib.Core.Path.{sym, ap, ◌∙◌}
+use Rattle.c_codes.specs.Codes.{records_or}
+use Rattle.c_codes.proofs.checked_code.Goals as goal
+
+pub returns-in-Refused : goal.returns-in-Refused
+returns-in-Refused c = c.refusal_code.ensures ∙ ap records_or (sym c.in-Refused.is)

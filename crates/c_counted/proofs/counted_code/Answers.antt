@@ -1,0 +1,7 @@
+-- The count, or the refusal.
+use mathlib.Core.Path.{sym, ap, ◌∙◌}
+use Rattle.c_counted.specs.Codes.{counted_or}
+use Rattle.c_counted.proofs.counted_code.Goals as goal
+
+pub returns-in-Refused : goal.returns-in-Refused
+returns-in-Refused c = c.refusal_code.ensures ∙ ap counted_or (sym c.in-Refused.is)

@@ -1,0 +1,7 @@
+-- The answer of the writer of figures, as a number; the buffer is as it left it.
+use mathlib.Core.Path.{ap, ◌∙◌}
+use Rattle.c_codes.specs.Codes.{size_or}
+use Rattle.tds.proofs.tds_write_figure.Goals as goal
+
+pub returns : goal.returns
+returns c = record { answer = c.written_code.ensures ∙ ap size_or c.write_figure.ensures.answer; out = c.write_figure.ensures.out }
