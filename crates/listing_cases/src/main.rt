@@ -1,60 +1,72 @@
 // The listing program's answers to the files of data/: each refusal that a listing can meet, and its limits. Before each
 // answer stands the name of its file. What is written to the output is no part of a contract, as in `listing`.
-use libc::STDOUT_FILENO;
+#![tactic(auto)]
 
-fn end_line() {
-    io::write_all(STDOUT_FILENO, b"\n");
+use std::rt::Files;
+use std::{fs, io};
+
+// The system's words in an error's text, without its number.
+fn reason(text: &str) -> &str {
+    match text.split_once(" (os error ") {
+        Some((words, _)) => words,
+        None => text,
+    }
+}
+
+// A line to standard error: what failed, and why.
+fn fail<R: Eprint + Alloc>(rt: &R, what: &str, error: io::Error) -> io::Result<()> {
+    let text = error.to_string(rt.alloc())?;
+    let reason = reason(text.as_str());
+    eprintln!(rt; "{what}: {reason}")
 }
 
 // The answer to one file, as `listing` gives it; an input that could not be read has none.
-fn show(name: &[u8]) {
-    let fd = os::open_read(name);
-    if fd < 0 {
-        os::fail(name);
-        return;
-    }
+fn show<R: Files + Print + Eprint + Alloc>(rt: &R, name: &str) -> io::Result<()> {
+    let mut file = match fs::open(rt, name) {
+        Ok(file) => file,
+        Err(error) => return fail(rt, name, error),
+    };
     let mut buffer = [0u8; 65536];
     let mut text = [0u8; listing_text::ROOM];
-    let input = listing_input::read(fd, &mut buffer);
-    libc::close(fd);
+    let input = listing_input::read(&mut file, &mut buffer);
+    drop(file);
     let n = listing_text::answer(&buffer, input, &mut text);
-    io::write_all(STDOUT_FILENO, name);
-    end_line();
-    io::write_all(STDOUT_FILENO, &text[..n]);
+    println!(rt; "{name}")?;
+    rt.write_all(&text[..n])
 }
 
 // Refusals 2 to 14.
-fn refusals() {
-    show(b"empty");
-    show(b"letters");
-    show(b"trailing");
-    show(b"short");
-    show(b"overrun");
-    show(b"stray");
-    show(b"misplaced");
-    show(b"twice");
-    show(b"name");
-    show(b"length");
-    show(b"number");
-    show(b"index");
-    show(b"count");
-    show(b"missing");
+fn refusals<R: Files + Print + Eprint + Alloc>(rt: &R) -> io::Result<()> {
+    show(rt, "empty")?;
+    show(rt, "letters")?;
+    show(rt, "trailing")?;
+    show(rt, "short")?;
+    show(rt, "overrun")?;
+    show(rt, "stray")?;
+    show(rt, "misplaced")?;
+    show(rt, "twice")?;
+    show(rt, "name")?;
+    show(rt, "length")?;
+    show(rt, "number")?;
+    show(rt, "index")?;
+    show(rt, "count")?;
+    show(rt, "missing")
 }
 
 // 65,536 bytes, accepted, and with one stray byte at the end; 65,537 bytes; 1,025 records, and 1,024.
-fn limits() {
-    show(b"full");
-    show(b"full-stray");
-    show(b"longer");
-    show(b"many");
-    show(b"most");
+fn limits<R: Files + Print + Eprint + Alloc>(rt: &R) -> io::Result<()> {
+    show(rt, "full")?;
+    show(rt, "full-stray")?;
+    show(rt, "longer")?;
+    show(rt, "many")?;
+    show(rt, "most")
 }
 
 // Then a private chunk; identifiers of every kind of digit; and a folder, which opens and cannot be read.
-fn main() {
-    refusals();
-    limits();
-    show(b"private");
-    show(b"mixed");
-    show(b".");
+fn main(rt: HostRuntime) -> io::Result<()> {
+    refusals(&rt)?;
+    limits(&rt)?;
+    show(&rt, "private")?;
+    show(&rt, "mixed")?;
+    show(&rt, ".")
 }

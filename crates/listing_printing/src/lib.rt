@@ -1,5 +1,7 @@
 // Text put into a lent buffer: each function puts it at a position of out, and answers the position behind it. No
 // contract can say what a program writes to its output, so what is printed is made here first, as bytes.
+#![tactic(auto)]
+
 ghost use Rattle.std.specs.Prelude.{◌≡◌, ◌+◌, ◌<◌, ◌≤◌, length};
 ghost use Rattle.shared_numbers.specs.Put.{Put};
 ghost use Rattle.listing_printing.specs.Text.{glyph, decimal, four_digits};

@@ -1,7 +1,8 @@
 // What the listing program prints, as bytes in a lent buffer. Each `put_` function puts text at a position of out and
 // answers the position behind it; the bytes around the text stay.
-ghost use Rattle.std.specs.Prelude.{◌+◌, ◌*◌, ◌<◌, ◌≤◌, length};
-ghost use Rattle.io.specs.Counts.{IsPrefixLen as Io-as-Counts};
+#![tactic(auto)]
+
+ghost use Rattle.std.specs.Prelude.{◌≡◌, ◌+◌, ◌*◌, ◌≤◌, length, take};
 ghost use Rattle.shared_numbers.specs.Put.{Put};
 ghost use Rattle.studio_rules.specs.Gives.{record_numbers};
 ghost use Rattle.listing_text.specs.Lines.{field, refusal_line, counts_line, chunk_line, row_lines};
@@ -109,7 +110,8 @@ fn put_listing(file: &[u8], out: &mut [u8; ROOM]) -> usize
 pub fn answer(buffer: &[u8], input: Input, out: &mut [u8; ROOM]) -> usize
     requires { Within buffer.now input }
     ensures text { Put out.old 0 (printed buffer.now input) out.new result }
-    ensures within { Io-as-Counts result out.new }
+    ensures within { result ≤ length out.new }
+    ensures taken { result ≡ length (take result out.new) }
 {
     match input {
         Input::Whole(size) => put_listing(&buffer[..size], out),

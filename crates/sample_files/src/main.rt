@@ -1,68 +1,73 @@
 // Runs the bench samples P1 to P12 of docs/FORMAT.md, and two figures of the greatest length whose chunks nearly all stand
 // under 3D3D, and prints a line for each answer.
+#![tactic(auto)]
+
 ghost use Rattle.std.specs.Prelude.{◌+◌, ◌≤◌};
 
-use libc::STDOUT_FILENO;
 use shared_words::Refusal;
+use std::io;
 use studio_rules::Checked;
 
 // The bytes of the longest file that is read.
 const LONGEST: usize = 1048576;
 
-fn end_line() {
-    io::write_all(STDOUT_FILENO, b"\n");
+fn end_line(rt: &impl Print) -> io::Result<()> {
+    println!(rt)
 }
 
-fn print_field(label: &[u8], n: usize) {
-    io::write_all(STDOUT_FILENO, label);
-    io::print_decimal(STDOUT_FILENO, n as u64);
+fn print_field(rt: &impl Print, label: &str, n: usize) -> io::Result<()> {
+    print!(rt; "{label}{n}")
 }
 
-fn print_refusal(r: Refusal) {
-    io::write_all(STDOUT_FILENO, b" refused ");
-    io::print_decimal(STDOUT_FILENO, shared_refusals::number(r) as u64);
-    print_field(b" ", shared_refusals::place(r));
+fn print_refusal(rt: &impl Print, r: Refusal) -> io::Result<()> {
+    let number = shared_refusals::number(r);
+    print!(rt; " refused {number}")?;
+    print_field(rt, " ", shared_refusals::place(r))
 }
 
 // The sample's name, and the refusal or the three byte counts.
-fn print_answer(name: &[u8], answer: Checked) {
-    io::write_all(STDOUT_FILENO, name);
+fn print_answer(rt: &impl Print, name: &str, answer: Checked) -> io::Result<()> {
+    print!(rt; "{name}")?;
     match answer {
-        Checked::Refused(r) => print_refusal(r),
+        Checked::Refused(r) => print_refusal(rt, r),
         Checked::Accepted(counts) => {
-            print_field(b" accepted ", counts.headers);
-            print_field(b" ", counts.own);
-            print_field(b" ", counts.skipped);
+            print_field(rt, " accepted ", counts.headers)?;
+            print_field(rt, " ", counts.own)?;
+            print_field(rt, " ", counts.skipped)
         }
     }
 }
 
-fn show(name: &[u8], answer: Checked) {
-    print_answer(name, answer);
-    end_line();
+fn show(rt: &impl Print, name: &str, answer: Checked) -> io::Result<()> {
+    print_answer(rt, name, answer)?;
+    end_line(rt)
 }
 
 // P1 to P7: no mesh.
-fn bare_samples() {
-    show(b"P1", studio_check::check(b""));
-    show(b"P2", studio_check::check(b"\x4D\x4D\x05\x00\x00\x00"));
-    show(b"P3", studio_check::check(b"\x4D\x4D\x06\x00\x00\x00"));
+fn bare_samples(rt: &impl Print) -> io::Result<()> {
+    show(rt, "P1", studio_check::check(b""))?;
+    show(rt, "P2", studio_check::check(b"\x4D\x4D\x05\x00\x00\x00"))?;
+    show(rt, "P3", studio_check::check(b"\x4D\x4D\x06\x00\x00\x00"))?;
     show(
-        b"P4",
+        rt,
+        "P4",
         studio_check::check(b"\x4D\x4D\x0C\x00\x00\x00\x3D\x3D\x06\x00\x00\x00"),
-    );
+    )?;
     show(
-        b"P5",
+        rt,
+        "P5",
         studio_check::check(b"\x4D\x4D\x0C\x00\x00\x00\x3D\x3D\x06\x00\x00\x00\x00"),
-    );
+    )?;
     show(
-        b"P6",
+        rt,
+        "P6",
         studio_check::check(b"\x4D\x4D\x0D\x00\x00\x00\x3D\x3D\x06\x00\x00\x00\x00"),
-    );
+    )?;
     show(
-        b"P7",
+        rt,
+        "P7",
         studio_check::check(b"\x4D\x4D\x0C\x00\x00\x00\x3D\x3D\x07\x00\x00\x00"),
-    );
+    )
 }
 
 fn triangle() -> [u8; 86] {
@@ -94,15 +99,15 @@ fn triangle_and_private() -> [u8; 96] {
 }
 
 // P8 to P10: the triangle, then its last corner 3, then its vertex count 4.
-fn triangle_samples() {
+fn triangle_samples(rt: &impl Print) -> io::Result<()> {
     let p8 = triangle();
     let mut p9 = triangle();
     p9[82] = 3;
     let mut p10 = triangle();
     p10[32] = 4;
-    show(b"P8", studio_check::check(&p8));
-    show(b"P9", studio_check::check(&p9));
-    show(b"P10", studio_check::check(&p10));
+    show(rt, "P8", studio_check::check(&p8))?;
+    show(rt, "P9", studio_check::check(&p9))?;
+    show(rt, "P10", studio_check::check(&p10))
 }
 
 fn wide(n: u32) -> usize {
@@ -111,15 +116,15 @@ fn wide(n: u32) -> usize {
 
 // P11 and P12: the list. A row of 41 numbers holds five records and a part of a sixth; the offset of the fourth record is
 // number 22.
-fn list_samples() {
+fn list_samples(rt: &impl Print) -> io::Result<()> {
     let p11 = triangle();
     let mut small = [0u32; 41];
-    show(b"P11", studio_list::list(&p11, &mut small));
+    show(rt, "P11", studio_list::list(&p11, &mut small))?;
     let p12 = triangle_and_private();
     let mut row = [0u32; 42];
-    print_answer(b"P12", studio_list::list(&p12, &mut row));
-    print_field(b" mesh at ", wide(row[22]));
-    end_line();
+    print_answer(rt, "P12", studio_list::list(&p12, &mut row))?;
+    print_field(rt, " mesh at ", wide(row[22]))?;
+    end_line(rt)
 }
 
 fn put_header(file: &mut [u8; LONGEST], at: usize, header: &[u8; 6])
@@ -146,26 +151,26 @@ fn fill_figure(file: &mut [u8; LONGEST], child: &[u8; 6]) {
 }
 
 // The answer to a long figure, and how many records it has.
-fn show_counts(name: &[u8], file: &[u8; LONGEST]) {
+fn show_counts(rt: &impl Print, name: &str, file: &[u8; LONGEST]) -> io::Result<()> {
     let answer = studio_check::check(file);
-    print_answer(name, answer);
+    print_answer(rt, name, answer)?;
     match answer {
-        Checked::Accepted(counts) => print_field(b" records ", counts.records),
+        Checked::Accepted(counts) => print_field(rt, " records ", counts.records)?,
         Checked::Refused(_) => (),
     }
-    end_line();
+    end_line(rt)
 }
 
-fn show_long(name: &[u8], child: &[u8; 6]) {
+fn show_long(rt: &impl Print, name: &str, child: &[u8; 6]) -> io::Result<()> {
     let mut file = [0u8; LONGEST];
     fill_figure(&mut file, child);
-    show_counts(name, &file);
+    show_counts(rt, name, &file)
 }
 
-fn main() {
-    bare_samples();
-    triangle_samples();
-    list_samples();
-    show_long(b"unlisted", b"\x23\x81\x06\x00\x00\x00");
-    show_long(b"known", b"\x70\x14\x06\x00\x00\x00");
+fn main(rt: HostRuntime) -> io::Result<()> {
+    bare_samples(&rt)?;
+    triangle_samples(&rt)?;
+    list_samples(&rt)?;
+    show_long(&rt, "unlisted", b"\x23\x81\x06\x00\x00\x00")?;
+    show_long(&rt, "known", b"\x70\x14\x06\x00\x00\x00")
 }

@@ -1,62 +1,62 @@
 // Writes the triangle of docs/FORMAT.md and prints its bytes, in hexadecimal: a line for each chunk, and one for each vertex.
+#![tactic(auto)]
+
 ghost use Rattle.std.specs.Prelude.{◌≡◌, length};
 
-use libc::STDOUT_FILENO;
 use shared_words::{Refusal, Written};
+use std::io;
 
 // The upper-case digit of a number below 16.
 fn digit(n: u8) -> u8 {
     if n < 10 { 48 + n } else { 55 + n % 16 }
 }
 
-fn print_byte(b: u8) {
+fn print_byte(rt: &impl Print, b: u8) -> io::Result<()> {
     let text = [digit(b / 16), digit(b % 16)];
-    io::write_all(STDOUT_FILENO, &text);
+    rt.write_all(&text)
 }
 
-fn end_line() {
-    io::write_all(STDOUT_FILENO, b"\n");
+fn end_line(rt: &impl Print) -> io::Result<()> {
+    println!(rt)
 }
 
-fn print_line(bytes: &[u8]) {
+fn print_line(rt: &impl Print, bytes: &[u8]) -> io::Result<()> {
     let mut i = 0usize;
     while i < bytes.len() {
-        print_byte(bytes[i]);
+        print_byte(rt, bytes[i])?;
         i += 1;
     }
-    end_line();
+    end_line(rt)
 }
 
 // The six chunks, with the three vertices on lines of their own.
-fn print_triangle(bytes: &[u8])
+fn print_triangle(rt: &impl Print, bytes: &[u8]) -> io::Result<()>
     requires { length bytes.now ≡ 86 }
 {
-    print_line(&bytes[0..6]);
-    print_line(&bytes[6..12]);
-    print_line(&bytes[12..20]);
-    print_line(&bytes[20..26]);
-    print_line(&bytes[26..34]);
-    print_line(&bytes[34..46]);
-    print_line(&bytes[46..58]);
-    print_line(&bytes[58..70]);
-    print_line(&bytes[70..86]);
+    print_line(rt, &bytes[0..6])?;
+    print_line(rt, &bytes[6..12])?;
+    print_line(rt, &bytes[12..20])?;
+    print_line(rt, &bytes[20..26])?;
+    print_line(rt, &bytes[26..34])?;
+    print_line(rt, &bytes[34..46])?;
+    print_line(rt, &bytes[46..58])?;
+    print_line(rt, &bytes[58..70])?;
+    print_line(rt, &bytes[70..86])
 }
 
-fn print_refusal(r: Refusal) {
-    io::write_all(STDOUT_FILENO, b"refused ");
-    io::print_decimal(STDOUT_FILENO, shared_refusals::number(r) as u64);
-    io::write_all(STDOUT_FILENO, b" ");
-    io::print_decimal(STDOUT_FILENO, shared_refusals::place(r) as u64);
-    end_line();
+fn print_refusal(rt: &impl Print, r: Refusal) -> io::Result<()> {
+    let number = shared_refusals::number(r);
+    let place = shared_refusals::place(r);
+    println!(rt; "refused {number} {place}")
 }
 
-fn main() {
+fn main(rt: HostRuntime) -> io::Result<()> {
     let name = [0x41u8];
     let vertices = [0.0f32, 0.0, 0.0, 1.0, 0.0, 0.0, 0.0, 1.0, 0.0];
     let corners = [0u16, 1, 2];
     let mut out = [0u8; 86];
     match studio_write::write(&name, &vertices, &corners, &mut out) {
-        Written::Size(_) => print_triangle(&out),
-        Written::Refused(r) => print_refusal(r),
+        Written::Size(_) => print_triangle(&rt, &out),
+        Written::Refused(r) => print_refusal(&rt, r),
     }
 }
