@@ -1,6 +1,6 @@
 # make run    builds the library and the bench tool, and checks samples/edition (STICK=folder: any other)
-# make test   layout, proofs, programs and all tests; what has been proved before is not proved again
-# make gate   what a merge needs: the same from nothing, and every must-fail edit refused
+# make test   layout, proofs, must-fail edits, programs and all tests; what has passed on this machine is not proved again
+# make gate   what a merge needs: the same, and no warning of the C compiler passes
 # make prove  the proofs alone, in seconds where little has changed
 # make fuzz   both readers over COUNT files grown from SEED (KIND=slips: of one kind); make real FOLDER=…  over figures from elsewhere
 # make install, make release  the tool and the library for this machine; an archive and a .deb for others
@@ -13,24 +13,24 @@ SHELL := /bin/bash
 .PHONY: prove test gate rust-test differ fuzz real real-lib3ds real-assimp turned bench bench-build c-check clean
 
 prove:
-	rt check
+	rt all check
 
 test:
-	bash tests/gate --without-edits
+	bash tests/gate --with-warnings
 
 gate:
 	bash tests/gate
 
 # rt is asked where anything in crates/, or rt itself, is newer than the library (a folder is, once a file has gone from it).
-# `rt check` proves side by side, where `rt staticlib` would prove one crate after the other. They say much, of which new proofs are shown.
+# It says much, of which the crates that it comes to are shown.
 RT := $(shell command -v rt)
-TDS_SOURCES := crates.txt $(shell find crates -name must-fail -prune -o -print)
+TDS_SOURCES := crates.txt $(shell find crates \( -name must-fail -o -name out \) -prune -o -print)
 target/staticlib/libtds.a: $(TDS_SOURCES) $(RT)
 	$(if $(RT),,$(error The library must be built, and the Rattle kit is not here: install it so that "rt version" answers, then make again))
-	@mkdir -p build
-	@echo 'The library is proved and compiled: some seven minutes on two cores the first time, then only what has changed.'
-	@{ rt check tds && rt staticlib tds; } 2>&1 | tee build/library.log | sed -un '/^rt: [a-z0-9_]* proved$$/p' || { cat build/library.log; exit 1; }
-	@touch -c $@
+	@mkdir -p build $(@D)
+	@echo 'The library is proved and compiled: some ten minutes on four cores the first time, then only what has changed.'
+	@(cd crates/tds && rt lib) 2>&1 | tee build/library.log | sed -un 's/^rt: chose .* for \([a-z0-9_]*\)$$/prove \1/p' || { cat build/library.log; exit 1; }
+	@cp crates/tds/out/libtds.a $@
 
 # ---- the second reader, over the library
 

@@ -13,11 +13,11 @@ cat >"$T/kit/rt" <<END
 #!/bin/sh
 echo "\$*" >>'$T/asked'
 case \$1 in
-check) echo 'rt: c_version proved (unchanged since it was last proved)'; echo 'rt: tds proved' ;;
-staticlib)
-    echo 'rt: tds proved (unchanged since it was last proved)'
-    mkdir -p target/staticlib
-    cp '$lib' target/staticlib/libtds.a
+lib)
+    echo 'rt: c_version: begins with what a check kept'
+    echo 'rt: chose --jobs 2 for tds'
+    mkdir -p out
+    cp '$lib' out/libtds.a
     ;;
 esac
 END
@@ -46,20 +46,20 @@ lines out 0
 lines err 1
 has err 'The library must be built, and the Rattle kit is not here: install it so that "rt version" answers, then make again'
 
-try 'the first time the kit is asked: to prove side by side, then to compile; a short line for each command'
+try 'the first time the kit is asked, where the crate is; a short line for each command'
 make_run "$T/kit"
 status_is 0
-matches out 'rt: tds proved'
-lacks out unchanged
-has out 'some seven minutes on two cores the first time'
+matches out '^prove tds$'
+lacks out begins
+has out 'some ten minutes on four cores the first time'
 has out 'PASS: 6 figures checked'
-printf 'check tds\nstaticlib tds\n' >"$T/order"
+printf 'lib\n' >"$T/order"
 same 'what the kit was asked' "$T/order" "$T/asked"
 matches out 'compile stick/main\.c'
 matches out 'link build/stick'
 if [ "$(awk 'length > 120' "$T/out" | wc -l)" -eq 0 ]; then pass; else fail 'a long line'; fi
 asked() {
-    seen=$(grep -c '^staticlib' "$T/asked")
+    seen=$(grep -c '^lib' "$T/asked")
     if [ "$seen" -eq "$1" ]; then pass; else fail "the kit was asked $seen times instead of $1"; fi
 }
 asked 1
