@@ -13,6 +13,10 @@ fn reason(text: &str) -> &str {
     }
 }
 
+fn end_line(rt: &impl Print) -> io::Result<()> {
+    println!(rt)
+}
+
 // A line to standard error: what failed, and why.
 fn fail<R: Eprint + Alloc>(rt: &R, what: &str, error: io::Error) -> io::Result<()> {
     let text = error.to_string(rt.alloc())?;
@@ -31,7 +35,8 @@ fn show<R: Files + Print + Eprint + Alloc>(rt: &R, name: &str) -> io::Result<()>
     let input = listing_input::read(&mut file, &mut buffer);
     drop(file);
     let n = listing_text::answer(&buffer, input, &mut text);
-    println!(rt; "{name}")?;
+    print!(rt; "{name}")?;
+    end_line(rt)?;
     rt.write_all(&text[..n])
 }
 
