@@ -113,7 +113,7 @@ demand2 = record {
   tabled = λ t s b mesh rows sizes. (
     λ h.
         let l = found-layout (λ a. (of_mesh (λ r. leaving (Tabled.Refused r) rows) (tables_of t rows) mesh a).answer) (not-filled sizes) s b h in
-        let m = mesh-found _ _ _ (not-filled sizes) (get_elem? (meshes l.0) mesh) l.2 in
+        let m = mesh-found (λ r. leaving (Tabled.Refused r) rows) (tables_of t rows) (length (meshes l.0)) (not-filled sizes) (get_elem? (meshes l.0) mesh) l.2 in
         let f = found-tables t rows m.0 sizes m.2 in
         (l.0, l.1, (m.0, m.1, f.0, f.1)),
     λ l.
