@@ -40,9 +40,9 @@ for page in README.md CONTRIBUTING.md docs/*.md docs/landings/*.md samples/READM
 done >"$T/lost"
 if [ -s "$T/lost" ]; then fail "$(cat "$T/lost")"; else pass; fi
 try 'the definitions that FORMAT.md names'
-cat crates/*/specs/*.antt | grep -oE "[A-Za-z][A-Za-z0-9'-]*" | sort -u >"$T/words"
+cat crates/*/specs/*.antt | grep -oE "[A-Za-z][A-Za-z0-9_'-]*" | sort -u >"$T/words"
 # shellcheck disable=SC2016
-grep -v '^    ' docs/FORMAT.md | grep -oE '`[A-Za-z][A-Za-z]{3,}`' | tr -d '`' | sort -u >"$T/named"
+grep -v '^    ' docs/FORMAT.md | grep -oE '`[A-Za-z][A-Za-z_]{3,}`' | tr -d '`' | sort -u >"$T/named"
 printf '%s\n' crates/* | sed 's/.*\///' >"$T/crates"
 if [ "$(wc -l <"$T/named")" -ge 40 ]; then pass; else fail 'it names none'; fi
 sort -u "$T/words" "$T/crates" | comm -23 "$T/named" - | grep -vx -e refused >"$T/lost"
