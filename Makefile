@@ -22,14 +22,14 @@ gate:
 	bash tests/gate
 
 # rt is asked where anything in crates/, or rt itself, is newer than the library (a folder is, once a file has gone from it).
-# It says much, of which the crates that it comes to are shown.
+# `rt all check` proves crates side by side, where `rt lib` would prove one after the other. They say much, of which the crates that they come to are shown.
 RT := $(shell command -v rt)
 TDS_SOURCES := crates.txt $(shell find crates \( -name must-fail -o -name out \) -prune -o -print)
 target/staticlib/libtds.a: $(TDS_SOURCES) $(RT)
 	$(if $(RT),,$(error The library must be built, and the Rattle kit is not here: install it so that "rt version" answers, then make again))
 	@mkdir -p build $(@D)
 	@echo 'The library is proved and compiled: some ten minutes on four cores the first time, then only what has changed.'
-	@(cd crates/tds && rt lib) 2>&1 | tee build/library.log | sed -un 's/^rt: chose .* for \([a-z0-9_]*\)$$/prove \1/p' || { cat build/library.log; exit 1; }
+	@{ rt all check --jobs $$(nproc) && cd crates/tds && rt lib; } 2>&1 | tee build/library.log | sed -un 's/^rt: chose .* for \([a-z0-9_]*\)$$/prove \1/p' || { cat build/library.log; exit 1; }
 	@cp crates/tds/out/libtds.a $@
 
 # ---- the second reader, over the library

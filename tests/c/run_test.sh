@@ -13,9 +13,11 @@ cat >"$T/kit/rt" <<END
 #!/bin/sh
 echo "\$*" >>'$T/asked'
 case \$1 in
-lib)
+all)
     echo 'rt: c_version: begins with what a check kept'
-    echo 'rt: chose --jobs 2 for tds'
+    echo 'rt: chose --jobs 1 for tds'
+    ;;
+lib)
     mkdir -p out
     cp '$lib' out/libtds.a
     ;;
@@ -46,14 +48,14 @@ lines out 0
 lines err 1
 has err 'The library must be built, and the Rattle kit is not here: install it so that "rt version" answers, then make again'
 
-try 'the first time the kit is asked, where the crate is; a short line for each command'
+try 'the first time the kit is asked: to prove side by side, then for the library where the crate is; a short line for each command'
 make_run "$T/kit"
 status_is 0
 matches out '^prove tds$'
 lacks out begins
 has out 'some ten minutes on four cores the first time'
 has out 'PASS: 6 figures checked'
-printf 'lib\n' >"$T/order"
+printf 'all check --jobs %s\nlib\n' "$(nproc)" >"$T/order"
 same 'what the kit was asked' "$T/order" "$T/asked"
 matches out 'compile stick/main\.c'
 matches out 'link build/stick'
