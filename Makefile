@@ -28,7 +28,7 @@ TDS_SOURCES := crates.txt $(shell find crates \( -name must-fail -o -name out \)
 target/staticlib/libtds.a: $(TDS_SOURCES) $(RT)
 	$(if $(RT),,$(error The library must be built, and the Rattle kit is not here: install it so that "rt version" answers, then make again))
 	@mkdir -p build $(@D)
-	@echo 'The library is proved and compiled: some 37 minutes of processor time the first time, side by side, then only what has changed.'
+	@echo 'The library is proved and compiled: some 37 minutes of processor time at first, then only what has changed.'
 	@{ rt all check --jobs $$(nproc) && cd crates/tds && rt lib; } 2>&1 | tee build/library.log | sed -un 's/^rt: chose .* for \([a-z0-9_]*\)$$/prove \1/p' || { cat build/library.log; exit 1; }
 	@cp crates/tds/out/libtds.a $@
 

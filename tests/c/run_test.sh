@@ -53,7 +53,7 @@ make_run "$T/kit"
 status_is 0
 matches out '^prove tds$'
 lacks out begins
-has out 'some 37 minutes of processor time the first time'
+has out 'some 37 minutes of processor time at first'
 has out 'PASS: 6 figures checked'
 printf 'all check --jobs %s\nlib\n' "$(nproc)" >"$T/order"
 same 'what the kit was asked' "$T/order" "$T/asked"
