@@ -1,4 +1,5 @@
 -- The parts of the verdict, one after another.
+use Rattle.std.specs.Prelude.{Ok, Err}
 use mathlib.Core.Path.{◌≡◌, ◌∙◌}
 use Prim.Native.Nat.{ℕ, ◌-◌, ◌<◌, ◌≤◌}
 use mathlib.Core.Bool.{true, false}
@@ -10,7 +11,6 @@ use Rattle.shared_words.specs.declared.Refusal.TheVariants.{TooLong, Form}
 use Rattle.shared_words.specs.Lists.{same}
 use Rattle.shared_words.specs.Conditions.{broken, refused}
 use Rattle.shared_words.specs.Refusals.{limit}
-use Rattle.c4d_rules.specs.declared.Found.{Found}
 use Rattle.c4d_rules.specs.Layout.{file_header}
 use Rattle.c4d_rules.specs.Rules.{start}
 use Rattle.c4d_rules.specs.Read.{walk}
@@ -41,10 +41,10 @@ module _ (s : List ℕ) where
 
   -- ---- the check
 
-  pub checked_refused : (x : Refusal) → verdict s ≡ refused x → c4d_check_call s ≡ Found.Refused x
+  pub checked_refused : (x : Refusal) → verdict s ≡ refused x → c4d_check_call s ≡ Err x
   unfolding c4d_check_call
   checked_refused x e = rw e
 
-  pub checked_good : (notes₀ notes : List ℕ) (f : Figure) → Judged s notes₀ notes f → c4d_check_call s ≡ Found.Objects f.objects
+  pub checked_good : (notes₀ notes : List ℕ) (f : Figure) → Judged s notes₀ notes f → c4d_check_call s ≡ Ok f.objects
   unfolding c4d_check_call
   checked_good notes₀ notes f j = rw (j.is, j.counts.objects_are)

@@ -9,7 +9,6 @@ ghost use Rattle.c4d_rules.specs.Calls.{c4d_check_call};
 ghost use Rattle.c4d_check.specs.Reads.{Reads};
 
 use c4d_chunks::{Checked, chunks};
-use c4d_rules::Found;
 use shared_big_endian::long_at;
 use shared_words::Refusal;
 
@@ -51,12 +50,12 @@ pub fn read(file: &[u8], notes: &mut [u32]) -> Checked
 }
 
 // The first fault, or how many objects there are.
-pub fn check(file: &[u8]) -> Found
+pub fn check(file: &[u8]) -> Result<usize, Refusal>
     ensures { result ≡ c4d_check_call file.now }
 {
     let mut no_notes = [0u32; 0];
     match read(file, &mut no_notes) {
-        Checked::Refused(r) => Found::Refused(r),
-        Checked::Good(figure) => Found::Objects(figure.objects),
+        Checked::Refused(r) => Err(r),
+        Checked::Good(figure) => Ok(figure.objects),
     }
 }

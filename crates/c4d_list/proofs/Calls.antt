@@ -1,4 +1,5 @@
 -- The call, by what the file is and by the room in the rows.
+use Rattle.std.specs.Prelude.{Ok, Err}
 use mathlib.Core.Path.{◌≡◌}
 use Prim.Native.Nat.{ℕ, ◌*◌, ◌/◌, ◌<◌, ◌≤◌}
 use native.Mathlib.Omega.{arith}
@@ -11,7 +12,6 @@ use Rattle.shared_words.specs.Conditions.{broken, refused}
 use Rattle.shared_words.specs.Effects.{leaving}
 use Rattle.shared_words.specs.Encodings.{number_bytes}
 use Rattle.shared_numbers.proofs.Put.{put_front}
-use Rattle.c4d_rules.specs.declared.Found.{Found}
 use Rattle.c4d_rules.specs.Walk.{verdict}
 use Rattle.c4d_rules.specs.Gives.{objects}
 use Rattle.c4d_rules.specs.Calls.{all_materials, object_bytes, two_rows, objects_call, c4d_list_call}
@@ -21,19 +21,19 @@ use Rattle.c4d_check.specs.Reads.{Judged}
 use Rattle.c4d_list.specs.Filled.{Fillable, FilledWith}
 
 module _ (s os ms : List ℕ) where
-  pub list-refused : (r : Refusal) → verdict s ≡ refused r → c4d_list_call object_bytes (number_bytes 4) s os ms ≡ leaving (Found.Refused r) (two_rows os ms)
+  pub list-refused : (r : Refusal) → verdict s ≡ refused r → c4d_list_call object_bytes (number_bytes 4) s os ms ≡ leaving (Err r) (two_rows os ms)
   unfolding c4d_list_call objects_call
   list-refused r e = rw e
 
   module _ {notes₀ notes : List ℕ} (f : Figure) (j : Judged s notes₀ notes f) where
-    pub few-objects : length os / 12 < f.objects → c4d_list_call object_bytes (number_bytes 4) s os ms ≡ leaving (Found.Refused (NoRoom f.objects)) (two_rows os ms)
+    pub few-objects : length os / 12 < f.objects → c4d_list_call object_bytes (number_bytes 4) s os ms ≡ leaving (Err (NoRoom f.objects)) (two_rows os ms)
     unfolding c4d_list_call objects_call broken
     few-objects k =
         let n = j.counts.objects_are in
         rw (j.is, n, lt-leb (length (objects j.layout)) (length os / 12) (omega arith))
 
     module _ (k : f.objects ≤ length os / 12) where
-      pub few_materials : length ms / 4 < f.textures → c4d_list_call object_bytes (number_bytes 4) s os ms ≡ leaving (Found.Refused (NoRoom f.textures)) (two_rows os ms)
+      pub few_materials : length ms / 4 < f.textures → c4d_list_call object_bytes (number_bytes 4) s os ms ≡ leaving (Err (NoRoom f.textures)) (two_rows os ms)
       unfolding c4d_list_call objects_call broken
       few_materials l =
           let n = j.counts.objects_are in
@@ -42,7 +42,7 @@ module _ (s os ms : List ℕ) where
 
       module _ (l : f.textures ≤ length ms / 4) where
         pub both-filled : {os' ms' : List ℕ} → FilledWith (objects j.layout) os ms os' ms' →
-            c4d_list_call object_bytes (number_bytes 4) s os ms ≡ leaving (Found.Objects f.objects) (two_rows os' ms')
+            c4d_list_call object_bytes (number_bytes 4) s os ms ≡ leaving (Ok f.objects) (two_rows os' ms')
         unfolding c4d_list_call objects_call broken
         both-filled w =
             let n = j.counts.objects_are in

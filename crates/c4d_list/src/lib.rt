@@ -13,7 +13,6 @@ ghost use Rattle.c4d_list.specs.Filled.{Fillable, FilledIs};
 
 use c4d_check::read;
 use c4d_chunks::Checked;
-use c4d_rules::Found;
 use shared_numbers::put_long;
 use shared_words::Refusal;
 
@@ -67,32 +66,32 @@ fn fill(notes: &[u32], count: usize, objects: &mut [u8], materials: &mut [u8])
 }
 
 // The list, with a row for the notes.
-fn list_with(file: &[u8], notes: &mut [u32], objects: &mut [u8], materials: &mut [u8]) -> Found
+fn list_with(file: &[u8], notes: &mut [u32], objects: &mut [u8], materials: &mut [u8]) -> Result<usize, Refusal>
     requires { length file.now ≤ limit → length file.now ≤ 8 * length notes.old }
     ensures answer { result ≡ (c4d_list_call object_bytes (number_bytes 4) file.now objects.old materials.old).answer }
     ensures rows { two_rows objects.new materials.new ≡
         (c4d_list_call object_bytes (number_bytes 4) file.now objects.old materials.old).rows }
 {
     match read(file, notes) {
-        Checked::Refused(r) => Found::Refused(r),
+        Checked::Refused(r) => Err(r),
         Checked::Good(figure) => {
             let n = figure.objects;
             if objects.len() / 12 < n {
-                return Found::Refused(Refusal::NoRoom(n));
+                return Err(Refusal::NoRoom(n));
             }
             let m = figure.textures;
             if materials.len() / 4 < m {
-                return Found::Refused(Refusal::NoRoom(m));
+                return Err(Refusal::NoRoom(m));
             }
             fill(notes, n, objects, materials);
-            Found::Objects(n)
+            Ok(n)
         }
     }
 }
 
 // The objects of a file, three numbers each, and the materials of all of them. Answers how many objects there are, or the
 // refusal; a refusal leaves both rows as they were. A short file needs few notes, which are quicker made.
-pub fn list(file: &[u8], objects: &mut [u8], materials: &mut [u8]) -> Found
+pub fn list(file: &[u8], objects: &mut [u8], materials: &mut [u8]) -> Result<usize, Refusal>
     ensures answer { result ≡ (c4d_list_call object_bytes (number_bytes 4) file.now objects.old materials.old).answer }
     ensures rows { two_rows objects.new materials.new ≡
         (c4d_list_call object_bytes (number_bytes 4) file.now objects.old materials.old).rows }

@@ -1,23 +1,23 @@
 -- What each call answers and leaves in the lent rows, for every file and every row. The contracts of the public functions are
 -- equations with these definitions.
-use Rattle.std.specs.Prelude.{ℕ, ◌/◌, List, [], ◌∷◌, ◌++◌, leb, length}
+use Rattle.shared_words.specs.declared.Refusal.{Refusal}
+use Rattle.std.specs.Prelude.{ℕ, ◌/◌, List, [], ◌∷◌, ◌++◌, leb, length, Result, Ok, Err}
 use Rattle.shared_words.specs.declared.Refusal.TheVariants.{NoRoom}
 use Rattle.shared_words.specs.Bytes.{packed}
 use Rattle.shared_words.specs.Conditions.{Condition, must, broken, Answer, refused, accepted, unless}
 use Rattle.shared_words.specs.Effects.{Effect, leaving, filled}
 use Rattle.shared_words.specs.Encodings.{Encoding}
-use Rattle.c4d_rules.specs.declared.Found.{Found}
 use Rattle.c4d_rules.specs.Layout.{Layout}
 use Rattle.c4d_rules.specs.Walk.{verdict}
 use Rattle.c4d_rules.specs.Gives.{Object, objects}
 
 -- ---- the check
 
-abbrev pub check_of : Answer Layout → Found
-check_of (refused r) = Found.Refused r
-check_of (accepted l) = Found.Objects (length (objects l))
+abbrev pub check_of : Answer Layout → Result ℕ Refusal
+check_of (refused r) = Err r
+check_of (accepted l) = Ok (length (objects l))
 
-unfoldable pub c4d_check_call : List ℕ → Found
+unfoldable pub c4d_check_call : List ℕ → Result ℕ Refusal
 c4d_check_call s = check_of (verdict s)
 
 -- ---- the objects, where there is so much room for objects and for materials
@@ -58,9 +58,9 @@ pub record Rows (A B : Type 0) : Type 0 where
 abbrev pub two_rows : {A B : Type 0} → List A → List B → Rows A B
 two_rows os ms = record { objects = os; materials = ms }
 
-abbrev pub list_of : {A B : Type 0} → Encoding Object A → Encoding ℕ B → List A → List B → Answer (List Object) → Effect Found (Rows A B)
-list_of e m os ms (refused r) = leaving (Found.Refused r) (two_rows os ms)
-list_of e m os ms (accepted rs) = leaving (Found.Objects (length rs)) (two_rows (filled (e.encode rs) os) (filled (m.encode (all_materials rs)) ms))
+abbrev pub list_of : {A B : Type 0} → Encoding Object A → Encoding ℕ B → List A → List B → Answer (List Object) → Effect (Result ℕ Refusal) (Rows A B)
+list_of e m os ms (refused r) = leaving (Err r) (two_rows os ms)
+list_of e m os ms (accepted rs) = leaving (Ok (length rs)) (two_rows (filled (e.encode rs) os) (filled (m.encode (all_materials rs)) ms))
 
-unfoldable pub c4d_list_call : {A B : Type 0} → Encoding Object A → Encoding ℕ B → List ℕ → List A → List B → Effect Found (Rows A B)
+unfoldable pub c4d_list_call : {A B : Type 0} → Encoding Object A → Encoding ℕ B → List ℕ → List A → List B → Effect (Result ℕ Refusal) (Rows A B)
 c4d_list_call e m s os ms = list_of e m os ms (objects_call (e.room (length os)) (m.room (length ms)) s)

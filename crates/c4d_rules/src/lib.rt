@@ -3,9 +3,3 @@
 
 use shared_words::Refusal;
 
-// How many objects a file has.
-#[derive(Clone, Copy)]
-pub enum Found {
-    Objects(usize),
-    Refused(Refusal),
-}

@@ -1,10 +1,10 @@
 -- Answers of a few numbers, four bytes each: the answer is how many there are, or 15 with that; and what is left in the
 -- lent bytes.
-use Rattle.std.specs.Prelude.{ℕ, cond, List, [], ◌∷◌, leb, length}
+use Rattle.studio_rules.specs.declared.Counts.{Counts}
+use Rattle.studio_rules.specs.declared.Span.{Span}
+use Rattle.std.specs.Prelude.{ℕ, cond, List, [], ◌∷◌, leb, length, Result, Ok, Err}
 use Rattle.shared_words.specs.declared.Refusal.{Refusal}
 use Rattle.shared_words.specs.declared.Refusal.TheVariants.{NoRoom}
-use Rattle.studio_rules.specs.declared.Checked.{Checked}
-use Rattle.studio_rules.specs.declared.Named.{Named}
 use Rattle.studio_rules.specs.declared.Boxed.{Boxed}
 use Rattle.shared_words.specs.Encodings.{number_bytes}
 use Rattle.shared_words.specs.Effects.{Effect, leaving, filled}
@@ -23,14 +23,14 @@ given out ns =
     (untouched out (NoRoom (length ns)))
 
 -- the three byte counts
-abbrev pub counts_given : List ℕ → Checked → Effect ℕ (List ℕ)
-counts_given out (Checked.Accepted c) = given out (c.headers ∷ c.own ∷ c.skipped ∷ [])
-counts_given out (Checked.Refused r) = untouched out r
+abbrev pub counts_given : List ℕ → Result Counts Refusal → Effect ℕ (List ℕ)
+counts_given out (Ok c) = given out (c.headers ∷ c.own ∷ c.skipped ∷ [])
+counts_given out (Err r) = untouched out r
 
 -- a name's offset and length
-abbrev pub name_given : List ℕ → Named → Effect ℕ (List ℕ)
-name_given out (Named.At span) = given out (span.offset ∷ span.size ∷ [])
-name_given out (Named.Refused r) = untouched out r
+abbrev pub name_given : List ℕ → Result Span Refusal → Effect ℕ (List ℕ)
+name_given out (Ok span) = given out (span.offset ∷ span.size ∷ [])
+name_given out (Err r) = untouched out r
 
 -- the low corner of a box, the high one, and the centre
 abbrev pub box_given : List ℕ → Boxed → Effect ℕ (List ℕ)

@@ -11,7 +11,7 @@ ghost use Rattle.c_answers.specs.Given.{given, counts_given, name_given, box_giv
 use c_codes::refusal_code;
 use shared_numbers::put_long;
 use shared_words::Refusal;
-use studio_rules::{Boxed, Checked, Named};
+use studio_rules::{Boxed, Counts, Span};
 
 // The numbers, into the front of out.
 fn put_numbers(numbers: &[u32], out: &mut [u8])
@@ -39,14 +39,14 @@ fn give_numbers(numbers: &[u32], out: &mut [u8]) -> u64
 }
 
 // The three byte counts.
-pub fn give_counts(checked: Checked, out: &mut [u8]) -> u64
+pub fn give_counts(checked: Result<Counts, Refusal>, out: &mut [u8]) -> u64
     requires { CountsWithin checked }
     ensures answer { result ≡ (counts_given out.old checked).answer }
     ensures out { out.new ≡ (counts_given out.old checked).rows }
 {
     match checked {
-        Checked::Refused(r) => refusal_code(r),
-        Checked::Accepted(counts) => {
+        Err(r) => refusal_code(r),
+        Ok(counts) => {
             let three = [
                 counts.headers as u32,
                 counts.own as u32,
@@ -58,14 +58,14 @@ pub fn give_counts(checked: Checked, out: &mut [u8]) -> u64
 }
 
 // The offset and the length of a name.
-pub fn give_name(named: Named, out: &mut [u8]) -> u64
+pub fn give_name(named: Result<Span, Refusal>, out: &mut [u8]) -> u64
     requires { NameWithin named }
     ensures answer { result ≡ (name_given out.old named).answer }
     ensures out { out.new ≡ (name_given out.old named).rows }
 {
     match named {
-        Named::Refused(r) => refusal_code(r),
-        Named::At(span) => {
+        Err(r) => refusal_code(r),
+        Ok(span) => {
             let two = [span.offset as u32, span.size as u32];
             give_numbers(&two, out)
         }

@@ -5,14 +5,14 @@ ghost use Rattle.std.specs.Prelude.{◌≡◌};
 ghost use Rattle.c_cob.specs.Codes.{count_or};
 
 use c_codes::refusal_code;
-use cob_rules::Answered;
+use shared_words::Refusal;
 
 // The count, or a refusal.
-pub fn answered_code(answered: Answered) -> u64
+pub fn answered_code(answered: Result<usize, Refusal>) -> u64
     ensures { result ≡ count_or answered }
 {
     match answered {
-        Answered::Count(n) => n as u64,
-        Answered::Refused(r) => refusal_code(r),
+        Ok(n) => n as u64,
+        Err(r) => refusal_code(r),
     }
 }

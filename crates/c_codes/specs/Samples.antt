@@ -1,9 +1,6 @@
 -- Worked numbers: what C gets for a few answers, in hexadecimal, where the upper half of a refusal is its number.
-use Rattle.std.specs.Prelude.{◌≡◌}
+use Rattle.std.specs.Prelude.{◌≡◌, Ok, Err}
 use Rattle.shared_words.specs.declared.Refusal.TheVariants.{TooLong, Trailing, Name, Index, NoRoom, NoMaterial, Changed}
-use Rattle.studio_rules.specs.declared.Checked.{Checked}
-use Rattle.studio_rules.specs.declared.Tabled.{Tabled}
-use Rattle.shared_words.specs.declared.Written.{Written}
 use Rattle.c_codes.specs.Codes.{refusal_code, records_or, sizes_or, numbers_or, size_or}
 
 pub record Worked : Type 0 where
@@ -17,11 +14,11 @@ pub record Worked : Type 0 where
   pub largest : refusal_code (Name 0xFFFF_FFFF) ≡ 0x9_FFFF_FFFF
   pub one_more : refusal_code (Name 0x1_0000_0000) ≡ 0x9_FFFF_FFFF
   -- the triangle: six records; three vertices and one face; the bytes written
-  pub six_records_lem : records_or (Checked.Accepted record { records = 6; headers = 36; own = 50; skipped = 0 }) ≡ 6
-  pub p11 : records_or (Checked.Refused (NoRoom 6)) ≡ 0xF_0000_0006
-  pub three_and_one : sizes_or (Tabled.Filled record { vertices = 3; faces = 1; pairs = 0 }) ≡ 0x1_0003
-  pub most : sizes_or (Tabled.Filled record { vertices = 0xFFFF; faces = 0xFFFE; pairs = 0xFFFF }) ≡ 0xFFFE_FFFF
+  pub six_records_lem : records_or (Ok record { records = 6; headers = 36; own = 50; skipped = 0 }) ≡ 6
+  pub p11 : records_or (Err (NoRoom 6)) ≡ 0xF_0000_0006
+  pub three_and_one : sizes_or (Ok record { vertices = 3; faces = 1; pairs = 0 }) ≡ 0x1_0003
+  pub most : sizes_or (Ok record { vertices = 0xFFFF; faces = 0xFFFE; pairs = 0xFFFF }) ≡ 0xFFFE_FFFF
   -- a mapping of three pairs
-  pub six_numbers : numbers_or (Tabled.Filled record { vertices = 3; faces = 1; pairs = 3 }) ≡ 6
-  pub written : size_or (Written.Size 86) ≡ 86
-  pub no-room_to_write : size_or (Written.Refused (NoRoom 86)) ≡ 0xF_0000_0056
+  pub six_numbers : numbers_or (Ok record { vertices = 3; faces = 1; pairs = 3 }) ≡ 6
+  pub written : size_or (Ok 86) ≡ 86
+  pub no-room_to_write : size_or (Err (NoRoom 86)) ≡ 0xF_0000_0056

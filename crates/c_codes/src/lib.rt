@@ -5,8 +5,8 @@ ghost use Rattle.std.specs.Prelude.{◌≡◌};
 ghost use Rattle.studio_rules.specs.Within.{SizesWithin};
 ghost use Rattle.c_codes.specs.Codes.{refusal_code, records_or, sizes_or, numbers_or, size_or};
 
-use shared_words::{Refusal, Written};
-use studio_rules::{Checked, Tabled};
+use shared_words::Refusal;
+use studio_rules::{Counts, Sizes};
 
 // A refusal. Only the writer can have a place beyond 32 bits; it is answered as the largest.
 pub fn refusal_code(r: Refusal) -> u64
@@ -22,43 +22,43 @@ pub fn refusal_code(r: Refusal) -> u64
 }
 
 // The count of records, or a refusal.
-pub fn checked_code(checked: Checked) -> u64
+pub fn checked_code(checked: Result<Counts, Refusal>) -> u64
     ensures { result ≡ records_or checked }
 {
     match checked {
-        Checked::Accepted(counts) => counts.records as u64,
-        Checked::Refused(r) => refusal_code(r),
+        Ok(counts) => counts.records as u64,
+        Err(r) => refusal_code(r),
     }
 }
 
 // The vertices plus 65,536 times the faces, or a refusal.
-pub fn tabled_code(tabled: Tabled) -> u64
+pub fn tabled_code(tabled: Result<Sizes, Refusal>) -> u64
     requires { SizesWithin tabled }
     ensures { result ≡ sizes_or tabled }
 {
     match tabled {
-        Tabled::Filled(sizes) => sizes.vertices as u64 + 65536 * (sizes.faces as u64),
-        Tabled::Refused(r) => refusal_code(r),
+        Ok(sizes) => sizes.vertices as u64 + 65536 * (sizes.faces as u64),
+        Err(r) => refusal_code(r),
     }
 }
 
 // How many numbers a mapping has, or a refusal.
-pub fn mapped_code(tabled: Tabled) -> u64
+pub fn mapped_code(tabled: Result<Sizes, Refusal>) -> u64
     requires { SizesWithin tabled }
     ensures { result ≡ numbers_or tabled }
 {
     match tabled {
-        Tabled::Filled(sizes) => 2 * (sizes.pairs as u64),
-        Tabled::Refused(r) => refusal_code(r),
+        Ok(sizes) => 2 * (sizes.pairs as u64),
+        Err(r) => refusal_code(r),
     }
 }
 
 // The size of what was written, or a refusal.
-pub fn written_code(written: Written) -> u64
+pub fn written_code(written: Result<usize, Refusal>) -> u64
     ensures { result ≡ size_or written }
 {
     match written {
-        Written::Size(size) => size as u64,
-        Written::Refused(r) => refusal_code(r),
+        Ok(size) => size as u64,
+        Err(r) => refusal_code(r),
     }
 }

@@ -5,14 +5,14 @@ ghost use Rattle.std.specs.Prelude.{◌≡◌};
 ghost use Rattle.c_counted.specs.Codes.{counted_or};
 
 use c_codes::refusal_code;
-use studio_rules::Counted;
+use shared_words::Refusal;
 
 // The count of them, or a refusal.
-pub fn counted_code(counted: Counted) -> u64
+pub fn counted_code(counted: Result<usize, Refusal>) -> u64
     ensures { result ≡ counted_or counted }
 {
     match counted {
-        Counted::Filled(n) => n as u64,
-        Counted::Refused(r) => refusal_code(r),
+        Ok(n) => n as u64,
+        Err(r) => refusal_code(r),
     }
 }

@@ -5,14 +5,14 @@ ghost use Rattle.std.specs.Prelude.{◌≡◌};
 ghost use Rattle.c_slip.specs.Codes.{entries_or};
 
 use c_codes::refusal_code;
-use slip_rules::Found;
+use shared_words::Refusal;
 
 // The count of entries, or a refusal.
-pub fn found_code(found: Found) -> u64
+pub fn found_code(found: Result<usize, Refusal>) -> u64
     ensures { result ≡ entries_or found }
 {
     match found {
-        Found::Entries(n) => n as u64,
-        Found::Refused(r) => refusal_code(r),
+        Ok(n) => n as u64,
+        Err(r) => refusal_code(r),
     }
 }

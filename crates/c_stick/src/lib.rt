@@ -5,14 +5,14 @@ ghost use Rattle.std.specs.Prelude.{◌≡◌};
 ghost use Rattle.c_stick.specs.Codes.{one_or};
 
 use c_codes::refusal_code;
-use shared_words::Judged;
+use shared_words::Refusal;
 
 // 1 where nothing is wrong, or the first refusal.
-pub fn judged_code(judged: Judged) -> u64
+pub fn judged_code(judged: Result<(), Refusal>) -> u64
     ensures { result ≡ one_or judged }
 {
     match judged {
-        Judged::Good => 1,
-        Judged::Refused(r) => refusal_code(r),
+        Ok(()) => 1,
+        Err(r) => refusal_code(r),
     }
 }

@@ -1,4 +1,5 @@
 -- Sums handed on as numbers.
+use Rattle.std.specs.Prelude.{Ok, Err}
 use mathlib.Core.Path.{◌≡◌, refl, sym, ap, ◌∙◌}
 use mathlib.Core.List.{List, [], ◌∷◌}
 use mathlib.Core.Bool.{Bool, true, false, cond}
@@ -11,7 +12,6 @@ use lib.ListN.{length}
 use borrow.Author.Tests.{eq-eqb, ne_eqb}
 use Rattle.shared_words.specs.declared.Refusal.TheVariants.{TooLong}
 use Rattle.slip_sums.specs.declared.Sum.{Sum}
-use Rattle.slip_sums.specs.declared.Summed.{Summed}
 use Rattle.slip_sums.specs.Fletcher.{sum_of}
 use Rattle.slip_sums.specs.Joined.{join, capped, with_part, with_parts}
 use Rattle.slip_sums.specs.Passes.{sums_call, other_sums, match_of}
@@ -24,7 +24,7 @@ use Rattle.c_sums.specs.Numbers.{SumsProper, NoFileHas, number_of, sum_in, Hande
 pub sums_proper_lem : (file : List ℕ) → SumsProper (sums_call file)
 sums_proper_lem file = go (ltb 1_048_576 (length file))
   where
-    go : (t : Bool) → SumsProper (cond t (Summed.Refused TooLong) (Summed.Sums (sum_of file)))
+    go : (t : Bool) → SumsProper (cond t (Err TooLong) (Ok (sum_of file)))
     go true = tt
     go false = record { first_small = omega arith; second_small = omega arith }
 

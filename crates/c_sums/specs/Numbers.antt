@@ -1,10 +1,9 @@
 -- The checksum's answers as the one number that C gets. (That an answer proper is below 2^32, and so never taken for a refusal, is
 -- said in crate claim_numbers.)
-use Rattle.std.specs.Prelude.{◌≡◌, ◌⊎◌, ℕ, ◌+◌, ◌*◌, ◌/◌, ◌%◌, ◌^◌, ◌≤◌, ◌<◌, length}
+use Rattle.shared_words.specs.declared.Refusal.{Refusal}
+use Rattle.std.specs.Prelude.{◌≡◌, ◌⊎◌, ℕ, ◌+◌, ◌*◌, ◌/◌, ◌%◌, ◌^◌, ◌≤◌, ◌<◌, length, Result, Ok, Err}
 use mathlib.Core.List.{List, [], ◌∷◌, ◌++◌, flatten}
 use Rattle.slip_sums.specs.declared.Sum.{Sum}
-use Rattle.slip_sums.specs.declared.Summed.{Summed}
-use Rattle.slip_sums.specs.declared.Matched.{Matched}
 use Rattle.slip_sums.specs.Fletcher.{sum_of}
 use Rattle.slip_sums.specs.Joined.{join, Proper, capped, with_part}
 use Rattle.slip_sums.specs.Passes.{other_sums, match_of}
@@ -16,18 +15,18 @@ use Rattle.c_codes.specs.Codes.{refusal_code}
 abbrev pub sums_number : Sum → ℕ
 sums_number a = a.first + 256 * a.second
 
-abbrev pub sums_or : Summed → ℕ
-sums_or (Summed.Sums a) = sums_number a
-sums_or (Summed.Refused r) = refusal_code r
+abbrev pub sums_or : Result Sum Refusal → ℕ
+sums_or (Ok a) = sums_number a
+sums_or (Err r) = refusal_code r
 
 -- they are remainders, so that the number has two bytes
-abbrev pub SumsProper : Summed → Type 0
-SumsProper (Summed.Sums a) = Proper a
-SumsProper (Summed.Refused r) = Unit
+abbrev pub SumsProper : Result Sum Refusal → Type 0
+SumsProper (Ok a) = Proper a
+SumsProper (Err r) = Unit
 
-abbrev pub zero_or : Matched → ℕ
-zero_or Matched.Same = 0
-zero_or (Matched.Refused r) = refusal_code r
+abbrev pub zero_or : Result Unit Refusal → ℕ
+zero_or (Ok tt) = 0
+zero_or (Err r) = refusal_code r
 
 -- SUMS THAT NO FILE HAS, with a byte 255 or beyond two bytes, never pass.
 abbrev pub NoFileHas : Type 0

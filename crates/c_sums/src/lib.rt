@@ -7,17 +7,18 @@ ghost use Rattle.slip_sums.specs.Passes.{sums_call, match_of};
 ghost use Rattle.c_sums.specs.Numbers.{SumsProper, sums_or, zero_or, Handed, number_of, sum_in, with_part_number, join_numbers};
 
 use c_codes::refusal_code;
-use slip_sums::{Matched, Sum, Summed};
+use slip_sums::Sum;
+use shared_words::Refusal;
 
 // ---- of a whole file
 
-fn sums_code(summed: Summed) -> u64
+fn sums_code(summed: Result<Sum, Refusal>) -> u64
     requires { SumsProper summed }
     ensures { result ≡ sums_or summed }
 {
     match summed {
-        Summed::Sums(sum) => sum.first + 256 * sum.second,
-        Summed::Refused(r) => refusal_code(r),
+        Ok(sum) => sum.first + 256 * sum.second,
+        Err(r) => refusal_code(r),
     }
 }
 
@@ -28,12 +29,12 @@ pub fn file_sums(file: &[u8]) -> u64
     sums_code(slip_sums::entry_sums(file))
 }
 
-fn matched_code(matched: Matched) -> u64
+fn matched_code(matched: Result<(), Refusal>) -> u64
     ensures { result ≡ zero_or matched }
 {
     match matched {
-        Matched::Same => 0,
-        Matched::Refused(r) => refusal_code(r),
+        Ok(()) => 0,
+        Err(r) => refusal_code(r),
     }
 }
 

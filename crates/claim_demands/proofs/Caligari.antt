@@ -1,4 +1,5 @@
 -- Demands 2 and 3 of Caligari files, of the calls: from "accepted exactly", and from the rules' demand 3.
+use Rattle.std.specs.Prelude.{Ok, Err}
 use mathlib.Core.List.{List}
 use Prim.Native.Nat.{ℕ}
 use lib.ListN.{length, get_elem?}
@@ -12,7 +13,6 @@ use Rattle.shared_words.specs.declared.Refusal.TheVariants.{NoRoom}
 use Rattle.shared_words.specs.Conditions.{accepted}
 use Rattle.shared_words.specs.Effects.{leaving, filled}
 use Rattle.shared_flat.specs.Put.{Mark, without, with, pieces, Moved}
-use Rattle.cob_rules.specs.declared.Answered.{Answered}
 use Rattle.cob_rules.specs.Layout.{Chunk, Layout, size, bytes}
 use Rattle.cob_rules.specs.Rules.{Meets}
 use Rattle.cob_rules.specs.Walk.{verdict}
@@ -24,14 +24,9 @@ use Rattle.cob_rules.proofs.PutIn.{put_in_lem, taken_out}
 use Rattle.claim_demands.specs.Caligari.{Given, Demand2, SameAnswers, Demand3}
 use Rattle.claim_demands.proofs.Found.{layout-found, mesh-found, room-found}
 use Rattle.claim_demands.proofs.Related.{equally_long}
+use Rattle.claim_demands.proofs.Refused.{never-ok, same_ok}
 
 -- ---- demand 2
-
-never-counted : (n : ℕ) (r : Refusal) → Answered.Refused r ≡ Answered.Count n → ⊥
-never-counted n r e = let z : ◌≡◌ {A = ℕ} 0 1 = cc in omega arith
-
-count-is : {n k : ℕ} → Answered.Count n ≡ Answered.Count k → k ≡ n
-count-is e = cc
 
 given : (s : List ℕ) (l : Layout) → Meets s l → Given s l
 unfolding list_call sizes_call tables_call
@@ -48,37 +43,37 @@ unfolding check_call list_call sizes_call tables_call
 demand2 = record {
   accepted = λ s n. (
     λ h.
-        let l = layout-found check_of (never-counted n) (verdict s) h in
-        (l.0, (accepted_exactly s l.0).0 l.1, count-is l.2),
+        let l = layout-found check_of (never-ok n) (verdict s) h in
+        (l.0, (accepted_exactly s l.0).0 l.1, same_ok l.2),
     λ l. rw (verdict-good s l.0 l.1, l.2),
   );
   listed = λ e s row n. (
     λ h.
-        let l = layout-found (λ a. (list_of e row a).answer) (never-counted n) (verdict s) h in
-        let r = room-found (leb (length (list l.0)) (e.room (length row))) _ _ (never-counted n _) l.2 in
-        let k = count-is r.1 in
+        let l = layout-found (λ a. (list_of e row a).answer) (never-ok n) (verdict s) h in
+        let r = room-found (leb (length (list l.0)) (e.room (length row))) _ _ (never-ok n _) l.2 in
+        let k = same_ok r.1 in
         (l.0, (accepted_exactly s l.0).0 l.1, k, rw k (leb-true _ _ r.0)),
     λ l. rw ((given s l.0 l.1).list-is e row (rw l.2 at l.3), l.2),
   );
   sized = λ e s mesh row n. (
     λ h.
-        let l = layout-found (λ a. (of_mesh (λ r. leaving (Answered.Refused r) row) (λ m. give e (sizes_of m) row) mesh a).answer) (never-counted n) (verdict s) h in
-        let m = mesh-found (λ r. leaving (Answered.Refused r) row) (λ (m : Mesh). give e (sizes_of m) row) (length (meshes l.0)) (never-counted n) (get_elem? (meshes l.0) mesh) l.2 in
+        let l = layout-found (λ a. (of_mesh (λ r. leaving (Err r) row) (λ m. give e (sizes_of m) row) mesh a).answer) (never-ok n) (verdict s) h in
+        let m = mesh-found (λ r. leaving (Err r) row) (λ (m : Mesh). give e (sizes_of m) row) (length (meshes l.0)) (never-ok n) (get_elem? (meshes l.0) mesh) l.2 in
         let k = length (sizes_of m.0) in
-        let r = room-found (leb k (e.room (length row))) (leaving (Answered.Count k) (filled (e.encode (sizes_of m.0)) row)) (leaving (Answered.Refused (NoRoom k)) row) (never-counted n (NoRoom k)) m.2 in
-        (l.0, (accepted_exactly s l.0).0 l.1, (m.0, m.1, count-is r.1, leb-true _ _ r.0)),
+        let r = room-found (leb k (e.room (length row))) (leaving (Ok k) (filled (e.encode (sizes_of m.0)) row)) (leaving (Err (NoRoom k)) row) (never-ok n (NoRoom k)) m.2 in
+        (l.0, (accepted_exactly s l.0).0 l.1, (m.0, m.1, same_ok r.1, leb-true _ _ r.0)),
     λ l. let m = l.2 in rw ((given s l.0 l.1).sizes_are e mesh m.0 m.1 row m.3, m.2),
   );
   tabled = λ e s mesh rows n. (
     λ h.
-        let l = layout-found (λ a. (of_mesh (λ r. leaving (Answered.Refused r) rows) (tables_of e rows) mesh a).answer) (never-counted n) (verdict s) h in
-        let m = mesh-found (λ r. leaving (Answered.Refused r) rows) (tables_of e rows) (length (meshes l.0)) (never-counted n) (get_elem? (meshes l.0) mesh) l.2 in
-        let full = leaving (Answered.Count m.0.vertex_count) record { vertices = filled (e.encode m.0.vertices) rows.vertices; corners = filled (e.encode m.0.corners) rows.corners } in
-        let few = leaving (Answered.Refused (NoRoom (length m.0.corners))) rows in
+        let l = layout-found (λ a. (of_mesh (λ r. leaving (Err r) rows) (tables_of e rows) mesh a).answer) (never-ok n) (verdict s) h in
+        let m = mesh-found (λ r. leaving (Err r) rows) (tables_of e rows) (length (meshes l.0)) (never-ok n) (get_elem? (meshes l.0) mesh) l.2 in
+        let full = leaving (Ok m.0.vertex_count) record { vertices = filled (e.encode m.0.vertices) rows.vertices; corners = filled (e.encode m.0.corners) rows.corners } in
+        let few = leaving (Err (NoRoom (length m.0.corners))) rows in
         let fitting = cond (leb (length m.0.corners) (e.room (length rows.corners))) full few in
-        let v = room-found (leb (length m.0.vertices) (e.room (length rows.vertices))) fitting (leaving (Answered.Refused (NoRoom (length m.0.vertices))) rows) (never-counted n _) m.2 in
-        let c = room-found (leb (length m.0.corners) (e.room (length rows.corners))) full few (never-counted n _) v.1 in
-        (l.0, (accepted_exactly s l.0).0 l.1, (m.0, m.1, count-is c.1, (leb-true _ _ v.0, leb-true _ _ c.0))),
+        let v = room-found (leb (length m.0.vertices) (e.room (length rows.vertices))) fitting (leaving (Err (NoRoom (length m.0.vertices))) rows) (never-ok n _) m.2 in
+        let c = room-found (leb (length m.0.corners) (e.room (length rows.corners))) full few (never-ok n _) v.1 in
+        (l.0, (accepted_exactly s l.0).0 l.1, (m.0, m.1, same_ok c.1, (leb-true _ _ v.0, leb-true _ _ c.0))),
     λ l. let m = l.2 in rw ((given s l.0 l.1).tables_are e mesh m.0 m.1 rows m.3.0 m.3.1, m.2),
   );
   given = given;

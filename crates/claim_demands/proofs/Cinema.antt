@@ -1,4 +1,5 @@
 -- Demands 2 and 3 of Cinema 4D files, of the calls: from "accepted exactly", and from the rules' demand 3.
+use Rattle.std.specs.Prelude.{Result, Ok, Err}
 use mathlib.Core.Path.{◌≡◌, refl, ap, ◌∙◌}
 use mathlib.Core.List.{List, [], ◌∷◌}
 use mathlib.Core.Option.{Option, none, some}
@@ -13,7 +14,6 @@ use Rattle.shared_words.specs.Encodings.{Encoding}
 use Rattle.shared_words.proofs.Conditions.{met}
 use Rattle.shared_words.specs.Lists.{Pairwise}
 use Rattle.shared_flat.specs.Put.{Mark, without, with, Piece, pieces, Moved}
-use Rattle.c4d_rules.specs.declared.Found.{Found}
 use Rattle.c4d_rules.specs.Layout.{Chunk, Layout, chunk_size, bytes}
 use Rattle.c4d_rules.specs.Rules.{Meets}
 use Rattle.c4d_rules.specs.Walk.{verdict}
@@ -25,14 +25,9 @@ use Rattle.c4d_rules.proofs.PutIn.{put_in_lem, taken_out}
 use Rattle.claim_demands.specs.Cinema.{RoomForAll, Demand2, SameAnswers, Demand3}
 use Rattle.claim_demands.proofs.Found.{layout-found}
 use Rattle.claim_demands.proofs.Related.{equally_long}
+use Rattle.claim_demands.proofs.Refused.{never-ok, same_ok}
 
 -- ---- demand 2
-
-never-found : (n : ℕ) (r : Refusal) → Found.Refused r ≡ Found.Objects n → ⊥
-never-found n r e = let z : ◌≡◌ {A = ℕ} 0 1 = cc in omega arith
-
-count-is : {n k : ℕ} → Found.Objects n ≡ Found.Objects k → k ≡ n
-count-is e = cc
 
 -- what is given where no condition is broken
 nothing-broken : {A : Type 0} (o : Option Refusal) (x y : A) → unless o (accepted x) ≡ accepted y → (o ≡ none) × (y ≡ x)
@@ -40,20 +35,20 @@ nothing-broken none x y e = (refl, cc)
 nothing-broken (some r) x y e = let z : ◌≡◌ {A = ℕ} 0 1 = cc in absurd (omega arith)
 
 found-list : {A B : Type 0} (e : Encoding Object A) (m : Encoding ℕ B) (s : List ℕ) (os : List A) (ms : List B) (n : ℕ) →
-    (c4d_list_call e m s os ms).answer ≡ Found.Objects n → (l : Layout) × Meets s l × (n ≡ length (objects l)) × RoomForAll e m (objects l) os ms
+    (c4d_list_call e m s os ms).answer ≡ Ok n → (l : Layout) × Meets s l × (n ≡ length (objects l)) × RoomForAll e m (objects l) os ms
 unfolding c4d_list_call objects_call
 found-list e m s os ms n h =
-    let given-of : Answer (List Object) → Found = λ a. (list_of e m os ms a).answer in
-    let l = layout-found (λ (a : Answer Layout). given-of (objects_of (e.room (length os)) (m.room (length ms)) a)) (never-found n) (verdict s) h in
+    let given-of : Answer (List Object) → Result ℕ Refusal = λ a. (list_of e m os ms a).answer in
+    let l = layout-found (λ (a : Answer Layout). given-of (objects_of (e.room (length os)) (m.room (length ms)) a)) (never-ok n) (verdict s) h in
     let rs = objects l.0 in
-    let g = layout-found given-of (never-found n) (objects_of (e.room (length os)) (m.room (length ms)) (accepted l.0)) l.2 in
+    let g = layout-found given-of (never-ok n) (objects_of (e.room (length os)) (m.room (length ms)) (accepted l.0)) l.2 in
     let b = nothing-broken (broken (room_conditions (e.room (length os)) (m.room (length ms)) rs)) rs g.0 g.1 in
     let r = met _ b.0 in
-    (l.0, (accepted_exactly s l.0).0 l.1, count-is g.2 ∙ ap length b.1, (leb-true _ _ r.0, leb-true _ _ r.1.0))
+    (l.0, (accepted_exactly s l.0).0 l.1, same_ok g.2 ∙ ap length b.1, (leb-true _ _ r.0, leb-true _ _ r.1.0))
 
 given : (s : List ℕ) (l : Layout) → Meets s l →
     {A B : Type 0} (e : Encoding Object A) (m : Encoding ℕ B) (os : List A) (ms : List B) → RoomForAll e m (objects l) os ms →
-    c4d_list_call e m s os ms ≡ leaving (Found.Objects (length (objects l)))
+    c4d_list_call e m s os ms ≡ leaving (Ok (length (objects l)))
     (two_rows (filled (e.encode (objects l)) os) (filled (m.encode (all_materials (objects l))) ms))
 unfolding c4d_list_call objects_call broken
 given s l h e m os ms r = rw (verdict-good s l h, le-leb _ _ r.0, le-leb _ _ r.1)
@@ -63,8 +58,8 @@ unfolding c4d_check_call
 demand2 = record {
   accepted = λ s n. (
     λ h.
-        let l = layout-found check_of (never-found n) (verdict s) h in
-        (l.0, (accepted_exactly s l.0).0 l.1, count-is l.2),
+        let l = layout-found check_of (never-ok n) (verdict s) h in
+        (l.0, (accepted_exactly s l.0).0 l.1, same_ok l.2),
     λ l. rw (verdict-good s l.0 l.1, l.2),
   );
   listed = λ e m s os ms n. (found-list e m s os ms n, λ l. rw (given s l.0 l.1 e m os ms l.3, l.2));

@@ -1,5 +1,6 @@
 -- Demand 1, of the calls. A call is a fold of the walk's answer, and each line of each fold accepts, or refuses and gives
 -- back what was lent. (Those of the other formats: Formats.)
+use Rattle.std.specs.Prelude.{Result, Ok, Err}
 use mathlib.Core.Path.{refl, sym, subst}
 use mathlib.Core.List.{List}
 use mathlib.Core.Logic.{inl}
@@ -11,10 +12,6 @@ use Rattle.shared_words.specs.Picked.{pick_mesh}
 use Rattle.studio_rules.specs.declared.Record.{Record}
 use Rattle.shared_words.specs.declared.Refusal.{Refusal}
 use Rattle.shared_words.specs.declared.Refusal.TheVariants.{NoRoom, NoSuchMesh, Empty}
-use Rattle.studio_rules.specs.declared.Checked.{Checked}
-use Rattle.studio_rules.specs.declared.Tabled.{Tabled}
-use Rattle.studio_rules.specs.declared.Counted.{Counted}
-use Rattle.studio_rules.specs.declared.Named.{Named}
 use Rattle.studio_rules.specs.declared.Boxed.{Boxed}
 use Rattle.studio_rules.specs.Layout.{Run, figure, bytes}
 use Rattle.shared_words.specs.Conditions.{Answer, refused, accepted, broken}
@@ -30,9 +27,6 @@ use Rattle.studio_meshes_rules.specs.Boxes.{boxes_call}
 use Rattle.studio_rescue_rules.specs.declared.Mended.{Mended}
 use Rattle.studio_rescue_rules.specs.Rescue.{Cut, Rescued, beyond, saved, rescue}
 use Rattle.studio_rescue_rules.specs.Call.{Lent, call_of, rescue_call}
-use Rattle.shared_words.specs.declared.Written.{Written}
-use Rattle.shared_words.specs.declared.Judged.{Judged}
-use Rattle.shared_words.specs.declared.Written.TheVariants.{Size, Refused}
 use Rattle.studio_write_judge.specs.Judged.{judged}
 use Rattle.studio_figure_rules.specs.Described.{described, judged_flat, write_flat}
 use Rattle.studio_figure_rules.specs.Built.{layout}
@@ -42,42 +36,23 @@ use Rattle.studio_write.specs.Write.{writing, write_call}
 use Rattle.slip_rules.specs.Walk.{verdict as slip_verdict}
 use Rattle.slip_rules.specs.Calls.{entries_from, write_conditions, slip_read_call, slip_write_call}
 use Rattle.stick_rules.specs.Records.{judge_call}
-use Rattle.cob_rules.specs.declared.Answered.{Answered as CobAnswered}
 use Rattle.cob_rules.specs.Walk.{verdict as cob_verdict}
 use Rattle.cob_meshes_rules.specs.Calls.{meshes_call as cob_meshes_call}
 use Rattle.cob_rules.specs.Calls.{check_call as cob_check_call, give, list_call as cob_list_call, sizes_of as cob_sizes_of, sizes_call, tables_of as cob_tables_of, tables_call as cob_tables_call}
 use Rattle.c4d_rules.specs.Walk.{verdict as c4d_verdict}
 use Rattle.c4d_rules.specs.Calls.{objects_call, c4d_check_call, c4d_list_call}
 use Rattle.claim_demands.specs.Demand1.{Answered, AnsweredOn, around, mended, good, Demand1}
-use Rattle.claim_demands.proofs.Refused.{Apart, refuses, leaves}
+use Rattle.claim_demands.proofs.Refused.{Apart, apart, refuses, leaves}
 use Rattle.claim_demands.proofs.Formats.{summed, matched, slip-given, slip-written, cob_leaves, cob_checked, cob_given, cob_listed, cob_tabled, cob_all, cob_by_mesh, c4d_checked, c4d_listed}
 use Rattle.shared_words.proofs.Bools.{by_test}
 
 -- ---- an answer is no two refusals
-
-check_apart : Apart Checked.Refused
-check_apart r q e = cc
-
-tables-apart : Apart Tabled.Refused
-tables-apart r q e = cc
-
-counted-apart : Apart Counted.Refused
-counted-apart r q e = cc
-
-name-apart : Apart Named.Refused
-name-apart r q e = cc
 
 box-apart : Apart Boxed.Refused
 box-apart r q e = cc
 
 mended-apart : Apart Mended.Refused
 mended-apart r q e = cc
-
-write-apart : Apart Written.Refused
-write-apart r q e = cc
-
-judged-apart : Apart Judged.Refused
-judged-apart r q e = cc
 
 -- ---- what holds of each line of a fold holds of the fold
 
@@ -92,31 +67,31 @@ by-mesh P refuse use-it of-refusal of-mesh mesh (accepted kids) = go (get_elem? 
 
 -- ---- the folds
 
-checked : (a : Answer Run) → Answered Checked.Accepted Checked.Refused (check_of a)
-checked (refused r) = refuses Checked.Accepted Checked.Refused check_apart r
+checked : (a : Answer Run) → Answered Ok Err (check_of a)
+checked (refused r) = refuses Ok Err apart r
 checked (accepted kids) = inl (counts_of kids, refl)
 
-listed : {A : Type 0} (e : Encoding Record A) (row : List A) (a : Answer Run) → AnsweredOn Checked.Accepted Checked.Refused row (list_of e row a)
-listed e row (refused r) = leaves Checked.Accepted Checked.Refused check_apart row r
+listed : {A : Type 0} (e : Encoding Record A) (row : List A) (a : Answer Run) → AnsweredOn Ok Err row (list_of e row a)
+listed e row (refused r) = leaves Ok Err apart row r
 listed e row (accepted kids) =
-    by_test (AnsweredOn Checked.Accepted Checked.Refused row) (leb (record_count (figure kids)) (e.room (length row)))
-    (inl (counts_of kids, refl)) (leaves Checked.Accepted Checked.Refused check_apart row (NoRoom (record_count (figure kids))))
+    by_test (AnsweredOn Ok Err row) (leb (record_count (figure kids)) (e.room (length row)))
+    (inl (counts_of kids, refl)) (leaves Ok Err apart row (NoRoom (record_count (figure kids))))
 
-tabled : {A B C : Type 0} (t : Tables A B C) (rows : Rows A B C) (m : Mesh) → AnsweredOn Tabled.Filled Tabled.Refused rows (tables_of t rows m)
+tabled : {A B C : Type 0} (t : Tables A B C) (rows : Rows A B C) (m : Mesh) → AnsweredOn Ok Err rows (tables_of t rows m)
 tabled t rows m =
-    by_test (AnsweredOn Tabled.Filled Tabled.Refused rows) (fits t.vertices m.vertices rows.vertices)
-    (by_test (AnsweredOn Tabled.Filled Tabled.Refused rows) (fits t.corners m.corners rows.corners)
-    (by_test (AnsweredOn Tabled.Filled Tabled.Refused rows) (fits t.mapping m.mapping rows.mapping)
+    by_test (AnsweredOn Ok Err rows) (fits t.vertices m.vertices rows.vertices)
+    (by_test (AnsweredOn Ok Err rows) (fits t.corners m.corners rows.corners)
+    (by_test (AnsweredOn Ok Err rows) (fits t.mapping m.mapping rows.mapping)
     (inl (sizes_of m, refl))
-    (leaves Tabled.Filled Tabled.Refused tables-apart rows (NoRoom (length m.mapping))))
-    (leaves Tabled.Filled Tabled.Refused tables-apart rows (NoRoom (length m.corners))))
-    (leaves Tabled.Filled Tabled.Refused tables-apart rows (NoRoom (length m.vertices)))
+    (leaves Ok Err apart rows (NoRoom (length m.mapping))))
+    (leaves Ok Err apart rows (NoRoom (length m.corners))))
+    (leaves Ok Err apart rows (NoRoom (length m.vertices)))
 
-all_things : {X A : Type 0} (things : Run → List X) (e : Encoding X A) (row : List A) (a : Answer Run) → AnsweredOn Counted.Filled Counted.Refused row (all_of things e row a)
-all_things things e row (refused r) = leaves Counted.Filled Counted.Refused counted-apart row r
+all_things : {X A : Type 0} (things : Run → List X) (e : Encoding X A) (row : List A) (a : Answer Run) → AnsweredOn Ok Err row (all_of things e row a)
+all_things things e row (refused r) = leaves Ok Err apart row r
 all_things things e row (accepted kids) =
-    by_test (AnsweredOn Counted.Filled Counted.Refused row) (leb (length (things kids)) (e.room (length row)))
-    (inl (length (things kids), refl)) (leaves Counted.Filled Counted.Refused counted-apart row (NoRoom (length (things kids))))
+    by_test (AnsweredOn Ok Err row) (leb (length (things kids)) (e.room (length row)))
+    (inl (length (things kids), refl)) (leaves Ok Err apart row (NoRoom (length (things kids))))
 
 boxed : (m : Mesh) → Answered around Boxed.Refused (around_of m)
 boxed m = by_test (Answered around Boxed.Refused) (eqb m.vertex_count 0) (refuses around Boxed.Refused box-apart Empty) (inl (_, refl))
@@ -130,13 +105,13 @@ rescued e rows (saved s cuts) =
     (leaves mended Mended.Refused mended-apart rows (NoRoom (length s))))
     (leaves mended Mended.Refused mended-apart rows (NoRoom (length cuts)))
 
-written : (file out : List ℕ) (w : Written) → AnsweredOn Size Refused out (writing file out w)
-written file out (Refused r) = leaves Size Refused write-apart out r
-written file out (Size size) = inl (size, refl)
+written : (file out : List ℕ) (w : Result ℕ Refusal) → AnsweredOn Ok Err out (writing file out w)
+written file out (Err r) = leaves Ok Err apart out r
+written file out (Ok size) = inl (size, refl)
 
-stick_judged : (j : Judged) → Answered good Judged.Refused j
-stick_judged Judged.Good = inl (tt, refl)
-stick_judged (Judged.Refused r) = refuses good Judged.Refused judged-apart r
+stick_judged : (j : Result Unit Refusal) → Answered good Err j
+stick_judged (Ok tt) = inl (tt, refl)
+stick_judged (Err r) = refuses good Err apart r
 
 -- ---- the demand
 
@@ -146,13 +121,13 @@ demand1 = record {
   check = λ s. checked (verdict s);
   list = λ e s row. listed e row (verdict s);
   tables = λ t s mesh rows.
-      by-mesh (AnsweredOn Tabled.Filled Tabled.Refused rows) (λ r. leaving (Tabled.Refused r) rows) (tables_of t rows)
-      (leaves Tabled.Filled Tabled.Refused tables-apart rows) (tabled t rows) mesh (verdict s);
-  parts = λ e s row. subst (AnsweredOn Counted.Filled Counted.Refused row) (sym (all-parts e s row)) (all_things parts e row (verdict s));
+      by-mesh (AnsweredOn Ok Err rows) (λ r. leaving (Err r) rows) (tables_of t rows)
+      (leaves Ok Err apart rows) (tabled t rows) mesh (verdict s);
+  parts = λ e s row. subst (AnsweredOn Ok Err row) (sym (all-parts e s row)) (all_things parts e row (verdict s));
   meshes = λ e s row. all_things standing e row (verdict s);
   boxes = λ e s row. all_things meshes e row (verdict s);
   name = λ s mesh.
-      by-mesh (Answered Named.At Named.Refused) Named.Refused name_of (refuses Named.At Named.Refused name-apart) (λ m. inl (_, refl)) mesh (verdict s);
+      by-mesh (Answered Ok Err) Err name_of (refuses Ok Err apart) (λ m. inl (_, refl)) mesh (verdict s);
   box = λ s mesh.
       by-mesh (Answered around Boxed.Refused) Boxed.Refused around_of (refuses around Boxed.Refused box-apart) boxed mesh (verdict s);
   rescue = λ e s rows. rescued e rows (rescue s);
@@ -166,10 +141,10 @@ demand1 = record {
   cob_check = λ s. cob_checked (cob_verdict s);
   cob_list = λ e s row. cob_listed e row (cob_verdict s);
   cob_sizes = λ e s mesh row.
-      cob_by_mesh (AnsweredOn CobAnswered.Count CobAnswered.Refused row) (λ r. leaving (CobAnswered.Refused r) row) (λ m. give e (cob_sizes_of m) row)
+      cob_by_mesh (AnsweredOn Ok Err row) (λ r. leaving (Err r) row) (λ m. give e (cob_sizes_of m) row)
       (cob_leaves row) (λ m. cob_given e (cob_sizes_of m) row) mesh (cob_verdict s);
   cob_tables = λ e s mesh rows.
-      cob_by_mesh (AnsweredOn CobAnswered.Count CobAnswered.Refused rows) (λ r. leaving (CobAnswered.Refused r) rows) (cob_tables_of e rows)
+      cob_by_mesh (AnsweredOn Ok Err rows) (λ r. leaving (Err r) rows) (cob_tables_of e rows)
       (cob_leaves rows) (cob_tabled e rows) mesh (cob_verdict s);
   cob_meshes = λ e s row. cob_all e row (cob_verdict s);
   c4d_check = λ s. c4d_checked (c4d_verdict s);

@@ -1,5 +1,6 @@
 -- Demand 3, of the calls. The rules' demand 3 relates the two layouts element by element; the meshes of one number are so
 -- related, or there is none in both, and a call about a mesh answers the two alike.
+use Rattle.std.specs.Prelude.{Err}
 use mathlib.Core.Path.{◌≡◌, refl}
 use mathlib.Core.List.{List, []}
 use mathlib.Core.Option.{Option, none, some}
@@ -10,9 +11,7 @@ use borrow.Author.Tests.{le-leb, lt-leb}
 use Rattle.shared_words.specs.declared.Refusal.{Refusal}
 use Rattle.shared_words.specs.declared.Refusal.TheVariants.{NoSuchMesh}
 use Rattle.shared_words.specs.Picked.{pick_mesh}
-use Rattle.studio_rules.specs.declared.Named.{Named}
 use Rattle.studio_rules.specs.declared.Boxed.{Boxed}
-use Rattle.studio_rules.specs.declared.Tabled.{Tabled}
 use Rattle.studio_rules.specs.Layout.{figure, bytes}
 use Rattle.shared_words.specs.Conditions.{accepted}
 use Rattle.studio_rules.specs.Walk.{verdict}
@@ -84,13 +83,13 @@ module _ (m : Marked) (s s' : List ℕ) (v : verdict s ≡ accepted (without m))
         meshes-given = λ e row h. (rw (v, le-leb _ _ h), rw (v', many, le-leb _ _ h));
         meshes-refused = λ e row h. (rw (v, lt-leb _ _ h), rw (v', many, lt-leb _ _ h));
         tables-same = λ t mesh rows.
-            of-one-mesh (λ r. leaving (Tabled.Refused r) rows) (tables_of t rows) (λ old new. new ≡ old) (λ r. refl)
+            of-one-mesh (λ r. leaving (Err r) rows) (tables_of t rows) (λ old new. new ≡ old) (λ r. refl)
             (λ old new h. rw (h.vertices-same, h.corners-same, h.mapping_same, h.vertex-count-same, h.face-count-same, h.pair_count_same)) mesh;
         parts_same = λ e row. rw (v, v', d.parts_same);
         box-same =
             of-one-mesh Boxed.Refused around_of (λ old new. new ≡ old) (λ r. refl) (λ old new h. rw (h.vertex-count-same, h.vertices-same));
         name-moved =
-            of-one-mesh Named.Refused name_of (NameMoved (put_in m)) (λ r. refl) (λ old new h. (h.name-grows, h.name-length-same));
+            of-one-mesh Err name_of (NameMoved (put_in m)) (λ r. refl) (λ old new h. (h.name-grows, h.name-length-same));
       }
 
 -- ---- the demand

@@ -1,4 +1,7 @@
 -- Demand 3 of the calls that give out a few numbers: their answer is a function of what demand 3 speaks of.
+use Rattle.studio_rules.specs.declared.Span.{Span}
+use Rattle.shared_words.specs.declared.Refusal.{Refusal}
+use Rattle.std.specs.Prelude.{Result, Ok, Err}
 use mathlib.Core.Path.{◌≡◌, refl, ap}
 use mathlib.Core.Bool.{Bool, true, false, cond}
 use mathlib.Core.List.{List, [], ◌∷◌}
@@ -8,9 +11,7 @@ use lib.ListN.{length}
 use Rattle.shared_words.specs.declared.Refusal.TheVariants.{NoRoom}
 use Rattle.shared_words.specs.Bytes.{packed}
 use Rattle.shared_words.specs.Effects.{leaving, filled}
-use Rattle.studio_rules.specs.declared.Checked.{Checked}
 use Rattle.studio_rules.specs.declared.Counts.{Counts}
-use Rattle.studio_rules.specs.declared.Named.{Named}
 use Rattle.studio_rules.specs.Gaps.{Piece}
 use Rattle.studio_rules.specs.Calls.{name_call}
 use Rattle.c_codes.specs.Codes.{refusal_code}
@@ -28,15 +29,15 @@ alike R out old new r n = rw n (go (leb (length old) (length out / 4)))
     go false = GivenAlike.refused (refusal_code (NoRoom (length old))) refl refl
 
 counts_alike : (out : List ℕ) (all : ℕ) (c c' : Counts) → c'.headers ≡ c.headers → c'.own ≡ c.own → c'.skipped ≡ c.skipped + all →
-    GivenAlike (CountsGrow all) out (counts_given out (Checked.Accepted c)) (counts_given out (Checked.Accepted c'))
+    GivenAlike (CountsGrow all) out (counts_given out (Ok c)) (counts_given out (Ok c'))
 counts_alike out all c c' h o k =
     alike (CountsGrow all) out (c.headers ∷ c.own ∷ c.skipped ∷ []) (c'.headers ∷ c'.own ∷ c'.skipped ∷ [])
     record { headers = c.headers; own = c.own; skipped = c.skipped; old-is = refl; new_is = rw (h, o, k) } refl
 
-name_alike : (ps : List Piece) (out : List ℕ) (n n' : Named) → NameMoved ps n n' → GivenAlike (NameGrows ps) out (name_given out n) (name_given out n')
-name_alike ps out (Named.Refused r) n' h = rw h (GivenAlike.refused (refusal_code r) refl refl)
-name_alike ps out (Named.At old) (Named.Refused r) h = absurd h
-name_alike ps out (Named.At old) (Named.At new) h =
+name_alike : (ps : List Piece) (out : List ℕ) (n n' : Result Span Refusal) → NameMoved ps n n' → GivenAlike (NameGrows ps) out (name_given out n) (name_given out n')
+name_alike ps out (Err r) n' h = rw h (GivenAlike.refused (refusal_code r) refl refl)
+name_alike ps out (Ok old) (Err r) h = absurd h
+name_alike ps out (Ok old) (Ok new) h =
     alike (NameGrows ps) out (old.offset ∷ old.size ∷ []) (new.offset ∷ new.size ∷ [])
     record { offset = old.offset; offset' = new.offset; name-length = old.size; old-is = refl; new_is = rw h.1; grows = h.0 } refl
 

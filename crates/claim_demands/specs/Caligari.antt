@@ -1,5 +1,5 @@
 -- DEMANDS 2 AND 3 OF CALIGARI FILES, of the calls and in the words of figures (Demand2, Demand3).
-use Rattle.std.specs.Prelude.{◌≡◌, ◌↔◌, List, ℕ, ◌≤◌, ◌<◌, length}
+use Rattle.std.specs.Prelude.{◌≡◌, ◌↔◌, List, ℕ, ◌≤◌, ◌<◌, length, Ok, Err}
 use Rattle.std.proofs.Math.Option.{some}
 use Rattle.std.proofs.Math.ListN.{get_elem?}
 use Rattle.shared_words.specs.declared.Refusal.TheVariants.{NoRoom}
@@ -9,7 +9,6 @@ use Rattle.shared_words.specs.Lists.{Pairwise}
 use Rattle.shared_words.specs.Refusals.{limit}
 use Rattle.shared_flat.specs.Put.{Mark, without, with, Piece, pieces, Moved}
 use Rattle.cob_rules.specs.declared.Record.{Record}
-use Rattle.cob_rules.specs.declared.Answered.{Answered}
 use Rattle.cob_rules.specs.Layout.{Chunk, Layout, size, bytes}
 use Rattle.cob_rules.specs.Rules.{Meets}
 use Rattle.cob_rules.specs.Gives.{list, Mesh, meshes}
@@ -21,13 +20,13 @@ use Rattle.cob_rules.specs.PutIn.{ending, MayPut, MayTake, SameRecord}
 -- what the calls give of a file s that meets the rules with a layout
 pub record Given (s : List ℕ) (l : Layout) : Type 0 where
   pub list-is : (e : Encoding Record ℕ) (row : List ℕ) → length (list l) ≤ e.room (length row) →
-      list_call e s row ≡ leaving (Answered.Count (length (list l))) (filled (e.encode (list l)) row)
+      list_call e s row ≡ leaving (Ok (length (list l))) (filled (e.encode (list l)) row)
   -- of each mesh: m has the number `mesh`
   pub sizes_are : (e : Encoding ℕ ℕ) (mesh : ℕ) (m : Mesh) → get_elem? (meshes l) mesh ≡ some m → (row : List ℕ) → 2 ≤ e.room (length row) →
-      sizes_call e s mesh row ≡ leaving (Answered.Count 2) (filled (e.encode (sizes_of m)) row)
+      sizes_call e s mesh row ≡ leaving (Ok 2) (filled (e.encode (sizes_of m)) row)
   pub tables_are : (e : Encoding ℕ ℕ) (mesh : ℕ) (m : Mesh) → get_elem? (meshes l) mesh ≡ some m → (rows : Rows) →
       length m.vertices ≤ e.room (length rows.vertices) → length m.corners ≤ e.room (length rows.corners) →
-      tables_call e s mesh rows ≡ leaving (Answered.Count m.vertex_count)
+      tables_call e s mesh rows ≡ leaving (Ok m.vertex_count)
       record { vertices = filled (e.encode m.vertices) rows.vertices; corners = filled (e.encode m.corners) rows.corners }
 
 -- room for both tables of a mesh
@@ -36,16 +35,16 @@ RoomForTables e rows m = (length m.vertices ≤ e.room (length rows.vertices)) �
 
 pub record Demand2 : Type 0 where
   -- accepted exactly when the rules are met, and then with the count of the layout's records
-  pub accepted : (s : List ℕ) (n : ℕ) → (check_call s ≡ Answered.Count n) ↔ ((l : Layout) × Meets s l × (n ≡ length (list l)))
+  pub accepted : (s : List ℕ) (n : ℕ) → (check_call s ≡ Ok n) ↔ ((l : Layout) × Meets s l × (n ≡ length (list l)))
   -- the list likewise, given room
   pub listed : (e : Encoding Record ℕ) (s row : List ℕ) (n : ℕ) →
-      ((list_call e s row).answer ≡ Answered.Count n) ↔ ((l : Layout) × Meets s l × (n ≡ length (list l)) × (n ≤ e.room (length row)))
+      ((list_call e s row).answer ≡ Ok n) ↔ ((l : Layout) × Meets s l × (n ≡ length (list l)) × (n ≤ e.room (length row)))
   -- the sizes and the tables of a mesh likewise
   pub sized : (e : Encoding ℕ ℕ) (s : List ℕ) (mesh : ℕ) (row : List ℕ) (n : ℕ) →
-      ((sizes_call e s mesh row).answer ≡ Answered.Count n) ↔
+      ((sizes_call e s mesh row).answer ≡ Ok n) ↔
       ((l : Layout) × Meets s l × ((m : Mesh) × (get_elem? (meshes l) mesh ≡ some m) × (n ≡ 2) × (2 ≤ e.room (length row))))
   pub tabled : (e : Encoding ℕ ℕ) (s : List ℕ) (mesh : ℕ) (rows : Rows) (n : ℕ) →
-      ((tables_call e s mesh rows).answer ≡ Answered.Count n) ↔
+      ((tables_call e s mesh rows).answer ≡ Ok n) ↔
       ((l : Layout) × Meets s l × ((m : Mesh) × (get_elem? (meshes l) mesh ≡ some m) × (n ≡ m.vertex_count) × RoomForTables e rows m))
   -- and what the calls give is that of the layout
   pub given : (s : List ℕ) (l : Layout) → Meets s l → Given s l
@@ -60,15 +59,15 @@ pub record SameAnswers (ps : List Piece) (s s' : List ℕ) : Type 0 where
   pub records : List Record
   pub records' : List Record
   pub moved : Pairwise (Moved (λ r. r.offset) SameRecord ps) records records'
-  pub accepted : check_call s ≡ Answered.Count (length records)
-  pub accepted' : check_call s' ≡ Answered.Count (length records)
+  pub accepted : check_call s ≡ Ok (length records)
+  pub accepted' : check_call s' ≡ Ok (length records)
   -- with the same room both lists are given, or neither is
   pub list-given : (e : Encoding Record ℕ) (row : List ℕ) → length records ≤ e.room (length row) →
-      (list_call e s row ≡ leaving (Answered.Count (length records)) (filled (e.encode records) row)) ×
-      (list_call e s' row ≡ leaving (Answered.Count (length records)) (filled (e.encode records') row))
+      (list_call e s row ≡ leaving (Ok (length records)) (filled (e.encode records) row)) ×
+      (list_call e s' row ≡ leaving (Ok (length records)) (filled (e.encode records') row))
   pub list-refused : (e : Encoding Record ℕ) (row : List ℕ) → e.room (length row) < length records →
-      (list_call e s row ≡ leaving (Answered.Refused (NoRoom (length records))) row) ×
-      (list_call e s' row ≡ leaving (Answered.Refused (NoRoom (length records))) row)
+      (list_call e s row ≡ leaving (Err (NoRoom (length records))) row) ×
+      (list_call e s' row ≡ leaving (Err (NoRoom (length records))) row)
   -- every mesh has the same sizes, and the same tables bit for bit
   pub sizes-same : (e : Encoding ℕ ℕ) (mesh : ℕ) (row : List ℕ) → sizes_call e s' mesh row ≡ sizes_call e s mesh row
   pub tables-same : (e : Encoding ℕ ℕ) (mesh : ℕ) (rows : Rows) → tables_call e s' mesh rows ≡ tables_call e s mesh rows

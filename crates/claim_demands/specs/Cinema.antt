@@ -1,12 +1,11 @@
 -- DEMANDS 2 AND 3 OF CINEMA 4D FILES, of the calls and in the words of figures (Demand2, Demand3).
-use Rattle.std.specs.Prelude.{◌≡◌, ◌↔◌, List, ℕ, ◌≤◌, ◌<◌, length}
+use Rattle.std.specs.Prelude.{◌≡◌, ◌↔◌, List, ℕ, ◌≤◌, ◌<◌, length, Ok, Err}
 use Rattle.shared_words.specs.declared.Refusal.TheVariants.{NoRoom}
 use Rattle.shared_words.specs.Effects.{leaving, filled}
 use Rattle.shared_words.specs.Encodings.{Encoding}
 use Rattle.shared_words.specs.Lists.{Pairwise}
 use Rattle.shared_words.specs.Refusals.{limit}
 use Rattle.shared_flat.specs.Put.{Mark, without, with, Piece, pieces, Moved}
-use Rattle.c4d_rules.specs.declared.Found.{Found}
 use Rattle.c4d_rules.specs.Layout.{Chunk, Layout, chunk_size, bytes}
 use Rattle.c4d_rules.specs.Rules.{Meets}
 use Rattle.c4d_rules.specs.Gives.{Object, objects}
@@ -21,14 +20,14 @@ RoomForAll e m rs os ms = (length rs ≤ e.room (length os)) × (length (all_mat
 
 pub record Demand2 : Type 1 where
   -- accepted exactly when the rules are met, and then with the count of the layout's objects
-  pub accepted : (s : List ℕ) (n : ℕ) → (c4d_check_call s ≡ Found.Objects n) ↔ ((l : Layout) × Meets s l × (n ≡ length (objects l)))
+  pub accepted : (s : List ℕ) (n : ℕ) → (c4d_check_call s ≡ Ok n) ↔ ((l : Layout) × Meets s l × (n ≡ length (objects l)))
   -- the list likewise, given room
   pub listed : {A B : Type 0} (e : Encoding Object A) (m : Encoding ℕ B) (s : List ℕ) (os : List A) (ms : List B) (n : ℕ) →
-      ((c4d_list_call e m s os ms).answer ≡ Found.Objects n) ↔ ((l : Layout) × Meets s l × (n ≡ length (objects l)) × RoomForAll e m (objects l) os ms)
+      ((c4d_list_call e m s os ms).answer ≡ Ok n) ↔ ((l : Layout) × Meets s l × (n ≡ length (objects l)) × RoomForAll e m (objects l) os ms)
   -- and what it gives is that of the layout
   pub given : (s : List ℕ) (l : Layout) → Meets s l →
       {A B : Type 0} (e : Encoding Object A) (m : Encoding ℕ B) (os : List A) (ms : List B) → RoomForAll e m (objects l) os ms →
-      c4d_list_call e m s os ms ≡ leaving (Found.Objects (length (objects l)))
+      c4d_list_call e m s os ms ≡ leaving (Ok (length (objects l)))
       (two_rows (filled (e.encode (objects l)) os) (filled (m.encode (all_materials (objects l))) ms))
 
 -- ---- demand 3: whole chunks of unlisted types put into an accepted file anywhere but before PLTF, or taken out, any number together
@@ -41,23 +40,23 @@ pub record SameAnswers (ps : List Piece) (s s' : List ℕ) : Type 1 where
   pub objects : List Object
   pub objects' : List Object
   pub moved : Pairwise (Moved (λ r. r.offset) SameObject ps) objects objects'
-  pub accepted : c4d_check_call s ≡ Found.Objects (length objects)
-  pub accepted' : c4d_check_call s' ≡ Found.Objects (length objects)
+  pub accepted : c4d_check_call s ≡ Ok (length objects)
+  pub accepted' : c4d_check_call s' ≡ Ok (length objects)
   -- with the same room both lists are given, or neither is; the materials are the same
   pub list-given : {A B : Type 0} (e : Encoding Object A) (m : Encoding ℕ B) (os : List A) (ms : List B) →
       length objects ≤ e.room (length os) → length (all_materials objects) ≤ m.room (length ms) →
       (c4d_list_call e m s os ms ≡
-      leaving (Found.Objects (length objects)) (two_rows (filled (e.encode objects) os) (filled (m.encode (all_materials objects)) ms))) ×
+      leaving (Ok (length objects)) (two_rows (filled (e.encode objects) os) (filled (m.encode (all_materials objects)) ms))) ×
       (c4d_list_call e m s' os ms ≡
-      leaving (Found.Objects (length objects)) (two_rows (filled (e.encode objects') os) (filled (m.encode (all_materials objects)) ms)))
+      leaving (Ok (length objects)) (two_rows (filled (e.encode objects') os) (filled (m.encode (all_materials objects)) ms)))
   pub objects-refused : {A B : Type 0} (e : Encoding Object A) (m : Encoding ℕ B) (os : List A) (ms : List B) →
       e.room (length os) < length objects →
-      (c4d_list_call e m s os ms ≡ leaving (Found.Refused (NoRoom (length objects))) (two_rows os ms)) ×
-      (c4d_list_call e m s' os ms ≡ leaving (Found.Refused (NoRoom (length objects))) (two_rows os ms))
+      (c4d_list_call e m s os ms ≡ leaving (Err (NoRoom (length objects))) (two_rows os ms)) ×
+      (c4d_list_call e m s' os ms ≡ leaving (Err (NoRoom (length objects))) (two_rows os ms))
   pub materials_refused : {A B : Type 0} (e : Encoding Object A) (m : Encoding ℕ B) (os : List A) (ms : List B) →
       length objects ≤ e.room (length os) → m.room (length ms) < length (all_materials objects) →
-      (c4d_list_call e m s os ms ≡ leaving (Found.Refused (NoRoom (length (all_materials objects)))) (two_rows os ms)) ×
-      (c4d_list_call e m s' os ms ≡ leaving (Found.Refused (NoRoom (length (all_materials objects)))) (two_rows os ms))
+      (c4d_list_call e m s os ms ≡ leaving (Err (NoRoom (length (all_materials objects)))) (two_rows os ms)) ×
+      (c4d_list_call e m s' os ms ≡ leaving (Err (NoRoom (length (all_materials objects)))) (two_rows os ms))
 
 pub record Demand3 : Type 1 where
   -- chunks put into an accepted file, the result within the length limit

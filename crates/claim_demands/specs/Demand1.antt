@@ -1,13 +1,9 @@
 -- DEMAND 1 of docs/DEMANDS.md, of the calls. "Any file, of any length, is either accepted or refused with one number and
 -- one place from the table … The caller need check nothing first. A refusal leaves every lent table and buffer untouched."
 -- Nothing is asked of the file, the number of the mesh, the rows or what stands in them.
-use Rattle.std.specs.Prelude.{◌≡◌, ◌⊎◌, List, ℕ, Float}
+use Rattle.std.specs.Prelude.{◌≡◌, ◌⊎◌, List, ℕ, Float, Result, Ok, Err}
 use Rattle.studio_rules.specs.declared.Record.{Record}
 use Rattle.shared_words.specs.declared.Refusal.{Refusal}
-use Rattle.studio_rules.specs.declared.Checked.{Checked}
-use Rattle.studio_rules.specs.declared.Tabled.{Tabled}
-use Rattle.studio_rules.specs.declared.Counted.{Counted}
-use Rattle.studio_rules.specs.declared.Named.{Named}
 use Rattle.studio_rules.specs.declared.Boxed.{Boxed}
 use Rattle.studio_rules.specs.declared.Corner.{Corner}
 use Rattle.studio_rules.specs.declared.BoundingBox.{BoundingBox}
@@ -22,24 +18,17 @@ use Rattle.studio_meshes_rules.specs.Boxes.{boxes_call}
 use Rattle.studio_rescue_rules.specs.declared.Mended.{Mended}
 use Rattle.studio_rescue_rules.specs.Rescue.{Cut}
 use Rattle.studio_rescue_rules.specs.Call.{Lent, rescue_call}
-use Rattle.shared_words.specs.declared.Written.{Written}
-use Rattle.shared_words.specs.declared.Judged.{Judged}
 use Rattle.studio_write.specs.Write.{write_call}
 use Rattle.studio_figure_rules.specs.Described.{Flat, write_flat}
 use Rattle.slip_sums.specs.declared.Sum.{Sum}
-use Rattle.slip_sums.specs.declared.Summed.{Summed}
-use Rattle.slip_sums.specs.declared.Matched.{Matched}
 use Rattle.slip_sums.specs.Passes.{sums_call, match_of}
 use Rattle.slip_rules.specs.declared.Numbers.{Numbers}
-use Rattle.slip_rules.specs.declared.Found.{Found as SlipFound}
 use Rattle.slip_rules.specs.Calls.{Given, slip_read_call, slip_write_call}
 use Rattle.stick_rules.specs.Records.{judge_call}
 use Rattle.cob_rules.specs.declared.Record.{Record as CobRecord}
-use Rattle.cob_rules.specs.declared.Answered.{Answered as CobAnswered}
 use Rattle.cob_rules.specs.Calls.{check_call as cob_check_call, list_call as cob_list_call, sizes_call, Rows as CobRows, tables_call as cob_tables_call}
 use Rattle.cob_meshes_rules.specs.Standing.{Standing as CobStanding}
 use Rattle.cob_meshes_rules.specs.Calls.{meshes_call as cob_meshes_call}
-use Rattle.c4d_rules.specs.declared.Found.{Found as C4dFound}
 use Rattle.c4d_rules.specs.Gives.{Object}
 use Rattle.c4d_rules.specs.Calls.{two_rows, c4d_check_call, c4d_list_call}
 
@@ -70,47 +59,47 @@ abbrev pub mended : ℕ × ℕ → Mended
 mended x = Mended.Written x.0 x.1
 
 -- nothing is wrong with a stick
-abbrev pub good : Unit {0} → Judged
-good u = Judged.Good
+abbrev pub good : Unit {0} → Result Unit Refusal
+good u = Ok tt
 
 -- a file passes against its entry
-abbrev pub passes : Unit {0} → Matched
-passes u = Matched.Same
+abbrev pub passes : Unit {0} → Result Unit Refusal
+passes u = Ok tt
 
 pub record Demand1 : Type 1 where
-  pub check : (s : List ℕ) → Answered Checked.Accepted Checked.Refused (check_call s)
+  pub check : (s : List ℕ) → Answered Ok Err (check_call s)
   pub list : {A : Type 0} (e : Encoding Record A) (s : List ℕ) (row : List A) →
-      AnsweredOn Checked.Accepted Checked.Refused row (list_call e s row)
+      AnsweredOn Ok Err row (list_call e s row)
   pub tables : {A B C : Type 0} (t : Tables A B C) (s : List ℕ) (mesh : ℕ) (rows : Rows A B C) →
-      AnsweredOn Tabled.Filled Tabled.Refused rows (tables_call t s mesh rows)
+      AnsweredOn Ok Err rows (tables_call t s mesh rows)
   pub parts : {A : Type 0} (e : Encoding Part A) (s : List ℕ) (row : List A) →
-      AnsweredOn Counted.Filled Counted.Refused row (parts_call e s row)
+      AnsweredOn Ok Err row (parts_call e s row)
   pub meshes : {A : Type 0} (e : Encoding Standing A) (s : List ℕ) (row : List A) →
-      AnsweredOn Counted.Filled Counted.Refused row (meshes_call e s row)
+      AnsweredOn Ok Err row (meshes_call e s row)
   pub boxes : {A : Type 0} (e : Encoding Mesh A) (s : List ℕ) (row : List A) →
-      AnsweredOn Counted.Filled Counted.Refused row (boxes_call e s row)
-  pub name : (s : List ℕ) (mesh : ℕ) → Answered Named.At Named.Refused (name_call s mesh)
+      AnsweredOn Ok Err row (boxes_call e s row)
+  pub name : (s : List ℕ) (mesh : ℕ) → Answered Ok Err (name_call s mesh)
   pub box : (s : List ℕ) (mesh : ℕ) → Answered around Boxed.Refused (box_call s mesh)
   pub rescue : {A : Type 0} (e : Encoding Cut A) (s : List ℕ) (rows : Lent A) → AnsweredOn mended Mended.Refused rows (rescue_call e s rows)
   pub write : (name : List ℕ) (vertices : List Float) (corners out : List ℕ) →
-      AnsweredOn Written.Size Written.Refused out (write_call name vertices corners out)
-  pub figure : (rows : Flat) (out : List ℕ) → AnsweredOn Written.Size Written.Refused out (write_flat rows out)
+      AnsweredOn Ok Err out (write_call name vertices corners out)
+  pub figure : (rows : Flat) (out : List ℕ) → AnsweredOn Ok Err out (write_flat rows out)
   -- slips: the sums of a file, sums against an entry, a slip read and written
-  pub sums : (s : List ℕ) → Answered Summed.Sums Summed.Refused (sums_call s)
-  pub matches : (a : Sum) (l first second : ℕ) → Answered passes Matched.Refused (match_of a l first second)
-  pub slip-read : (e : Encoding Numbers ℕ) (s row : List ℕ) → AnsweredOn SlipFound.Entries SlipFound.Refused row (slip_read_call e s row)
-  pub slip-write : (names : List ℕ) (given : Given) (out : List ℕ) → AnsweredOn Written.Size Written.Refused out (slip_write_call names given out)
+  pub sums : (s : List ℕ) → Answered Ok Err (sums_call s)
+  pub matches : (a : Sum) (l first second : ℕ) → Answered passes Err (match_of a l first second)
+  pub slip-read : (e : Encoding Numbers ℕ) (s row : List ℕ) → AnsweredOn Ok Err row (slip_read_call e s row)
+  pub slip-write : (names : List ℕ) (given : Given) (out : List ℕ) → AnsweredOn Ok Err out (slip_write_call names given out)
   -- a stick against its slip. (The evidence for a file: SticksTold of crate claim_numbers.)
-  pub stick_judge : (slip names items : List ℕ) → Answered good Judged.Refused (judge_call slip names items)
+  pub stick_judge : (slip names items : List ℕ) → Answered good Err (judge_call slip names items)
   -- Caligari files
-  pub cob_check : (s : List ℕ) → Answered CobAnswered.Count CobAnswered.Refused (cob_check_call s)
-  pub cob_list : (e : Encoding CobRecord ℕ) (s row : List ℕ) → AnsweredOn CobAnswered.Count CobAnswered.Refused row (cob_list_call e s row)
+  pub cob_check : (s : List ℕ) → Answered Ok Err (cob_check_call s)
+  pub cob_list : (e : Encoding CobRecord ℕ) (s row : List ℕ) → AnsweredOn Ok Err row (cob_list_call e s row)
   pub cob_sizes : (e : Encoding ℕ ℕ) (s : List ℕ) (mesh : ℕ) (row : List ℕ) →
-      AnsweredOn CobAnswered.Count CobAnswered.Refused row (sizes_call e s mesh row)
+      AnsweredOn Ok Err row (sizes_call e s mesh row)
   pub cob_tables : (e : Encoding ℕ ℕ) (s : List ℕ) (mesh : ℕ) (rows : CobRows) →
-      AnsweredOn CobAnswered.Count CobAnswered.Refused rows (cob_tables_call e s mesh rows)
-  pub cob_meshes : (e : Encoding CobStanding ℕ) (s row : List ℕ) → AnsweredOn CobAnswered.Count CobAnswered.Refused row (cob_meshes_call e s row)
+      AnsweredOn Ok Err rows (cob_tables_call e s mesh rows)
+  pub cob_meshes : (e : Encoding CobStanding ℕ) (s row : List ℕ) → AnsweredOn Ok Err row (cob_meshes_call e s row)
   -- Cinema 4D files
-  pub c4d_check : (s : List ℕ) → Answered C4dFound.Objects C4dFound.Refused (c4d_check_call s)
+  pub c4d_check : (s : List ℕ) → Answered Ok Err (c4d_check_call s)
   pub c4d_list : {A B : Type 0} (e : Encoding Object A) (m : Encoding ℕ B) (s : List ℕ) (objects : List A) (materials : List B) →
-      AnsweredOn C4dFound.Objects C4dFound.Refused (two_rows objects materials) (c4d_list_call e m s objects materials)
+      AnsweredOn Ok Err (two_rows objects materials) (c4d_list_call e m s objects materials)

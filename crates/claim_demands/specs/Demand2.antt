@@ -1,16 +1,12 @@
 -- DEMAND 2 of docs/DEMANDS.md, of the calls. "Given room, a file within the length limit is accepted exactly when it meets
 -- the chunk rules … The list, tables and byte counts are those the rules give. A figure we write is accepted and reads back
 -- to the same name, numbers and corners."
-use Rattle.std.specs.Prelude.{◌≡◌, ◌↔◌, List, true, ℕ, ◌+◌, ◌≤◌, ◌<◌, length}
+use Rattle.std.specs.Prelude.{◌≡◌, ◌↔◌, List, true, ℕ, ◌+◌, ◌≤◌, ◌<◌, length, Ok}
 use Rattle.std.proofs.Math.Option.{some}
 use Rattle.std.proofs.Math.ListN.{get_elem?}
 use Rattle.studio_rules.specs.declared.Record.{Record}
 use Rattle.studio_rules.specs.declared.Counts.{Counts}
-use Rattle.studio_rules.specs.declared.Checked.{Checked}
 use Rattle.studio_rules.specs.declared.Sizes.{Sizes}
-use Rattle.studio_rules.specs.declared.Tabled.{Tabled}
-use Rattle.studio_rules.specs.declared.Counted.{Counted}
-use Rattle.studio_rules.specs.declared.Named.{Named}
 use Rattle.studio_rules.specs.declared.Boxed.{Boxed}
 use Rattle.shared_words.specs.Bytes.{Bytes}
 use Rattle.studio_rules.specs.Layout.{Run, figure}
@@ -41,16 +37,16 @@ pub record RoomForTables {A B C : Type 0} (t : Tables A B C) (rows : Rows A B C)
 pub record Given (s : List ℕ) (kids : Run) : Type 1 where
   pub counts-add : (counts_of kids).headers + (counts_of kids).own + (counts_of kids).skipped ≡ length s
   pub list-is : {A : Type 0} (e : Encoding Record A) (row : List A) → RoomFor e (record_count (figure kids)) row →
-      list_call e s row ≡ leaving (Checked.Accepted (counts_of kids)) (filled (e.encode (list kids)) row)
+      list_call e s row ≡ leaving (Ok (counts_of kids)) (filled (e.encode (list kids)) row)
   -- of each mesh: m has the number `mesh`
   pub tables_are : {A B C : Type 0} (t : Tables A B C) (mesh : ℕ) (m : Mesh) → get_elem? (meshes kids) mesh ≡ some m →
-      (rows : Rows A B C) → RoomForTables t rows m → tables_call t s mesh rows ≡ leaving (Tabled.Filled (sizes_of m)) (rows_with t rows m)
+      (rows : Rows A B C) → RoomForTables t rows m → tables_call t s mesh rows ≡ leaving (Ok (sizes_of m)) (rows_with t rows m)
   pub parts_are : {A : Type 0} (e : Encoding Part A) (row : List A) → RoomFor e (length (parts kids)) row →
-      parts_call e s row ≡ leaving (Counted.Filled (length (parts kids))) (filled (e.encode (parts kids)) row)
+      parts_call e s row ≡ leaving (Ok (length (parts kids))) (filled (e.encode (parts kids)) row)
   pub meshes_are : {A : Type 0} (e : Encoding Standing A) (row : List A) → RoomFor e (length (standing kids)) row →
-      meshes_call e s row ≡ leaving (Counted.Filled (length (standing kids))) (filled (e.encode (standing kids)) row)
+      meshes_call e s row ≡ leaving (Ok (length (standing kids))) (filled (e.encode (standing kids)) row)
   pub name-is : (mesh : ℕ) (m : Mesh) → get_elem? (meshes kids) mesh ≡ some m →
-      name_call s mesh ≡ Named.At record { offset = m.name_at; size = m.name_length }
+      name_call s mesh ≡ Ok record { offset = m.name_at; size = m.name_length }
   pub box-is : (mesh : ℕ) (m : Mesh) → get_elem? (meshes kids) mesh ≡ some m → 0 < m.vertex_count →
       box_call s mesh ≡ Boxed.Around (bounding_box_of m.vertex_count m.vertices) (centre_of (bounding_box_of m.vertex_count m.vertices))
 
@@ -59,18 +55,18 @@ pub record Given (s : List ℕ) (kids : Run) : Type 1 where
 pub record Demand2 : Type 1 where
   -- accepted exactly when the rules are met, and then with the counts of the layout
   pub accepted : (s : List ℕ) → Bytes s → (counts : Counts) →
-      (check_call s ≡ Checked.Accepted counts) ↔ ((kids : Run) × Meets s kids × (counts ≡ counts_of kids))
+      (check_call s ≡ Ok counts) ↔ ((kids : Run) × Meets s kids × (counts ≡ counts_of kids))
   -- the list, the tables, the parts and all meshes likewise, given room
   pub listed : {A : Type 0} (e : Encoding Record A) (s : List ℕ) → Bytes s → (row : List A) (counts : Counts) →
-      ((list_call e s row).answer ≡ Checked.Accepted counts) ↔
+      ((list_call e s row).answer ≡ Ok counts) ↔
       ((kids : Run) × Meets s kids × (counts ≡ counts_of kids) × RoomFor e (record_count (figure kids)) row)
   pub tabled : {A B C : Type 0} (t : Tables A B C) (s : List ℕ) → Bytes s → (mesh : ℕ) (rows : Rows A B C) (sizes : Sizes) →
-      ((tables_call t s mesh rows).answer ≡ Tabled.Filled sizes) ↔
+      ((tables_call t s mesh rows).answer ≡ Ok sizes) ↔
       ((kids : Run) × Meets s kids × ((m : Mesh) × (get_elem? (meshes kids) mesh ≡ some m) × (sizes ≡ sizes_of m) × RoomForTables t rows m))
   pub parts-listed : {A : Type 0} (e : Encoding Part A) (s : List ℕ) → Bytes s → (row : List A) (n : ℕ) →
-      ((parts_call e s row).answer ≡ Counted.Filled n) ↔ ((kids : Run) × Meets s kids × (n ≡ length (parts kids)) × RoomFor e (length (parts kids)) row)
+      ((parts_call e s row).answer ≡ Ok n) ↔ ((kids : Run) × Meets s kids × (n ≡ length (parts kids)) × RoomFor e (length (parts kids)) row)
   pub meshes-listed : {A : Type 0} (e : Encoding Standing A) (s : List ℕ) → Bytes s → (row : List A) (n : ℕ) →
-      ((meshes_call e s row).answer ≡ Counted.Filled n) ↔ ((kids : Run) × Meets s kids × (n ≡ length (standing kids)) × RoomFor e (length (standing kids)) row)
+      ((meshes_call e s row).answer ≡ Ok n) ↔ ((kids : Run) × Meets s kids × (n ≡ length (standing kids)) × RoomFor e (length (standing kids)) row)
   -- and what they give is that of the layout
   pub given : (s : List ℕ) (kids : Run) → Meets s kids → Given s kids
   -- a figure we write is accepted and reads back, bare or with many objects and materials

@@ -3,14 +3,13 @@
 -- and lengths, which have moved by the bytes put in.
 -- One layout with marked chunks tells both files (studio_rules/specs/Gaps): `without m` is that of the file that has them not,
 -- `with m` that of the file that has them; `put_in m` are the chunks as they stand in the file that has them.
-use Rattle.std.specs.Prelude.{◌≡◌, List, ℕ, ◌+◌, ◌≤◌, ◌<◌, length}
+use Rattle.studio_rules.specs.declared.Span.{Span}
+use Rattle.shared_words.specs.declared.Refusal.{Refusal}
+use Rattle.std.specs.Prelude.{◌≡◌, List, ℕ, ◌+◌, ◌≤◌, ◌<◌, length, Result, Ok, Err}
 use Rattle.shared_words.specs.Refusals.{limit}
 use Rattle.studio_rules.specs.declared.Record.{Record}
 use Rattle.shared_words.specs.declared.Refusal.TheVariants.{NoRoom}
 use Rattle.studio_rules.specs.declared.Counts.{Counts}
-use Rattle.studio_rules.specs.declared.Checked.{Checked}
-use Rattle.studio_rules.specs.declared.Counted.{Counted}
-use Rattle.studio_rules.specs.declared.Named.{Named}
 use Rattle.shared_words.specs.Bytes.{Bytes}
 use Rattle.studio_rules.specs.OwnData.{count}
 use Rattle.studio_rules.specs.Layout.{figure, bytes, child}
@@ -26,10 +25,10 @@ use Rattle.studio_meshes_rules.specs.Standing.{Standing, elements_at}
 use Rattle.studio_meshes_rules.specs.Calls.{meshes_call}
 
 -- a name keeps its length, and its offset grows like the others; a refusal is the same
-abbrev pub NameMoved : List Piece → Named → Named → Type 0
-NameMoved ps (Named.Refused r) new = new ≡ Named.Refused r
-NameMoved ps (Named.At old) (Named.Refused r) = ⊥
-NameMoved ps (Named.At old) (Named.At new) = (new.offset ≡ old.offset + before new.offset ps) × (new.size ≡ old.size)
+abbrev pub NameMoved : List Piece → Result Span Refusal → Result Span Refusal → Type 0
+NameMoved ps (Err r) new = new ≡ Err r
+NameMoved ps (Ok old) (Err r) = ⊥
+NameMoved ps (Ok old) (Ok new) = (new.offset ≡ old.offset + before new.offset ps) × (new.size ≡ old.size)
 
 -- the elements of the child x of a mesh are as many, and their offset grows like the others
 pub record ElementsMoved (ps : List Piece) (x : ℕ) (old new : Standing) : Type 0 where
@@ -49,8 +48,8 @@ pub record SameAnswers (ps : List Piece) (all : ℕ) (s s' : List ℕ) : Type 1 
   -- both are accepted; of the byte counts only the skipped one changes, and it grows by all the bytes put in
   pub counts : Counts
   pub counts' : Counts
-  pub accepted : check_call s ≡ Checked.Accepted counts
-  pub accepted' : check_call s' ≡ Checked.Accepted counts'
+  pub accepted : check_call s ≡ Ok counts
+  pub accepted' : check_call s' ≡ Ok counts'
   pub records-same : counts'.records ≡ counts.records
   pub headers-same : counts'.headers ≡ counts.headers
   pub own_same : counts'.own ≡ counts.own
@@ -60,11 +59,11 @@ pub record SameAnswers (ps : List Piece) (all : ℕ) (s s' : List ℕ) : Type 1 
   pub records' : List Record
   pub moved : Pairwise (Moved ps) records records'
   pub list-given : {A : Type 0} (e : Encoding Record A) (row : List A) → counts.records ≤ e.room (length row) →
-      (list_call e s row ≡ leaving (Checked.Accepted counts) (filled (e.encode records) row)) ×
-      (list_call e s' row ≡ leaving (Checked.Accepted counts') (filled (e.encode records') row))
+      (list_call e s row ≡ leaving (Ok counts) (filled (e.encode records) row)) ×
+      (list_call e s' row ≡ leaving (Ok counts') (filled (e.encode records') row))
   pub list-refused : {A : Type 0} (e : Encoding Record A) (row : List A) → e.room (length row) < counts.records →
-      (list_call e s row ≡ leaving (Checked.Refused (NoRoom counts.records)) row) ×
-      (list_call e s' row ≡ leaving (Checked.Refused (NoRoom counts.records)) row)
+      (list_call e s row ≡ leaving (Err (NoRoom counts.records)) row) ×
+      (list_call e s' row ≡ leaving (Err (NoRoom counts.records)) row)
   -- every mesh has the same tables bit for bit, the same box, and its name
   pub tables-same : {A B C : Type 0} (t : Tables A B C) (mesh : ℕ) (rows : Rows A B C) →
       tables_call t s' mesh rows ≡ tables_call t s mesh rows
@@ -75,11 +74,11 @@ pub record SameAnswers (ps : List Piece) (all : ℕ) (s s' : List ℕ) : Type 1 
   pub meshes' : List Standing
   pub meshes-moved : Pairwise (StandingMoved ps) meshes meshes'
   pub meshes-given : {A : Type 0} (e : Encoding Standing A) (row : List A) → length meshes ≤ e.room (length row) →
-      (meshes_call e s row ≡ leaving (Counted.Filled (length meshes)) (filled (e.encode meshes) row)) ×
-      (meshes_call e s' row ≡ leaving (Counted.Filled (length meshes)) (filled (e.encode meshes') row))
+      (meshes_call e s row ≡ leaving (Ok (length meshes)) (filled (e.encode meshes) row)) ×
+      (meshes_call e s' row ≡ leaving (Ok (length meshes)) (filled (e.encode meshes') row))
   pub meshes-refused : {A : Type 0} (e : Encoding Standing A) (row : List A) → e.room (length row) < length meshes →
-      (meshes_call e s row ≡ leaving (Counted.Refused (NoRoom (length meshes))) row) ×
-      (meshes_call e s' row ≡ leaving (Counted.Refused (NoRoom (length meshes))) row)
+      (meshes_call e s row ≡ leaving (Err (NoRoom (length meshes))) row) ×
+      (meshes_call e s' row ≡ leaving (Err (NoRoom (length meshes))) row)
   -- the same parts hang on the same ones
   pub parts_same : {A : Type 0} (e : Encoding Part A) (row : List A) → parts_call e s' row ≡ parts_call e s row
 

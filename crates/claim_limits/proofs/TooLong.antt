@@ -1,4 +1,5 @@
 -- Each call answers its verdict's refusal, and that is 1 exactly where the file is too long.
+use Rattle.std.specs.Prelude.{Err}
 use mathlib.Core.Path.{◌≡◌, refl, sym, ap, ◌∙◌}
 use mathlib.Core.Logic.{◌↔◌, ◌⊎◌, inl, inr}
 use mathlib.Core.Bool.{Bool, true, false, cond}
@@ -13,7 +14,6 @@ use Rattle.shared_words.specs.Conditions.{Answer, refused, accepted}
 use Rattle.shared_words.specs.Effects.{leaving, filled}
 use Rattle.shared_words.specs.Encodings.{Encoding}
 use Rattle.shared_words.specs.Refusals.{limit}
-use Rattle.studio_rules.specs.declared.Checked.{Checked}
 use Rattle.studio_rules.specs.Layout.{Run, size}
 use Rattle.studio_rules.specs.Walk.{walk, version_in, top, figure_at, verdict}
 use Rattle.studio_rules.specs.Calls.{check_of, check_call}
@@ -23,10 +23,8 @@ use Rattle.studio_rescue_rules.specs.Rescue.{version_of, scene, Cut, Rescued, be
 use Rattle.studio_rescue_rules.specs.Call.{Lent, call_of, rescue_call}
 use Rattle.studio_rescue_rules.specs.Theorems.{FaultInScene}
 use Rattle.studio_rescue_rules.proofs.First.{first-fault}
-use Rattle.cob_rules.specs.declared.Answered.{Answered}
 use Rattle.cob_rules.specs.Walk.{Verdict, walk as cob_walk, verdict as cob_verdict}
 use Rattle.cob_rules.specs.Calls.{check_of as cob_check_of, check_call as cob_check_call}
-use Rattle.c4d_rules.specs.declared.Found.{Found}
 use Rattle.c4d_rules.specs.Layout.{Layout}
 use Rattle.c4d_rules.specs.Rules.{start}
 use Rattle.c4d_rules.specs.Read.{walk as c4d_walk}
@@ -93,15 +91,15 @@ module _ {A : Type 0} (e : Encoding Cut A) (rows : Lent A) where
 
 -- ---- the calls
 
-checked : (a : Answer Run) → check_of a ≡ Checked.Refused TooLong → a ≡ refused TooLong
+checked : (a : Answer Run) → check_of a ≡ Err TooLong → a ≡ refused TooLong
 checked (refused r) h = let z : r ≡ TooLong = cc in ap refused z
 checked (accepted kids) h = let z : ◌≡◌ {A = ℕ} 0 1 = cc in absurd (omega arith)
 
-cob_checked : (a : Verdict) → cob_check_of a ≡ Answered.Refused TooLong → a ≡ refused TooLong
+cob_checked : (a : Verdict) → cob_check_of a ≡ Err TooLong → a ≡ refused TooLong
 cob_checked (refused r) h = let z : r ≡ TooLong = cc in ap refused z
 cob_checked (accepted l) h = let z : ◌≡◌ {A = ℕ} 0 1 = cc in absurd (omega arith)
 
-c4d_checked : (a : Answer Layout) → c4d_check_of a ≡ Found.Refused TooLong → a ≡ refused TooLong
+c4d_checked : (a : Answer Layout) → c4d_check_of a ≡ Err TooLong → a ≡ refused TooLong
 c4d_checked (refused r) h = let z : r ≡ TooLong = cc in ap refused z
 c4d_checked (accepted l) h = let z : ◌≡◌ {A = ℕ} 0 1 = cc in absurd (omega arith)
 

@@ -1,4 +1,6 @@
 -- What C is told of Caligari figures.
+use Rattle.shared_words.specs.declared.Refusal.{Refusal}
+use Rattle.std.specs.Prelude.{Result, Err}
 use mathlib.Core.List.{List}
 use mathlib.Core.Option.{Option, none, some}
 use Prim.Native.Nat.{ℕ, ◌≤◌}
@@ -12,7 +14,6 @@ use Rattle.shared_words.specs.Encodings.{Encoding}
 use Rattle.shared_words.specs.Refusals.{limit}
 use Rattle.shared_words.specs.Picked.{pick_mesh}
 use Rattle.shared_words.proofs.Bools.{by_test}
-use Rattle.cob_rules.specs.declared.Answered.{Answered}
 use Rattle.cob_rules.specs.declared.Record.{Record}
 use Rattle.cob_rules.specs.Walk.{Verdict, verdict}
 use Rattle.cob_rules.specs.Gives.{list, Mesh, meshes}
@@ -34,7 +35,7 @@ within s = and-accepted Few limit (verdict s) (verdict_to s) (few s)
 
 -- ---- the calls
 
-abbrev Told : {R : Type 0} → Effect Answered R → Type 0
+abbrev Told : {R : Type 0} → Effect (Result ℕ Refusal) R → Type 0
 Told x = CountTold x.answer (count_or x.answer)
 
 check_told : (v : Verdict) → AnswerTo limit Few v → CountTold (check_of v) (count_or (check_of v))
@@ -42,11 +43,11 @@ check_told (refused r) h = tells r h
 check_told (accepted l) h = omega (arith, h.records-few)
 
 give-told : {X : Type 0} (e : Encoding X ℕ) (xs : List X) (row : List ℕ) → length xs ≤ limit → Told (give e xs row)
-give-told e xs row l = by_test (λ (x : Effect Answered (List ℕ)). Told x) (leb (length xs) (e.room (length row))) (omega arith) (tells (NoRoom (length xs)) l)
+give-told e xs row l = by_test (λ (x : Effect (Result ℕ Refusal) (List ℕ)). Told x) (leb (length xs) (e.room (length row))) (omega arith) (tells (NoRoom (length xs)) l)
 
 tables-told : (e : Encoding ℕ ℕ) (rows : Rows) (m : Mesh) → Small limit m → Told (tables_of e rows m)
 tables-told e rows m h =
-    let T : Effect Answered Rows → Type 0 = λ x. Told x in
+    let T : Effect (Result ℕ Refusal) Rows → Type 0 = λ x. Told x in
     by_test T (leb (length m.vertices) (e.room (length rows.vertices)))
     (by_test T (leb (length m.corners) (e.room (length rows.corners))) (omega (arith, h.count)) (tells (NoRoom (length m.corners)) h.corners))
     (tells (NoRoom (length m.vertices)) h.vertices)
@@ -60,12 +61,12 @@ all_told e row (refused r) h = tells r h
 all_told e row (accepted l) h = give-told e (standing l) row (omega (arith, h.meshes-few, as_many l))
 
 -- the mesh that is asked for, or its number refused
-mesh-told : {R : Type 0} (rows : R) (use-it : Mesh → Effect Answered R) → ((m : Mesh) → Small limit m → Told (use-it m)) → (mesh : ℕ) (v : Verdict) → AnswerTo limit Few v →
-    Told (of_mesh (λ r. leaving (Answered.Refused r) rows) use-it mesh v)
+mesh-told : {R : Type 0} (rows : R) (use-it : Mesh → Effect (Result ℕ Refusal) R) → ((m : Mesh) → Small limit m → Told (use-it m)) → (mesh : ℕ) (v : Verdict) → AnswerTo limit Few v →
+    Told (of_mesh (λ r. leaving (Err r) rows) use-it mesh v)
 mesh-told rows use-it f mesh (refused r) h = tells r h
 mesh-told rows use-it f mesh (accepted l) h = go (get_elem? (meshes l) mesh) (picked (Small limit) (meshes l) mesh h.meshes_small)
   where
-    go : (o : Option Mesh) → Holds (Small limit) o → Told (pick_mesh (λ r. leaving (Answered.Refused r) rows) use-it (length (meshes l)) o)
+    go : (o : Option Mesh) → Holds (Small limit) o → Told (pick_mesh (λ r. leaving (Err r) rows) use-it (length (meshes l)) o)
     go none k = tells (NoSuchMesh (length (meshes l))) h.meshes-few
     go (some m) k = f m k
 

@@ -1,4 +1,5 @@
 -- What C is told of slips and of the sums in them.
+use Rattle.std.specs.Prelude.{Result}
 use mathlib.Core.Path.{refl}
 use mathlib.Core.Option.{Option, none, some}
 use mathlib.Core.Bool.{◌&&◌}
@@ -14,11 +15,8 @@ use Rattle.shared_words.specs.Effects.{Effect}
 use Rattle.shared_words.specs.Encodings.{Encoding}
 use Rattle.shared_words.proofs.Bools.{by_test}
 use Rattle.slip_sums.specs.declared.Sum.{Sum}
-use Rattle.slip_sums.specs.declared.Summed.{Summed}
-use Rattle.slip_sums.specs.declared.Matched.{Matched}
 use Rattle.slip_sums.specs.Passes.{sums_call, match_of}
 use Rattle.slip_rules.specs.declared.Numbers.{Numbers}
-use Rattle.slip_rules.specs.declared.Found.{Found}
 use Rattle.slip_rules.specs.Slip.{bytes}
 use Rattle.slip_rules.specs.Rules.{most_entries}
 use Rattle.slip_rules.specs.Walk.{Entries, verdict}
@@ -34,11 +32,11 @@ use Rattle.claim_numbers.proofs.SlipPlaces.{Few, most, verdict_to, written_to}
 -- ---- the sums, which are remainders modulo 255
 
 sums_told : (file : List ℕ) → SumsTold (sums_call file) (sums_or (sums_call file))
-sums_told file = by_test (λ (x : Summed). SumsTold x (sums_or x)) (ltb 1_048_576 (length file)) (tells TooLong (omega arith)) (omega arith)
+sums_told file = by_test (λ (x : Result Sum Refusal). SumsTold x (sums_or x)) (ltb 1_048_576 (length file)) (tells TooLong (omega arith)) (omega arith)
 
 match_told : (sum : Sum) (l first second : ℕ) → MatchTold (match_of sum l first second) (zero_or (match_of sum l first second))
 match_told sum l first second =
-    let T : Matched → Type 0 = λ x. MatchTold x (zero_or x) in
+    let T : Result Unit Refusal → Type 0 = λ x. MatchTold x (zero_or x) in
     by_test T (eqb sum.len l) (by_test T (eqb sum.first first && eqb sum.second second) refl (tells (Differs 1) (omega arith)))
     (tells (Differs 0) (omega arith))
 
@@ -48,7 +46,7 @@ read_told : (e : Encoding Numbers ℕ) (row : List ℕ) (a : Entries) → Answer
 read_told e row (refused r) h = tells r (omega arith)
 read_told e row (accepted es) h =
     let n = h.count in
-    by_test (λ (x : Effect Found (List ℕ)). EntriesTold x.answer (entries_or x.answer)) (leb (length es) (e.room (length row))) (omega arith)
+    by_test (λ (x : Effect (Result ℕ Refusal) (List ℕ)). EntriesTold x.answer (entries_or x.answer)) (leb (length es) (e.room (length row))) (omega arith)
     (tells (NoRoom (length es)) (omega arith))
 
 write-told : (new out : List ℕ) (r : Option Refusal) → Ends most (length new ≤ most) r → SizeTold (write_of new out r).answer (size_or (write_of new out r).answer)

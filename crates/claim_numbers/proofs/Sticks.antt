@@ -1,4 +1,6 @@
 -- What C is told of a stick, and of the evidence for a file.
+use Rattle.shared_words.specs.declared.Refusal.{Refusal}
+use Rattle.std.specs.Prelude.{Result, Ok, Err}
 use mathlib.Core.Path.{◌≡◌, refl}
 use mathlib.Core.Logic.{inl, inr}
 use mathlib.Core.List.{List}
@@ -6,7 +8,6 @@ use Prim.Native.Nat.{ℕ}
 use native.Mathlib.Omega.{arith}
 use lib.Dec.{eqb}
 use lib.ListN.{length}
-use Rattle.shared_words.specs.declared.Judged.{Judged}
 use Rattle.shared_words.specs.declared.Refusal.TheVariants.{NoRoom}
 use Rattle.shared_words.specs.Effects.{Effect}
 use Rattle.shared_words.proofs.Bools.{by_test}
@@ -16,9 +17,9 @@ use Rattle.c_stick.specs.Codes.{one_or}
 use Rattle.claim_numbers.specs.Sticks.{JudgedTold, EvidenceTold, SticksTold}
 use Rattle.claim_numbers.proofs.Tells.{tells, capped}
 
-judged-told : (j : Judged) → JudgedTold j (one_or j)
-judged-told Judged.Good = refl
-judged-told (Judged.Refused r) = capped r
+judged-told : (j : Result Unit Refusal) → JudgedTold j (one_or j)
+judged-told (Ok tt) = refl
+judged-told (Err r) = capped r
 
 item-told : (item item' : List ℕ) → EvidenceTold item (put_in_item item item')
 item-told item item' =

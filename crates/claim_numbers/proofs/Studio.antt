@@ -1,5 +1,9 @@
 -- What C is told of 3D Studio figures: the bounds on what is accepted make an answer proper, and those on places let a refusal be
 -- read off.
+use Rattle.studio_rules.specs.declared.Counts.{Counts}
+use Rattle.studio_rules.specs.declared.Sizes.{Sizes}
+use Rattle.studio_rules.specs.declared.Span.{Span}
+use Rattle.std.specs.Prelude.{Result, Ok, Err}
 use mathlib.Core.Path.{◌≡◌, refl, sym, subst}
 use mathlib.Core.Bool.{Bool, true, false, cond}
 use mathlib.Core.Logic.{inl, inr}
@@ -21,11 +25,7 @@ use Rattle.shared_words.specs.Encodings.{Encoding}
 use Rattle.shared_words.specs.Picked.{pick_mesh}
 use Rattle.shared_words.proofs.Conditions.{met}
 use Rattle.studio_rules.specs.declared.Record.{Record}
-use Rattle.studio_rules.specs.declared.Checked.{Checked}
-use Rattle.studio_rules.specs.declared.Tabled.{Tabled}
-use Rattle.studio_rules.specs.declared.Named.{Named}
 use Rattle.studio_rules.specs.declared.Boxed.{Boxed}
-use Rattle.studio_rules.specs.declared.Counted.{Counted}
 use Rattle.studio_rules.specs.Layout.{Run, figure, size, bytes}
 use Rattle.studio_figure_rules.specs.Built.{layout}
 use Rattle.studio_write_bytes.specs.Bare.{bare_bytes}
@@ -72,7 +72,7 @@ list-told : {A : Type 0} (e : Encoding Record A) (row : List A) (a : Answer Run)
     CheckTold (list_of e row a).answer (records_or (list_of e row a).answer)
 list-told e row (refused r) h = tells r h
 list-told {A} e row (accepted kids) h =
-    by_test (λ (x : Effect Checked (List A)). CheckTold x.answer (records_or x.answer)) (leb (record_count (figure kids)) (e.room (length row)))
+    by_test (λ (x : Effect (Result Counts Refusal) (List A)). CheckTold x.answer (records_or x.answer)) (leb (record_count (figure kids)) (e.room (length row)))
     (omega (arith, count_small (figure kids))) (tells (NoRoom (record_count (figure kids))) (omega (arith, count_small (figure kids))))
 
 -- ---- all parts, all meshes, and all boxes
@@ -81,7 +81,7 @@ all_told : {X A : Type 0} (things : Run → List X) (e : Encoding X A) (row : Li
     CountedTold (all_of things e row a).answer (counted_or (all_of things e row a).answer)
 all_told things e row few (refused r) h = tells r h
 all_told {X} {A} things e row few (accepted kids) h =
-    by_test (λ (x : Effect Counted (List A)). CountedTold x.answer (counted_or x.answer)) (leb (length (things kids)) (e.room (length row)))
+    by_test (λ (x : Effect (Result ℕ Refusal) (List A)). CountedTold x.answer (counted_or x.answer)) (leb (length (things kids)) (e.room (length row)))
     (omega (arith, few kids)) (tells (NoRoom (length (things kids))) (omega (arith, few kids)))
 
 -- ---- the rescue
@@ -112,13 +112,13 @@ small_mesh s b mesh kids v m e =
     rw e at all
 
 -- the tables, by a number that is proper where they are filled
-tables-told : {A B C : Type 0} (t : Tables A B C) (rows : Rows A B C) (code : Tabled → ℕ) → ((r : Refusal) → code (Tabled.Refused r) ≡ refusal_code r) → (m : Mesh) → Small m → Proper (code (Tabled.Filled (sizes_of m))) →
+tables-told : {A B C : Type 0} (t : Tables A B C) (rows : Rows A B C) (code : Result Sizes Refusal → ℕ) → ((r : Refusal) → code (Err r) ≡ refusal_code r) → (m : Mesh) → Small m → Proper (code (Ok (sizes_of m))) →
     TablesTold (tables_of t rows m).answer (code (tables_of t rows m).answer)
 tables-told {A} {B} {C} t rows code same m h proper =
     let v = h.vertex-numbers in
     let c = h.corner-numbers in
     let p = h.mapping_numbers_lem in
-    let T : Effect Tabled (Rows A B C) → Type 0 = λ x. TablesTold x.answer (code x.answer) in
+    let T : Effect (Result Sizes Refusal) (Rows A B C) → Type 0 = λ x. TablesTold x.answer (code x.answer) in
     by_test T (fits t.vertices m.vertices rows.vertices)
     (by_test T (fits t.corners m.corners rows.corners)
     (by_test T (fits t.mapping m.mapping rows.mapping)
@@ -180,20 +180,20 @@ studio_told = record {
   check = λ s. records-told (verdict s) (verdict-within s);
   list = λ e s row. list-told e row (verdict s) (verdict-within s);
   tables = λ {A} {B} {C} t s b mesh rows.
-      mesh-told (λ (x : Effect Tabled (Rows A B C)). TablesTold x.answer (sizes_or x.answer)) (λ r. leaving (Tabled.Refused r) rows) (tables_of t rows) tells mesh (verdict s) (verdict-within s)
+      mesh-told (λ (x : Effect (Result Sizes Refusal) (Rows A B C)). TablesTold x.answer (sizes_or x.answer)) (λ r. leaving (Err r) rows) (tables_of t rows) tells mesh (verdict s) (verdict-within s)
       (λ kids v m g. let h = small_mesh s b mesh kids v m g in tables-told t rows sizes_or (λ r. refl) m h (omega (arith, h.vertices, h.faces)));
   mapping = λ {A} {B} {C} t s b mesh rows.
-      mesh-told (λ (x : Effect Tabled (Rows A B C)). TablesTold x.answer (numbers_or x.answer)) (λ r. leaving (Tabled.Refused r) rows) (tables_of t rows) tells mesh (verdict s) (verdict-within s)
+      mesh-told (λ (x : Effect (Result Sizes Refusal) (Rows A B C)). TablesTold x.answer (numbers_or x.answer)) (λ r. leaving (Err r) rows) (tables_of t rows) tells mesh (verdict s) (verdict-within s)
       (λ kids v m g. let h = small_mesh s b mesh kids v m g in tables-told t rows numbers_or (λ r. refl) m h (omega (arith, h.pairs)));
   counts = λ s out. counts-told out (verdict s) (verdict-within s);
   name = λ s mesh out.
-      mesh-told (λ (x : Named). NameTold out x (name_given out x)) Named.Refused name_of (λ r h. (tells r h, refl)) mesh (verdict s) (verdict-within s)
+      mesh-told (λ (x : Result Span Refusal). NameTold out x (name_given out x)) Err name_of (λ r h. (tells r h, refl)) mesh (verdict s) (verdict-within s)
       (λ kids v m g. few-told out (m.name_at ∷ m.name_length ∷ []) (omega arith));
   box = λ s mesh out.
       mesh-told (λ (x : Boxed). BoxTold out x (box_given out x)) Boxed.Refused around_of (λ r h. (tells r h, refl)) mesh (verdict s) (verdict-within s)
       (λ kids v m g. box-told out m);
   parts = λ {A} e s row.
-      subst (λ (x : Effect Counted (List A)). CountedTold x.answer (counted_or x.answer)) (sym (all-parts e s row)) (all_told parts e row (λ kids. omega (arith, parts-few kids, count_small (figure kids))) (verdict s) (verdict-within s));
+      subst (λ (x : Effect (Result ℕ Refusal) (List A)). CountedTold x.answer (counted_or x.answer)) (sym (all-parts e s row)) (all_told parts e row (λ kids. omega (arith, parts-few kids, count_small (figure kids))) (verdict s) (verdict-within s));
   meshes = λ e s row. all_told standing e row (λ kids. standing-few 0 0 0 (figure kids)) (verdict s) (verdict-within s);
   boxes = λ e s row. all_told meshes e row meshes-few (verdict s) (verdict-within s);
   rescue = λ e s b rows. rescue-told e rows (rescue s) (rescue-within s b);

@@ -1,7 +1,7 @@
 -- What C is told of Caligari figures, whatever the bytes are.
-use Rattle.std.specs.Prelude.{List, ℕ}
+use Rattle.shared_words.specs.declared.Refusal.{Refusal}
+use Rattle.std.specs.Prelude.{List, ℕ, Result, Ok, Err}
 use Rattle.shared_words.specs.Encodings.{Encoding}
-use Rattle.cob_rules.specs.declared.Answered.{Answered}
 use Rattle.cob_rules.specs.declared.Record.{Record}
 use Rattle.cob_rules.specs.Calls.{check_call, list_call, sizes_call, Rows, tables_call}
 use Rattle.cob_meshes_rules.specs.Standing.{Standing}
@@ -9,9 +9,9 @@ use Rattle.cob_meshes_rules.specs.Calls.{meshes_call}
 use Rattle.c_cob.specs.Codes.{count_or}
 use Rattle.claim_numbers.specs.Tells.{Proper, Tells}
 
-abbrev pub CountTold : Answered → ℕ → Type 0
-CountTold (Answered.Count count) n = Proper n
-CountTold (Answered.Refused r) n = Tells r n
+abbrev pub CountTold : Result ℕ Refusal → ℕ → Type 0
+CountTold (Ok count) n = Proper n
+CountTold (Err r) n = Tells r n
 
 pub record CaligariTold : Type 0 where
   pub check : (s : List ℕ) → CountTold (check_call s) (count_or (check_call s))

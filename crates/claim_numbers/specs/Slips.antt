@@ -1,13 +1,10 @@
 -- What C is told of slips and of the sums in them, whatever the bytes and the numbers are.
-use Rattle.std.specs.Prelude.{◌≡◌, List, ℕ}
-use Rattle.shared_words.specs.declared.Written.{Written}
+use Rattle.shared_words.specs.declared.Refusal.{Refusal}
+use Rattle.std.specs.Prelude.{◌≡◌, List, ℕ, Result, Ok, Err}
 use Rattle.shared_words.specs.Encodings.{Encoding}
 use Rattle.slip_sums.specs.declared.Sum.{Sum}
-use Rattle.slip_sums.specs.declared.Summed.{Summed}
-use Rattle.slip_sums.specs.declared.Matched.{Matched}
 use Rattle.slip_sums.specs.Passes.{sums_call, match_of}
 use Rattle.slip_rules.specs.declared.Numbers.{Numbers}
-use Rattle.slip_rules.specs.declared.Found.{Found}
 use Rattle.slip_rules.specs.Calls.{slip_read_call, Given, slip_write_call}
 use Rattle.c_codes.specs.Codes.{size_or}
 use Rattle.c_sums.specs.Numbers.{sums_or, zero_or}
@@ -16,21 +13,21 @@ use Rattle.claim_numbers.specs.Tells.{Proper, Tells}
 
 -- ---- by the answer of the call
 
-abbrev pub SumsTold : Summed → ℕ → Type 0
-SumsTold (Summed.Sums sums) n = Proper n
-SumsTold (Summed.Refused r) n = Tells r n
+abbrev pub SumsTold : Result Sum Refusal → ℕ → Type 0
+SumsTold (Ok sums) n = Proper n
+SumsTold (Err r) n = Tells r n
 
-abbrev pub MatchTold : Matched → ℕ → Type 0
-MatchTold Matched.Same n = n ≡ 0
-MatchTold (Matched.Refused r) n = Tells r n
+abbrev pub MatchTold : Result Unit Refusal → ℕ → Type 0
+MatchTold (Ok tt) n = n ≡ 0
+MatchTold (Err r) n = Tells r n
 
-abbrev pub EntriesTold : Found → ℕ → Type 0
-EntriesTold (Found.Entries count) n = Proper n
-EntriesTold (Found.Refused r) n = Tells r n
+abbrev pub EntriesTold : Result ℕ Refusal → ℕ → Type 0
+EntriesTold (Ok count) n = Proper n
+EntriesTold (Err r) n = Tells r n
 
-abbrev pub SizeTold : Written → ℕ → Type 0
-SizeTold (Written.Size size) n = Proper n
-SizeTold (Written.Refused r) n = Tells r n
+abbrev pub SizeTold : Result ℕ Refusal → ℕ → Type 0
+SizeTold (Ok size) n = Proper n
+SizeTold (Err r) n = Tells r n
 
 -- ---- every call; a file or all its parts together against an entry are one definition
 

@@ -1,6 +1,6 @@
 -- What C is told of a stick, whatever the slip, the names and the items are; and of the evidence for a file, whatever its bytes are.
-use Rattle.std.specs.Prelude.{◌≡◌, ◌⊎◌, List, ℕ}
-use Rattle.shared_words.specs.declared.Judged.{Judged}
+use Rattle.shared_words.specs.declared.Refusal.{Refusal}
+use Rattle.std.specs.Prelude.{◌≡◌, ◌⊎◌, List, ℕ, Result, Ok, Err}
 use Rattle.shared_words.specs.declared.Refusal.TheVariants.{NoRoom}
 use Rattle.shared_words.specs.Effects.{Effect}
 use Rattle.stick_rules.specs.Records.{record_size, judge_call}
@@ -10,9 +10,9 @@ use Rattle.claim_numbers.specs.Tells.{Tells, TellsCapped}
 
 -- ---- by the answer of the call
 
-abbrev pub JudgedTold : Judged → ℕ → Type 0
-JudgedTold Judged.Good n = n ≡ 1
-JudgedTold (Judged.Refused r) n = TellsCapped r n
+abbrev pub JudgedTold : Result Unit Refusal → ℕ → Type 0
+JudgedTold (Ok tt) n = n ≡ 1
+JudgedTold (Err r) n = TellsCapped r n
 
 -- 0; or that an item has another length, and what was lent is as it was
 abbrev pub EvidenceTold : List ℕ → Effect ℕ (List ℕ) → Type 0

@@ -1,23 +1,21 @@
 -- What C is told of 3D Studio figures, and what stands in the slices of those calls that give out a few numbers. Nothing is asked of the file, but for the tables and the rescue that it is bytes. Only the
 -- writers can have a place of more than 32 bits, which is told as the largest.
-use Rattle.std.specs.Prelude.{◌≡◌, ◌⊎◌, List, [], ◌∷◌, ℕ, ◌/◌, ◌≤◌, ◌<◌, Float, length}
+use Rattle.studio_rules.specs.declared.Counts.{Counts}
+use Rattle.studio_rules.specs.declared.Sizes.{Sizes}
+use Rattle.studio_rules.specs.declared.Span.{Span}
+use Rattle.std.specs.Prelude.{◌≡◌, ◌⊎◌, List, [], ◌∷◌, ℕ, ◌/◌, ◌≤◌, ◌<◌, Float, length, Result, Ok, Err}
 use Rattle.shared_words.specs.declared.Refusal.{Refusal}
 use Rattle.shared_words.specs.declared.Refusal.TheVariants.{NoRoom}
 use Rattle.shared_words.specs.Bytes.{Bytes, packed}
 use Rattle.shared_words.specs.Effects.{Effect, leaving, filled}
 use Rattle.shared_words.specs.Encodings.{Encoding}
 use Rattle.studio_rules.specs.declared.Record.{Record}
-use Rattle.studio_rules.specs.declared.Checked.{Checked}
-use Rattle.studio_rules.specs.declared.Tabled.{Tabled}
-use Rattle.studio_rules.specs.declared.Named.{Named}
 use Rattle.studio_rules.specs.declared.Boxed.{Boxed}
-use Rattle.studio_rules.specs.declared.Counted.{Counted}
 use Rattle.studio_rules.specs.Gives.{Mesh, Part}
 use Rattle.studio_rules.specs.Calls.{check_call, list_call, Rows, Tables, tables_call, name_call, box_call, parts_call}
 use Rattle.studio_meshes_rules.specs.Standing.{Standing}
 use Rattle.studio_meshes_rules.specs.Calls.{meshes_call}
 use Rattle.studio_meshes_rules.specs.Boxes.{nine, boxes_call}
-use Rattle.shared_words.specs.declared.Written.{Written}
 use Rattle.studio_figure_rules.specs.Described.{Flat, write_flat}
 use Rattle.studio_write.specs.Write.{write_call}
 use Rattle.c_codes.specs.Codes.{records_or, sizes_or, numbers_or, size_or}
@@ -31,21 +29,21 @@ use Rattle.claim_numbers.specs.Tells.{Proper, Tells, TellsCapped}
 
 -- ---- by the answer of the call
 
-abbrev pub CheckTold : Checked → ℕ → Type 0
-CheckTold (Checked.Accepted c) n = Proper n
-CheckTold (Checked.Refused r) n = Tells r n
+abbrev pub CheckTold : Result Counts Refusal → ℕ → Type 0
+CheckTold (Ok c) n = Proper n
+CheckTold (Err r) n = Tells r n
 
-abbrev pub TablesTold : Tabled → ℕ → Type 0
-TablesTold (Tabled.Filled sizes) n = Proper n
-TablesTold (Tabled.Refused r) n = Tells r n
+abbrev pub TablesTold : Result Sizes Refusal → ℕ → Type 0
+TablesTold (Ok sizes) n = Proper n
+TablesTold (Err r) n = Tells r n
 
-abbrev pub CountedTold : Counted → ℕ → Type 0
-CountedTold (Counted.Filled count) n = Proper n
-CountedTold (Counted.Refused r) n = Tells r n
+abbrev pub CountedTold : Result ℕ Refusal → ℕ → Type 0
+CountedTold (Ok count) n = Proper n
+CountedTold (Err r) n = Tells r n
 
-abbrev pub WriteTold : Written → ℕ → Type 0
-WriteTold (Written.Size size) n = Proper n
-WriteTold (Written.Refused r) n = TellsCapped r n
+abbrev pub WriteTold : Result ℕ Refusal → ℕ → Type 0
+WriteTold (Ok size) n = Proper n
+WriteTold (Err r) n = TellsCapped r n
 
 abbrev pub RescueTold : Mended → ℕ → Type 0
 RescueTold (Mended.Written cuts size) n = Proper n
@@ -63,13 +61,13 @@ GivenOn out ns e =
     ((length ns ≤ length out / 4) × (e ≡ leaving (length ns) (filled (packed 4 ns) out))) ⊎
     ((length out / 4 < length ns) × ToldOn out (NoRoom (length ns)) e)
 
-abbrev pub CountsTold : List ℕ → Checked → Effect ℕ (List ℕ) → Type 0
-CountsTold out (Checked.Accepted c) e = GivenOn out (c.headers ∷ c.own ∷ c.skipped ∷ []) e
-CountsTold out (Checked.Refused r) e = ToldOn out r e
+abbrev pub CountsTold : List ℕ → Result Counts Refusal → Effect ℕ (List ℕ) → Type 0
+CountsTold out (Ok c) e = GivenOn out (c.headers ∷ c.own ∷ c.skipped ∷ []) e
+CountsTold out (Err r) e = ToldOn out r e
 
-abbrev pub NameTold : List ℕ → Named → Effect ℕ (List ℕ) → Type 0
-NameTold out (Named.At span) e = GivenOn out (span.offset ∷ span.size ∷ []) e
-NameTold out (Named.Refused r) e = ToldOn out r e
+abbrev pub NameTold : List ℕ → Result Span Refusal → Effect ℕ (List ℕ) → Type 0
+NameTold out (Ok span) e = GivenOn out (span.offset ∷ span.size ∷ []) e
+NameTold out (Err r) e = ToldOn out r e
 
 abbrev pub BoxTold : List ℕ → Boxed → Effect ℕ (List ℕ) → Type 0
 BoxTold out (Boxed.Around box centre) e = GivenOn out (nine box centre) e

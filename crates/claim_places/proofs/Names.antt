@@ -1,4 +1,5 @@
 -- Every 4100 stands in a 4000, whose own data is a name with its zero: so the meshes of a layout that stands in a file have their names there.
+use Rattle.std.specs.Prelude.{Ok, Err}
 use mathlib.Core.Path.{◌≡◌, refl, sym, ap, subst, ◌∙◌}
 use mathlib.Core.Bool.{Bool, true, false, cond, ◌||◌}
 use mathlib.Core.List.{List, [], ◌∷◌, ◌++◌, append-nil}
@@ -16,7 +17,6 @@ use Rattle.shared_words.specs.Lists.{All, among}
 use Rattle.shared_words.specs.Picked.{pick_mesh}
 use Rattle.shared_words.proofs.Lists.{all_append}
 use Rattle.studio_rules.specs.declared.Span.{Span}
-use Rattle.studio_rules.specs.declared.Named.{Named}
 use Rattle.studio_rules.specs.Table.{rows, under, shape, name}
 use Rattle.studio_rules.specs.OwnData.{name_size, own_size, text}
 use Rattle.studio_rules.specs.Layout.{Run, end, skip, known, figure, size, bytes}
@@ -27,6 +27,7 @@ use Rattle.studio_rules.specs.Calls.{of_mesh, name_of, name_call}
 use Rattle.studio_rules.proofs.Verdict.{accepted_exactly}
 use Rattle.studio_figure_rules.proofs.Stands.{Stands, skip-stands, own_stands, kids_stand, rest-stands}
 use Rattle.claim_places.specs.Names.{NameStands, NamesPoint}
+use Rattle.claim_demands.proofs.Refused.{never-ok, same_ok}
 
 -- ---- the table
 
@@ -145,14 +146,8 @@ mesh-found {Z} s b refuse use-it k z never h = go (verdict s) refl h
 pub names-point : NamesPoint
 unfolding name_call
 names-point s b mesh span h =
-    let f = mesh-found s b Named.Refused name_of mesh (Named.At span) never h in
+    let f = mesh-found s b Err name_of mesh (Ok span) (never-ok span) h in
     let m = f.2 in
     let there = picked (Named-there s) (meshes f.0) mesh m.0 (all_named s f.0 f.1) m.1 in
-    let e : record { offset = m.0.name_at; size = m.0.name_length } ≡ span = same m.2 in
+    let e : record { offset = m.0.name_at; size = m.0.name_length } ≡ span = sym (same_ok m.2) in
     subst (λ (x : Span). NameStands s x.offset x.size) e there
-  where
-    never : (r : Refusal) → Named.Refused r ≡ Named.At span → ⊥
-    never r e = let z : ◌≡◌ {A = ℕ} 0 1 = cc in omega arith
-
-    same : {x : Span} → Named.At x ≡ Named.At span → x ≡ span
-    same e = cc

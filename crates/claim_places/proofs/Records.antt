@@ -1,4 +1,6 @@
 -- The records of a layout that stands in a file point at its chunks.
+use Rattle.shared_words.specs.declared.Refusal.{Refusal}
+use Rattle.std.specs.Prelude.{Result, Ok}
 use mathlib.Core.Path.{◌≡◌, sym, ap, subst, ◌∙◌}
 use mathlib.Core.List.{List, [], ◌++◌, append-nil}
 use Prim.Native.Nat.{ℕ, suc, ◌+◌}
@@ -12,7 +14,6 @@ use Rattle.shared_words.specs.Lists.{All}
 use Rattle.shared_words.proofs.Lists.{all_append}
 use Rattle.studio_rules.specs.declared.Record.{Record}
 use Rattle.studio_rules.specs.declared.Counts.{Counts}
-use Rattle.studio_rules.specs.declared.Checked.{Checked}
 use Rattle.studio_rules.specs.Layout.{Run, end, skip, known, figure, size, bytes}
 use Rattle.studio_rules.specs.Gives.{record_count, records_of, list}
 use Rattle.studio_rules.specs.Rules.{Meets}
@@ -43,7 +44,7 @@ pub all-point : (kids : Run) → All (PointsAtChunk (bytes (figure kids))) (list
 all-point kids = records-point (bytes (figure kids)) 0 0 0 0 (figure kids) [] (sym (append-nil (bytes (figure kids))))
 
 -- what the call leaves in a table is the list
-pub listed-is : (s : List ℕ) → Bytes s → (table : List Record) (counts : Counts) → (list_call plain_row s table).answer ≡ Checked.Accepted counts →
+pub listed-is : (s : List ℕ) → Bytes s → (table : List Record) (counts : Counts) → (list_call plain_row s table).answer ≡ Ok counts →
     (kids : Run) × Meets s kids × (counts ≡ counts_of kids) × (take counts.records (list_call plain_row s table).rows ≡ list kids)
 listed-is s b table counts h =
     let d = (demand2.listed plain_row s b table counts).0 h in
@@ -52,7 +53,7 @@ listed-is s b table counts h =
       kids,
       d.1,
       d.2,
-      ap (λ (e : Effect Checked (List Record)). take counts.records e.rows) ((demand2.given s kids d.1).list-is plain_row table d.3) ∙
+      ap (λ (e : Effect (Result Counts Refusal) (List Record)). take counts.records e.rows) ((demand2.given s kids d.1).list-is plain_row table d.3) ∙
           take_at (list kids) (drop (length (list kids)) table) counts.records (sym n),
     )
 

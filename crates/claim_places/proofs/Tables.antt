@@ -1,4 +1,7 @@
 -- The meshes of every call are those that stand in the file, and what is read there is what the tables hold.
+use Rattle.studio_rules.specs.declared.Sizes.{Sizes}
+use Rattle.shared_words.specs.declared.Refusal.{Refusal}
+use Rattle.std.specs.Prelude.{Result}
 use mathlib.Core.Path.{◌≡◌, refl, sym, ap, subst, ◌∙◌}
 use mathlib.Core.List.{List, [], ◌∷◌, map}
 use mathlib.Core.Option.{some}
@@ -10,7 +13,6 @@ use Rattle.shared_words.specs.Bytes.{numbers}
 use Rattle.shared_words.specs.Effects.{Effect}
 use Rattle.shared_words.specs.Floats.{float, finite}
 use Rattle.shared_words.specs.Lists.{every}
-use Rattle.studio_rules.specs.declared.Tabled.{Tabled}
 use Rattle.studio_rules.specs.Layout.{Run}
 use Rattle.studio_rules.specs.Gives.{Mesh, meshes}
 use Rattle.studio_rules.specs.Calls.{Rows, sizes_of, rows_with}
@@ -46,7 +48,7 @@ tables-point A B C t s b number rows sizes h =
       mesh = here;
       mesh-is = x.1;
       sizes_are = m.2 ∙ ap sizes_of (sym x.2);
-      rows_are = ap (λ (e : Effect Tabled (Rows A B C)). e.rows) ((demand2.given s kids d.1).tables_are t number m.0 m.1 rows m.3) ∙ ap (rows_with t rows) (sym x.2);
+      rows_are = ap (λ (e : Effect (Result Sizes Refusal) (Rows A B C)). e.rows) ((demand2.given s kids d.1).tables_are t number m.0 m.1 rows m.3) ∙ ap (rows_with t rows) (sym x.2);
       in_place = read;
       bit_for_bit = subst (λ (l : List ℕ). map (to_bits binary32) (map float l) ≡ l) (sym read.vertices) bits;
     }

@@ -1,11 +1,10 @@
 -- A RECORD OF THE LIST POINTS AT ITS CHUNK: at its offset stand its identifier and its length.
-use Rattle.std.specs.Prelude.{◌≡◌, List, ℕ, ◌+◌, ◌≤◌, length, take, drop}
+use Rattle.std.specs.Prelude.{◌≡◌, List, ℕ, ◌+◌, ◌≤◌, length, take, drop, Ok}
 use Rattle.shared_words.specs.Bytes.{Bytes}
 use Rattle.shared_words.specs.Lists.{All}
 use Rattle.shared_words.specs.Encodings.{plain_row}
 use Rattle.studio_rules.specs.declared.Record.{Record}
 use Rattle.studio_rules.specs.declared.Counts.{Counts}
-use Rattle.studio_rules.specs.declared.Checked.{Checked}
 use Rattle.studio_rules.specs.Layout.{header}
 use Rattle.studio_rules.specs.Calls.{list_call}
 
@@ -17,5 +16,5 @@ pub record PointsAtChunk (s : List ℕ) (r : Record) : Type 0 where
 
 -- of every record that a call leaves in a table
 abbrev pub RecordsPoint : Type 0
-RecordsPoint = (s : List ℕ) → Bytes s → (table : List Record) (counts : Counts) → (list_call plain_row s table).answer ≡ Checked.Accepted counts →
+RecordsPoint = (s : List ℕ) → Bytes s → (table : List Record) (counts : Counts) → (list_call plain_row s table).answer ≡ Ok counts →
     All (PointsAtChunk s) (take counts.records (list_call plain_row s table).rows)

@@ -1,5 +1,5 @@
 -- THE TABLES OF A MESH HOLD WHAT STANDS IN THE FILE: of every mesh whose tables a call has filled, in whatever rows.
-use Rattle.std.specs.Prelude.{◌≡◌, List, map, ℕ}
+use Rattle.std.specs.Prelude.{◌≡◌, List, map, ℕ, Ok}
 use Rattle.std.proofs.Math.Option.{some}
 use Rattle.std.specs.Float.{binary32}
 use Rattle.std.specs.Float.Ieee.{to_bits}
@@ -7,7 +7,6 @@ use Rattle.std.proofs.Math.ListN.{get_elem?}
 use Rattle.shared_words.specs.Bytes.{Bytes}
 use Rattle.shared_words.specs.Floats.{float}
 use Rattle.studio_rules.specs.declared.Sizes.{Sizes}
-use Rattle.studio_rules.specs.declared.Tabled.{Tabled}
 use Rattle.studio_rules.specs.Layout.{Run}
 use Rattle.studio_rules.specs.Rules.{Meets}
 use Rattle.studio_rules.specs.Calls.{Rows, Tables, sizes_of, rows_with, tables_call}
@@ -29,4 +28,4 @@ pub record TablesOfMesh {A B C : Type 0} (t : Tables A B C) (s : List ℕ) (numb
 
 abbrev pub TablesPoint : Type 1
 TablesPoint = (A B C : Type 0) (t : Tables A B C) (s : List ℕ) → Bytes s → (number : ℕ) (rows : Rows A B C) (sizes : Sizes) →
-    (tables_call t s number rows).answer ≡ Tabled.Filled sizes → TablesOfMesh t s number rows sizes
+    (tables_call t s number rows).answer ≡ Ok sizes → TablesOfMesh t s number rows sizes

@@ -1,4 +1,5 @@
 -- The call is a fold of the rescue's answer: what is proved of the rescue holds of the line that was taken.
+use Rattle.std.specs.Prelude.{Ok, Err}
 use mathlib.Core.Path.{◌≡◌, refl, sym, ap, ◌∙◌}
 use mathlib.Core.Logic.{◌⊎◌, inl, inr}
 use mathlib.Core.Bool.{Bool, true, false}
@@ -16,7 +17,6 @@ use Rattle.shared_words.specs.Conditions.{Answer, refused, accepted}
 use Rattle.shared_words.specs.Effects.{leaving, filled}
 use Rattle.shared_words.specs.Encodings.{Encoding}
 use Rattle.studio_rules.specs.declared.Counts.{Counts}
-use Rattle.studio_rules.specs.declared.Checked.{Checked}
 use Rattle.studio_rules.specs.Layout.{Run, offset_of}
 use Rattle.studio_rules.specs.Walk.{verdict}
 use Rattle.studio_rules.specs.Calls.{counts_of, check_of, check_call}
@@ -30,11 +30,11 @@ use Rattle.claim_rescue.specs.Mends.{Mends, GoesOn, RescueOfCall}
 
 -- ---- the check's answer is the verdict's
 
-was-accepted : (a : Answer Run) (counts : Counts) → check_of a ≡ Checked.Accepted counts → (kids : Run) × (a ≡ accepted kids)
+was-accepted : (a : Answer Run) (counts : Counts) → check_of a ≡ Ok counts → (kids : Run) × (a ≡ accepted kids)
 was-accepted (refused r) counts e = let z : ◌≡◌ {A = ℕ} 0 1 = cc in absurd (omega arith)
 was-accepted (accepted kids) counts e = (kids, refl)
 
-was-refused : (a : Answer Run) (r : Refusal) → check_of a ≡ Checked.Refused r → a ≡ refused r
+was-refused : (a : Answer Run) (r : Refusal) → check_of a ≡ Err r → a ≡ refused r
 was-refused (refused q) r e = cc
 was-refused (accepted kids) r e = let z : ◌≡◌ {A = ℕ} 0 1 = cc in absurd (omega arith)
 

@@ -1,6 +1,6 @@
 -- Q-10 OF THE CALL: what stands in the lent rows after `rescue_call`, however the cuts stand there. (The theorems of crate
 -- studio_rescue_rules speak of `rescue`; these speak of what the caller sees.)
-use Rattle.std.specs.Prelude.{◌≡◌, ◌⊎◌, List, [], ◌∷◌, ℕ, ◌+◌, ◌≤◌, length, take, drop}
+use Rattle.std.specs.Prelude.{◌≡◌, ◌⊎◌, List, [], ◌∷◌, ℕ, ◌+◌, ◌≤◌, length, take, drop, Ok, Err}
 use Rattle.shared_words.specs.declared.Refusal.{Refusal}
 use Rattle.shared_words.specs.Bytes.{Bytes}
 use Rattle.shared_words.specs.Conditions.{refused}
@@ -8,7 +8,6 @@ use Rattle.shared_words.specs.Lists.{All}
 use Rattle.shared_words.specs.Effects.{leaving, filled}
 use Rattle.shared_words.specs.Encodings.{Encoding}
 use Rattle.studio_rules.specs.declared.Counts.{Counts}
-use Rattle.studio_rules.specs.declared.Checked.{Checked}
 use Rattle.studio_rules.specs.Layout.{size}
 use Rattle.studio_rules.specs.Walk.{length_field, walk, top}
 use Rattle.studio_rules.specs.Calls.{check_call}
@@ -30,7 +29,7 @@ pub record Mends {A : Type 0} (e : Encoding Cut A) (s : List ℕ) (rows : Lent A
   pub file-read : take bytes (rescue_call e s rows).rows.out ≡ file
   -- THE RESULT IS ACCEPTED
   pub counts : Counts
-  pub accepted : check_call file ≡ Checked.Accepted counts
+  pub accepted : check_call file ≡ Ok counts
   -- PUTTING THE CUTS BACK, with the old lengths, gives the damaged file: `scene-at` is where 3D3D stands in both
   pub scene-at : ℕ
   pub restored : Restored s file cuts scene-at
@@ -51,8 +50,8 @@ pub record RescueOfCall : Type 1 where
   pub mends : {A : Type 0} (e : Encoding Cut A) (s : List ℕ) → Bytes s → (rows : Lent A) (count bytes : ℕ) →
       (rescue_call e s rows).answer ≡ Mended.Written count bytes → Mends e s rows count bytes
   -- AN ACCEPTED FILE COMES BACK UNCHANGED, with no cuts
-  pub unchanged : {A : Type 0} (e : Encoding Cut A) (s : List ℕ) → Bytes s → (rows : Lent A) (counts : Counts) → check_call s ≡ Checked.Accepted counts → length s ≤ length rows.out →
+  pub unchanged : {A : Type 0} (e : Encoding Cut A) (s : List ℕ) → Bytes s → (rows : Lent A) (counts : Counts) → check_call s ≡ Ok counts → length s ≤ length rows.out →
       rescue_call e s rows ≡ leaving (Mended.Written 0 (length s)) record { cuts = filled (e.encode []) rows.cuts; out = filled s rows.out }
   -- THE FIRST FAULT outside 3D3D's children is answered with its own number, and the rows are as they were
-  pub first-fault : {A : Type 0} (e : Encoding Cut A) (s : List ℕ) → Bytes s → (rows : Lent A) (r : Refusal) → check_call s ≡ Checked.Refused r →
+  pub first-fault : {A : Type 0} (e : Encoding Cut A) (s : List ℕ) → Bytes s → (rows : Lent A) (r : Refusal) → check_call s ≡ Err r →
       (rescue_call e s rows ≡ leaving (Mended.Refused r) rows) ⊎ GoesOn e s rows r

@@ -1,5 +1,7 @@
 -- An entry from its making to its comparison. The reader's row holds the numbers of the slip's entries, which written again with the slip
 -- itself as the names are the same slip: so they stand for the entries that were written.
+use Rattle.shared_words.specs.declared.Refusal.{Refusal}
+use Rattle.std.specs.Prelude.{Result, Ok, Err}
 use mathlib.Core.Path.{◌≡◌, refl, sym, ap, subst, ◌∙◌}
 use mathlib.Core.Bool.{Bool, true, false, cond}
 use mathlib.Core.List.{List, [], ◌∷◌, ◌++◌}
@@ -11,7 +13,6 @@ use lib.ListN.{length, take, drop, get_elem?}
 use lib.Seq.{take_at}
 use borrow.Author.Tests.{leb-true, ltb-false}
 use Rattle.shared_words.specs.declared.Refusal.TheVariants.{TooLong}
-use Rattle.shared_words.specs.declared.Written.{Written}
 use Rattle.shared_words.specs.Bytes.{le, be, packed, Bytes}
 use Rattle.shared_words.specs.Conditions.{accepted}
 use Rattle.shared_words.specs.Effects.{Effect}
@@ -19,11 +20,9 @@ use Rattle.shared_words.specs.Lists.{All}
 use Rattle.shared_words.proofs.Bools.{and_parts}
 use Rattle.shared_words.proofs.Bytes.{value-le, bytes_le, bytes_append, bytes_take, bytes_drop}
 use Rattle.slip_sums.specs.declared.Sum.{Sum}
-use Rattle.slip_sums.specs.declared.Summed.{Summed}
 use Rattle.slip_sums.specs.Fletcher.{sum_of}
 use Rattle.slip_sums.specs.Passes.{match_of}
 use Rattle.slip_rules.specs.declared.Numbers.{Numbers}
-use Rattle.slip_rules.specs.declared.Found.{Found}
 use Rattle.slip_rules.specs.Slip.{Entry, sum_bytes, behind_name, entry_bytes, all_bytes, rest, bytes}
 use Rattle.slip_rules.specs.Rules.{remember, AllLawful, Meets}
 use Rattle.slip_rules.specs.Walk.{behind, verdict}
@@ -70,9 +69,9 @@ own_entries s b es v =
     let f = m.few in
     let g : given_bytes (packed 4 (flat ns)) ≡ whole ns = given_back ns (all_small es [] 7 m.lawful (omega arith)) in
     let w = writes_back s b es v s (omega arith) in
-    let r = reads-back s (packed 4 (flat ns)) s (bytes_packed 4 (flat ns)) (length s) (ap (λ (x : Effect Written (List ℕ)). x.answer) w) in
+    let r = reads-back s (packed 4 (flat ns)) s (bytes_packed 4 (flat ns)) (length s) (ap (λ (x : Effect (Result ℕ Refusal) (List ℕ)). x.answer) w) in
     let back : verdict (take (length s) (s ++ drop (length s) s)) ≡ accepted (entries_from s (given_bytes (packed 4 (flat ns))).rows) =
-    subst (λ (x : Effect Written (List ℕ)). verdict (take (length s) x.rows) ≡ accepted (entries_from s (given_bytes (packed 4 (flat ns))).rows)) w r in
+    subst (λ (x : Effect (Result ℕ Refusal) (List ℕ)). verdict (take (length s) x.rows) ≡ accepted (entries_from s (given_bytes (packed 4 (flat ns))).rows)) w r in
     let front : take (length s) (s ++ drop (length s) s) ≡ s = take_at s (drop (length s) s) (length s) refl in
     let there : verdict s ≡ accepted (entries_from s (whole ns).rows) = ap verdict (sym front) ∙ back ∙ ap (λ (x : Given). accepted (entries_from s x.rows)) g in
     let same : accepted (entries_from s ns) ≡ accepted es = sym there ∙ v in
@@ -133,7 +132,7 @@ module _ (names entries out row : List ℕ) (bn : Bytes names) (be' : Bytes entr
 
   slip-is : slip ≡ bytes es
   slip-is =
-      ap (λ (x : Effect Written (List ℕ)). take w.size x.rows) (slips_exactly.laid-down names entries out can) ∙
+      ap (λ (x : Effect (Result ℕ Refusal) (List ℕ)). take w.size x.rows) (slips_exactly.laid-down names entries out can) ∙
       take_at (bytes es) (drop (length (bytes es)) out) w.size (sym ((slips_exactly.write names entries out be' w.size).0 w.written).1)
 
   slip-read : verdict slip ≡ accepted es
@@ -163,7 +162,7 @@ module _ (names entries out row : List ℕ) (bn : Bytes names) (be' : Bytes entr
       let c : w.count ≡ length ns = many.0 ∙ sym (all-counted 7 es) in
       let r = slips_exactly.given byte_row slip es slip-meets row (omega (arith, many.1)) in
       ap (λ (x : ℕ). rows_in x (slip_read_call byte_row slip row).rows) c ∙
-      ap (λ (x : Effect Found (List ℕ)). rows_in (length ns) x.rows) r ∙
+      ap (λ (x : Effect (Result ℕ Refusal) (List ℕ)). rows_in (length ns) x.rows) r ∙
       rows-front ns (drop (length (packed 4 (flat ns))) row) (all_small es [] 7 slip-meets.lawful (omega arith))
 
   entry-same : entry_from slip found ≡ entry_from names given
@@ -184,8 +183,8 @@ module _ (names entries out row : List ℕ) (bn : Bytes names) (be' : Bytes entr
     sums_are : given.sums ≡ (sum_of original).first + 256 * (sum_of original).second
     sums_are = m.sums_are ∙ made (ltb 1_048_576 (length original)) m.made
       where
-        made : (t : Bool) → cond t (Summed.Refused TooLong) (Summed.Sums (sum_of original)) ≡ Summed.Sums m.sums →
-            sums_or (cond t (Summed.Refused TooLong) (Summed.Sums (sum_of original))) ≡ (sum_of original).first + 256 * (sum_of original).second
+        made : (t : Bool) → cond t (Err TooLong) (Ok (sum_of original)) ≡ Ok m.sums →
+            sums_or (cond t (Err TooLong) (Ok (sum_of original))) ≡ (sum_of original).first + 256 * (sum_of original).second
         made true h = let z : ◌≡◌ {A = ℕ} 0 1 = cc in absurd (omega arith)
         made false h = refl
 
@@ -210,7 +209,7 @@ module _ (names entries out row : List ℕ) (bn : Bytes names) (be' : Bytes entr
         file_small : found.file < 2 ^ 32
         file_small = omega (arith, length-same, made-short (ltb 1_048_576 (length original)) refl m.made)
           where
-            made-short : (t : Bool) → ltb 1_048_576 (length original) ≡ t → cond t (Summed.Refused TooLong) (Summed.Sums (sum_of original)) ≡ Summed.Sums m.sums → length original ≤ 1_048_576
+            made-short : (t : Bool) → ltb 1_048_576 (length original) ≡ t → cond t (Err TooLong) (Ok (sum_of original)) ≡ Ok m.sums → length original ≤ 1_048_576
             made-short true q h = let z : ◌≡◌ {A = ℕ} 0 1 = cc in absurd (omega arith)
             made-short false q h = ltb-false 1_048_576 (length original) q
 

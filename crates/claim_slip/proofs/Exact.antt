@@ -1,4 +1,5 @@
 -- A slip, exactly: the reader's call is a fold of the verdict, the writer's of its conditions, which are the rules.
+use Rattle.std.specs.Prelude.{Ok, Err}
 use mathlib.Core.Path.{◌≡◌, refl, sym, ap}
 use mathlib.Core.Bool.{Bool, true, false, not}
 use mathlib.Core.List.{List, [], ◌∷◌}
@@ -10,7 +11,6 @@ use lib.ListN.{length}
 use borrow.Author.Tests.{leb-true, le-leb, lt-ltb}
 use Rattle.shared_words.specs.declared.Refusal.{Refusal}
 use Rattle.shared_words.specs.declared.Refusal.TheVariants.{NoRoom}
-use Rattle.shared_words.specs.declared.Written.{Written}
 use Rattle.shared_words.specs.Bytes.{Bytes}
 use Rattle.shared_words.specs.Conditions.{Condition, broken, refused, accepted}
 use Rattle.shared_words.specs.Lists.{All}
@@ -18,7 +18,6 @@ use Rattle.shared_words.specs.Effects.{leaving, filled}
 use Rattle.shared_words.specs.Encodings.{Encoding}
 use Rattle.shared_words.proofs.Conditions.{Met, met, unbroken}
 use Rattle.slip_rules.specs.declared.Numbers.{Numbers}
-use Rattle.slip_rules.specs.declared.Found.{Found}
 use Rattle.slip_rules.specs.Slip.{Entry}
 use Rattle.slip_rules.specs.Rules.{remember, most_entries, AllLawful, Meets}
 use Rattle.slip_rules.specs.Walk.{Entries, verdict}
@@ -32,21 +31,21 @@ use Rattle.claim_slip.specs.Exact.{slip_of, Writable, SlipsExactly}
 -- ---- reading
 
 given : (e : Encoding Numbers ℕ) (s : List ℕ) (es : List Entry) → Meets s es → (row : List ℕ) → length es ≤ e.room (length row) →
-    slip_read_call e s row ≡ leaving (Found.Entries (length es)) (filled (e.encode (all_numbers 7 es)) row)
+    slip_read_call e s row ≡ leaving (Ok (length es)) (filled (e.encode (all_numbers 7 es)) row)
 unfolding slip_read_call
 given e s es m row l = rw (verdict-good s es m, le-leb (length es) (e.room (length row)) l)
 
-read-met : (e : Encoding Numbers ℕ) (row : List ℕ) (n : ℕ) (a : Entries) → (read_of e row a).answer ≡ Found.Entries n →
+read-met : (e : Encoding Numbers ℕ) (row : List ℕ) (n : ℕ) (a : Entries) → (read_of e row a).answer ≡ Ok n →
     (es : List Entry) × (a ≡ accepted es) × (n ≡ length es) × (n ≤ e.room (length row))
 read-met e row n (refused r) h = let z : ◌≡◌ {A = ℕ} 0 1 = cc in absurd (omega arith)
 read-met e row n (accepted es) h = go (leb (length es) (e.room (length row))) refl
   where
     go : (b : Bool) → leb (length es) (e.room (length row)) ≡ b → (fs : List Entry) × (accepted es ≡ accepted fs) × (n ≡ length fs) × (n ≤ e.room (length row))
     go true q =
-        let w : Found.Entries (length es) ≡ Found.Entries n = rw q at h in
+        let w : Ok (length es) ≡ Ok n = rw q at h in
         let k : length es ≡ n = cc in
         (es, refl, sym k, omega (arith, leb-true (length es) (e.room (length row)) q))
-    go false q = let w : Found.Refused (NoRoom (length es)) ≡ Found.Entries n = rw q at h in let z : ◌≡◌ {A = ℕ} 0 1 = cc in absurd (omega arith)
+    go false q = let w : Err (NoRoom (length es)) ≡ Ok n = rw q at h in let z : ◌≡◌ {A = ℕ} 0 1 = cc in absurd (omega arith)
 
 -- ---- writing: the conditions are met, so the names are there; and back
 
@@ -90,11 +89,11 @@ met_writable names g room w =
     (ap not w.no_part, met_labels one_on _ 0 (entries_from names g.rows) w.meets.labelled (le-leb (length (slip_of names g)) room w.fits_in, tt))
 
 laid-down : (names : List ℕ) (g : Given) (out : List ℕ) → Writable names g (length out) →
-    slip_write_call names g out ≡ leaving (Written.Size (length (slip_of names g))) (filled (slip_of names g) out)
+    slip_write_call names g out ≡ leaving (Ok (length (slip_of names g))) (filled (slip_of names g) out)
 unfolding slip_write_call
 laid-down names g out w = rw (unbroken (write_conditions names g (length out)) (met_writable names g (length out) w))
 
-was-written : (new out : List ℕ) (size : ℕ) (r : Option Refusal) → (write_of new out r).answer ≡ Written.Size size → (r ≡ none) × (size ≡ length new)
+was-written : (new out : List ℕ) (size : ℕ) (r : Option Refusal) → (write_of new out r).answer ≡ Ok size → (r ≡ none) × (size ≡ length new)
 was-written new out size (some r) h = let z : ◌≡◌ {A = ℕ} 0 1 = cc in absurd (omega arith)
 was-written new out size none h = (refl, cc)
 

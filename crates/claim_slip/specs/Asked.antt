@@ -1,17 +1,14 @@
 -- AN ENTRY, from the file that it is made of to the file that is compared with it: made by `sums_call`, written on a slip by
 -- `slip_write_call`, read back by `slip_read_call` and asked by `match_of`.
-use Rattle.std.specs.Prelude.{◌≡◌, ℕ, ◌/◌, ◌%◌, ◌<◌, length, take}
+use Rattle.std.specs.Prelude.{◌≡◌, ℕ, ◌/◌, ◌%◌, ◌<◌, length, take, Ok}
 use mathlib.Core.List.{List, flatten}
 use Rattle.std.proofs.Math.Option.{some}
 use Rattle.std.proofs.Math.ListN.{get_elem?}
-use Rattle.shared_words.specs.declared.Written.{Written}
 use Rattle.shared_words.specs.Bytes.{Bytes}
 use Rattle.slip_sums.specs.declared.Sum.{Sum}
-use Rattle.slip_sums.specs.declared.Summed.{Summed}
 use Rattle.slip_sums.specs.Fletcher.{sum_of}
 use Rattle.slip_sums.specs.Passes.{sums_call, other_sums, match_of, against}
 use Rattle.slip_rules.specs.declared.Numbers.{Numbers}
-use Rattle.slip_rules.specs.declared.Found.{Found}
 use Rattle.slip_rules.specs.Calls.{entry_from, rows_in, byte_row, slip_read_call, given_bytes, slip_write_call}
 use Rattle.c_sums.specs.Numbers.{sums_or, sum_in, sum_by_parts}
 use Rattle.claim_sums.specs.Damage.{turn}
@@ -23,9 +20,9 @@ slip_in names entries out size = take size (slip_write_call names (given_bytes e
 -- Entry number k was given to the writer as the numbers `given`, and what the reader then leaves in its row are the numbers `found`.
 pub record OnSlip (names entries out row : List ℕ) (k : ℕ) (given found : Numbers) : Type 0 where
   pub size : ℕ
-  pub written : (slip_write_call names (given_bytes entries) out).answer ≡ Written.Size size
+  pub written : (slip_write_call names (given_bytes entries) out).answer ≡ Ok size
   pub count : ℕ
-  pub read : (slip_read_call byte_row (slip_in names entries out size) row).answer ≡ Found.Entries count
+  pub read : (slip_read_call byte_row (slip_in names entries out size) row).answer ≡ Ok count
   pub given-there : get_elem? (given_bytes entries).rows k ≡ some given
   pub found-there : get_elem? (rows_in count (slip_read_call byte_row (slip_in names entries out size) row).rows) k ≡ some found
 
@@ -37,7 +34,7 @@ EntryReadBack = (names entries out row : List ℕ) → Bytes names → Bytes ent
 -- the numbers of an entry that is made of a file: its length, and what `sums_call` answers, as C gets it
 pub record MadeOf (original : List ℕ) (n : Numbers) : Type 0 where
   pub sums : Sum
-  pub made : sums_call original ≡ Summed.Sums sums
+  pub made : sums_call original ≡ Ok sums
   pub length-is : n.file ≡ length original
   pub sums_are : n.sums ≡ sums_or (sums_call original)
 

@@ -1,4 +1,6 @@
 -- What the calls leave in the record of an item, read back.
+use Rattle.studio_rules.specs.declared.Counts.{Counts}
+use Rattle.std.specs.Prelude.{Result, Ok, Err}
 use mathlib.Core.Path.{◌≡◌, refl, sym, ap, ◌∙◌}
 use mathlib.Core.Bool.{Bool, true, false, cond}
 use mathlib.Core.List.{List, [], ◌∷◌, ◌++◌, flatten, append-nil}
@@ -13,11 +15,8 @@ use Rattle.shared_words.specs.Bytes.{value, le, packed}
 use Rattle.shared_words.proofs.Bytes.{length-le, length-packed, value-le}
 use Rattle.shared_words.proofs.Refusals.{numbered}
 use Rattle.shared_numbers.proofs.Slices.{drop-take}
-use Rattle.studio_rules.specs.declared.Checked.{Checked}
 use Rattle.studio_rules.specs.Calls.{check_call}
-use Rattle.cob_rules.specs.declared.Answered.{Answered}
 use Rattle.cob_rules.specs.Calls.{check_call as cob_check_call}
-use Rattle.c4d_rules.specs.declared.Found.{Found}
 use Rattle.c4d_rules.specs.Calls.{c4d_check_call}
 use Rattle.c_codes.specs.Codes.{records_or}
 use Rattle.c_cob.specs.Codes.{count_or}
@@ -56,17 +55,17 @@ read_back item at ns i o h l e s =
 told-fits : (r : Refusal) (n : ℕ) → Tells r n → n < 256 ^ 8
 told-fits r n t = omega (arith, t.number, (numbered r).to)
 
-studio_fits : (c : Checked) (n : ℕ) → CheckTold c n → n < 256 ^ 8
-studio_fits (Checked.Accepted c) n t = omega (arith, t)
-studio_fits (Checked.Refused r) n t = told-fits r n t
+studio_fits : (c : Result Counts Refusal) (n : ℕ) → CheckTold c n → n < 256 ^ 8
+studio_fits (Ok c) n t = omega (arith, t)
+studio_fits (Err r) n t = told-fits r n t
 
-cob_fits : (c : Answered) (n : ℕ) → CountTold c n → n < 256 ^ 8
-cob_fits (Answered.Count c) n t = omega (arith, t)
-cob_fits (Answered.Refused r) n t = told-fits r n t
+cob_fits : (c : Result ℕ Refusal) (n : ℕ) → CountTold c n → n < 256 ^ 8
+cob_fits (Ok c) n t = omega (arith, t)
+cob_fits (Err r) n t = told-fits r n t
 
-c4d_fits : (c : Found) (n : ℕ) → ObjectsTold c n → n < 256 ^ 8
-c4d_fits (Found.Objects c) n t = omega (arith, t)
-c4d_fits (Found.Refused r) n t = told-fits r n t
+c4d_fits : (c : Result ℕ Refusal) (n : ℕ) → ObjectsTold c n → n < 256 ^ 8
+c4d_fits (Ok c) n t = omega (arith, t)
+c4d_fits (Err r) n t = told-fits r n t
 
 answer-fits : (k : ℕ) (s : List ℕ) → answer_of k s < 256 ^ 8
 answer-fits k s = go (eqb k 1) (eqb k 2) (eqb k 3)

@@ -1,4 +1,5 @@
 -- A pass is sure.
+use Rattle.std.specs.Prelude.{Ok, Err}
 use mathlib.Core.Path.{◌≡◌, refl, ap, ◌∙◌, subst}
 use mathlib.Core.Bool.{Bool, true, false, cond}
 use mathlib.Core.List.{List, [], ◌∷◌, tail}
@@ -40,7 +41,6 @@ use Rattle.c_c4d.specs.Codes.{objects_or}
 use Rattle.c_sums.specs.Numbers.{part_number}
 use Rattle.c_sums.proofs.Numbers.{number_by_parts}
 use Rattle.shared_words.specs.declared.Refusal.TheVariants.{Unchecked}
-use Rattle.shared_words.specs.declared.Judged.{Judged}
 use Rattle.stick_rules.specs.Names.{equal_ignoring_case, format_of}
 use Rattle.stick_rules.specs.Items.{Item, is_read, sums_of}
 use Rattle.stick_rules.specs.Judge.{manifest, entry_of, judgement}
@@ -190,12 +190,12 @@ items_sound es fine (s ∷ ss) (t ∷ ts) r o g = (root_sound es s t r, all_soun
 -- ---- the call
 
 good-is_sure : (slip names items : List ℕ) (contents : List (List ℕ)) → Bytes slip → Pairwise (OfFile EvidenceOf) contents (items_in names items) →
-    judge_call slip names items ≡ Judged.Good → Verified slip (items_in names items) contents
+    judge_call slip names items ≡ (Ok tt) → Verified slip (items_in names items) contents
 unfolding judge_call
 good-is_sure slip names items contents b g h = go (slip_verdict slip) refl h
   where
     sure : (es : List Entry) → slip_verdict slip ≡ accepted es → (d : Bool) →
-        cond d (judgement (manifest slip es) (items_in names items)) (Judged.Refused (Unchecked (item_count items))) ≡ Judged.Good →
+        cond d (judgement (manifest slip es) (items_in names items)) (Err (Unchecked (item_count items))) ≡ (Ok tt) →
         Verified slip (items_in names items) contents
     sure es q false h = never (Unchecked (item_count items)) h
     sure es q true h =
@@ -209,7 +209,7 @@ good-is_sure slip names items contents b g h = go (slip_verdict slip) refl h
           every-entry = (in_plain_words (manifest slip es) (items_in names items) h).every-entry;
         }
 
-    go : (a : Entries) → slip_verdict slip ≡ a → judge_records slip a names items ≡ Judged.Good → Verified slip (items_in names items) contents
+    go : (a : Entries) → slip_verdict slip ≡ a → judge_records slip a names items ≡ (Ok tt) → Verified slip (items_in names items) contents
     go (refused r) q h = never r h
     go (accepted es) q h = sure es q (eqb (length items % 56) 0) h
 

@@ -1,4 +1,5 @@
 -- The names of the meshes of a run as bytes, wherever it stands.
+use Rattle.std.specs.Prelude.{Err}
 use mathlib.Core.Path.{◌≡◌, refl, sym, ap, ◌∙◌}
 use Prim.Native.Nat.{ℕ, ◌+◌, ◌-◌}
 use native.Mathlib.Omega.{arith}
@@ -9,7 +10,6 @@ use lib.Dec.{eqb}
 use lib.ListN.{length, take, drop, length-append, get_elem?}
 use lib.Seq.{drop_at, take-append-le}
 use Rattle.shared_words.specs.Picked.{pick_mesh}
-use Rattle.studio_rules.specs.declared.Named.{Named}
 use Rattle.studio_rules.specs.Layout.{Run, end, skip, known, figure, header, size, bytes, ◌then◌}
 use Rattle.shared_words.specs.Conditions.{Answer, refused, accepted}
 use Rattle.studio_rules.specs.Gives.{Mesh, mesh_of, one_mesh, meshes_of, meshes}
@@ -100,10 +100,10 @@ names-holding s before t after e =
 
 -- ---- by the call
 
-pub letters-of : (s : List ℕ) (m : ℕ) (a : Answer Run) → letters_at s (of_mesh Named.Refused name_of m a) ≡ of_mesh no (λ x. letters (name_bytes s x)) m a
+pub letters-of : (s : List ℕ) (m : ℕ) (a : Answer Run) → letters_at s (of_mesh Err name_of m a) ≡ of_mesh no (λ x. letters (name_bytes s x)) m a
 letters-of s m (refused r) = refl
 letters-of s m (accepted kids) = go (length (meshes kids)) (get_elem? (meshes kids) m)
   where
-    go : (n : ℕ) (x : Option Mesh) → letters_at s (pick_mesh Named.Refused name_of n x) ≡ pick_mesh no (λ x. letters (name_bytes s x)) n x
+    go : (n : ℕ) (x : Option Mesh) → letters_at s (pick_mesh Err name_of n x) ≡ pick_mesh no (λ x. letters (name_bytes s x)) n x
     go n none = refl
     go n (some x) = refl

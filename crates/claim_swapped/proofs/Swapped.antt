@@ -1,11 +1,11 @@
 -- Q-11: the children of 3D3D in another order. A swap, and by it any reordering.
+use Rattle.std.specs.Prelude.{Err}
 use mathlib.Core.Path.{◌≡◌, refl, sym, ap, ◌∙◌, subst}
 use Prim.Native.Nat.{ℕ, ◌+◌}
 use native.Mathlib.Omega.{arith}
 use mathlib.Core.List.{List, [], ◌++◌, map, append_assoc, append-nil}
 use lib.ListN.{length, length-append, length-map}
 use Rattle.shared_words.specs.declared.Refusal.{Refusal}
-use Rattle.studio_rules.specs.declared.Tabled.{Tabled}
 use Rattle.studio_rules.specs.declared.Boxed.{Boxed}
 use Rattle.studio_rules.specs.Layout.{Run, figure, header, size, bytes, known, ◌then◌}
 use Rattle.studio_rules.specs.Rules.{version, Meets}
@@ -143,7 +143,7 @@ module _ (before t u after : Run) (w : Swapped t u) where
   pub renumbered : (s s' : List ℕ) → bytes (figure old) ≡ s → bytes (figure new) ≡ s' → verdict s ≡ accepted old → verdict s' ≡ accepted new → Renumbered (by_swap before w) s s'
   unfolding tables_call name_call box_call
   renumbered s s' i i' e e' = record {
-    tables-same = λ t m rows. rw (e, e') (asked (λ r. leaving (Tabled.Refused r) rows) (tables_of t rows) (λ m. refl) m);
+    tables-same = λ t m rows. rw (e, e') (asked (λ r. leaving (Err r) rows) (tables_of t rows) (λ m. refl) m);
     name-same = λ m. rw (e, e') (letters-of s' (by_swap before w m) (accepted new) ∙ asked-name s s' i i' m ∙ sym (letters-of s m (accepted old)));
     box-same = λ m. rw (e, e') (asked Boxed.Refused around_of (λ m. refl) m);
   }

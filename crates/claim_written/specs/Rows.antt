@@ -1,10 +1,8 @@
 -- THE WRITER OF FIGURES WITH MATERIALS, of the call and in the rows lent to it.
-use Rattle.std.specs.Prelude.{◌≡◌, List, [], ◌∷◌, ℕ, ◌≤◌, Float, length, take, drop}
+use Rattle.std.specs.Prelude.{◌≡◌, List, [], ◌∷◌, ℕ, ◌≤◌, Float, length, take, drop, Ok}
 use Rattle.std.proofs.Math.Option.{some}
 use Rattle.std.proofs.Math.ListN.{get_elem?}
-use Rattle.shared_words.specs.declared.Written.TheVariants.{Size}
 use Rattle.shared_words.specs.Effects.{leaving, filled}
-use Rattle.studio_rules.specs.declared.Tabled.{Tabled}
 use Rattle.studio_rules.specs.Calls.{Rows, in_numbers, tables_call}
 use Rattle.studio_write_judge.specs.Judged.{triples}
 use Rattle.studio_write.specs.Write.{write_call}
@@ -52,11 +50,11 @@ pub record GivenBack (s : List ℕ) (k : ℕ) (o : Lent) : Type 0 where
   pub name : NameStands s k o.name
   pub tables : (rows : Rows Float ℕ Float) → length o.floats ≤ length rows.vertices → length o.corners ≤ length rows.corners →
       tables_call in_numbers s k rows ≡
-      leaving (Tabled.Filled record { vertices = triples o.floats; faces = triples o.corners; pairs = 0 })
+      leaving (Ok record { vertices = triples o.floats; faces = triples o.corners; pairs = 0 })
       record { vertices = filled o.floats rows.vertices; corners = filled o.corners rows.corners; mapping = rows.mapping }
 
 -- THE VERY FLOATS AND CORNERS are read that were lent, bit for bit.
 abbrev pub RowsGivenBack : Type 0
-RowsGivenBack = (r : Flat) (out : List ℕ) (size : ℕ) → Floats32 r.vertices → (write_flat r out).answer ≡ Size size →
+RowsGivenBack = (r : Flat) (out : List ℕ) (size : ℕ) → Floats32 r.vertices → (write_flat r out).answer ≡ Ok size →
     (k : ℕ) (o : Lent) → get_elem? (lent_objects (objects_in r) r.names r.vertices r.corners) k ≡ some o →
     GivenBack (take size (write_flat r out).rows) k o

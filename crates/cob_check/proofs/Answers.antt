@@ -1,4 +1,5 @@
 -- The file's own conditions, and what the walk's answer makes of a call's.
+use Rattle.std.specs.Prelude.{Ok, Err}
 use mathlib.Core.Path.{◌≡◌, refl, sym, ap, subst, ◌∙◌}
 use Prim.Native.Nat.{ℕ, ◌*◌, ◌<◌, ◌≤◌}
 use native.Mathlib.Omega.{arith}
@@ -12,7 +13,6 @@ use Rattle.shared_words.specs.declared.Refusal.TheVariants.{TooLong, Header}
 use Rattle.shared_words.specs.Lists.{same}
 use Rattle.shared_words.specs.Conditions.{broken, refused, accepted}
 use Rattle.shared_words.specs.Refusals.{limit}
-use Rattle.cob_rules.specs.declared.Answered.{Answered}
 use Rattle.cob_rules.specs.Layout.{Layout, file_header}
 use Rattle.cob_rules.specs.Walk.{Verdict, walk, verdict}
 use Rattle.cob_rules.specs.Calls.{check_of}
@@ -73,8 +73,8 @@ pub walk-good : (v : Verdict) (w : Walked) (ids links : List ℕ) → WalkIs v w
     (l : Layout) × (v ≡ accepted l) × Accepted l count records ids links
 walk-good v w ids links h {count} {records} e = good_as v count records ids links (subst (λ (x : Walked). WalkIs v x ids links) e h)
 
-pub answer-refused : (v : Verdict) {q : Refusal} → v ≡ refused q → Answered.Refused q ≡ check_of v
+pub answer-refused : (v : Verdict) {q : Refusal} → v ≡ refused q → Err q ≡ check_of v
 answer-refused v e = rw e
 
-pub answer-good : (v : Verdict) {l : Layout} {count records : ℕ} {ids links : List ℕ} → v ≡ accepted l → Accepted l count records ids links → Answered.Count records ≡ check_of v
+pub answer-good : (v : Verdict) {l : Layout} {count records : ℕ} {ids links : List ℕ} → v ≡ accepted l → Accepted l count records ids links → Ok records ≡ check_of v
 answer-good v e h = rw (e, h.records_are)

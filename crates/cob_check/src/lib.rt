@@ -9,7 +9,6 @@ ghost use Rattle.cob_rules.specs.Walk.{walk, verdict};
 ghost use Rattle.cob_rules.specs.Calls.{check_call};
 ghost use Rattle.cob_check.specs.Walks.{Prepared, WalkIs};
 
-use cob_rules::Answered;
 use cob_step::{Step, step_at};
 use shared_words::Refusal;
 
@@ -88,16 +87,16 @@ pub fn judge_file(file: &[u8], ids: &mut [u32], links: &mut [u32]) -> Walked
 }
 
 // The check of a file: the count of its records, or the refusal.
-pub fn check(file: &[u8]) -> Answered
+pub fn check(file: &[u8]) -> Result<usize, Refusal>
     ensures { result ≡ check_call file.now }
 {
     if 1048576 < file.len() {
-        return Answered::Refused(Refusal::TooLong);
+        return Err(Refusal::TooLong);
     }
     let mut ids = [0u32; 52429];
     let mut links = [0u32; 104858];
     match judge_file(file, &mut ids, &mut links) {
-        Walked::Refused(r) => Answered::Refused(r),
-        Walked::Good(_, records) => Answered::Count(records),
+        Walked::Refused(r) => Err(r),
+        Walked::Good(_, records) => Ok(records),
     }
 }

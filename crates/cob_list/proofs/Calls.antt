@@ -1,4 +1,5 @@
 -- The call's answer and row, by the verdict and the room.
+use Rattle.std.specs.Prelude.{Ok, Err}
 use mathlib.Core.Path.{◌≡◌}
 use Prim.Native.Nat.{ℕ, ◌/◌, ◌<◌, ◌≤◌}
 use native.Mathlib.Nat.{div-mul-le_self}
@@ -9,7 +10,6 @@ use borrow.Author.Tests.{le-leb, lt-leb}
 use Rattle.shared_words.specs.declared.Refusal.{Refusal}
 use Rattle.shared_words.specs.declared.Refusal.TheVariants.{NoRoom}
 use Rattle.shared_words.specs.Conditions.{refused, accepted}
-use Rattle.cob_rules.specs.declared.Answered.{Answered}
 use Rattle.cob_rules.specs.Layout.{Layout}
 use Rattle.cob_rules.specs.Walk.{verdict}
 use Rattle.cob_rules.specs.Gives.{list}
@@ -18,16 +18,16 @@ use Rattle.cob_check.specs.Walks.{Accepted}
 use Rattle.cob_list.specs.Filling.{Fillable, Fills}
 
 module _ (s row : List ℕ) where
-  pub call-refused : {q : Refusal} → verdict s ≡ refused q → (Answered.Refused q ≡ (list_call record_bytes s row).answer) × (row ≡ (list_call record_bytes s row).rows)
+  pub call-refused : {q : Refusal} → verdict s ≡ refused q → (Err q ≡ (list_call record_bytes s row).answer) × (row ≡ (list_call record_bytes s row).rows)
   unfolding list_call
   call-refused e = (rw e, rw e)
 
   module _ {l : Layout} {n : ℕ} (e : verdict s ≡ accepted l) (c : n ≡ length (list l)) where
-    pub call-no-room : length row / 24 < n → (Answered.Refused (NoRoom n) ≡ (list_call record_bytes s row).answer) × (row ≡ (list_call record_bytes s row).rows)
+    pub call-no-room : length row / 24 < n → (Err (NoRoom n) ≡ (list_call record_bytes s row).answer) × (row ≡ (list_call record_bytes s row).rows)
     unfolding list_call
     call-no-room r = let t = lt-leb n (length row / 24) r in (rw (e, ← c, t), rw (e, ← c, t))
 
-    pub call-filled : n ≤ length row / 24 → {row' : List ℕ} → Fills s row row' → (Answered.Count n ≡ (list_call record_bytes s row).answer) × (row' ≡ (list_call record_bytes s row).rows)
+    pub call-filled : n ≤ length row / 24 → {row' : List ℕ} → Fills s row row' → (Ok n ≡ (list_call record_bytes s row).answer) × (row' ≡ (list_call record_bytes s row).rows)
     unfolding list_call
     call-filled r f = let t = le-leb n (length row / 24) r in (rw (e, ← c, t), rw (e, ← c, t) (f.told l e))
 

@@ -13,7 +13,7 @@ ghost use Rattle.cob_list.specs.Filling.{top_for, record_with, Fillable, Fills, 
 use cob_check::{Walked, judge_file};
 use cob_chunk::{chunk_end, is_listed, kind_at};
 use cob_owner::topmost;
-use cob_rules::{Answered, Record};
+use cob_rules::Record;
 use cob_seen::{Place, find};
 use shared_numbers::{long_at, put_long};
 use shared_words::Refusal;
@@ -118,23 +118,23 @@ fn fill_records(file: &[u8], ids: &[u32], links: &[u32], count: usize, row: &mut
 
 // The list, into a lent row whose room is counted in whole records. Answers how many there are, or the refusal, which leaves the
 // row as it was.
-pub fn list(file: &[u8], row: &mut [u8]) -> Answered
+pub fn list(file: &[u8], row: &mut [u8]) -> Result<usize, Refusal>
     ensures answer { result ≡ (list_call record_bytes file.now row.old).answer }
     ensures row { row.new ≡ (list_call record_bytes file.now row.old).rows }
 {
     if 1048576 < file.len() {
-        return Answered::Refused(Refusal::TooLong);
+        return Err(Refusal::TooLong);
     }
     let mut ids = [0u32; 52429];
     let mut links = [0u32; 104858];
     match judge_file(file, &mut ids, &mut links) {
-        Walked::Refused(r) => Answered::Refused(r),
+        Walked::Refused(r) => Err(r),
         Walked::Good(count, n) => {
             if row.len() / 24 < n {
-                return Answered::Refused(Refusal::NoRoom(n));
+                return Err(Refusal::NoRoom(n));
             }
             fill_records(file, &ids, &links, count, row);
-            Answered::Count(n)
+            Ok(n)
         }
     }
 }

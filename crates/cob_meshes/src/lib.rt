@@ -20,7 +20,6 @@ ghost use Rattle.cob_meshes.specs.Meshes.{numbers_of, MeshAt, PutMesh, Counts, S
 use cob_check::check;
 use cob_chunk::{chunk_end, is_end, is_listed, is_mesh, kind_at};
 use cob_mesh::{face_at, lists_of};
-use cob_rules::Answered;
 use cob_tables::{count_mesh, count_triangles};
 use shared_numbers::{long_at, put_long, wide};
 use shared_words::Refusal;
@@ -154,19 +153,19 @@ fn fill(file: &[u8], row: &mut [u8])
 
 // The meshes of a file, in file order, eight numbers each, four bytes a number. Answers how many there are, or the refusal, which
 // leaves the row as it was.
-pub fn meshes(file: &[u8], row: &mut [u8]) -> Answered
+pub fn meshes(file: &[u8], row: &mut [u8]) -> Result<usize, Refusal>
     ensures answer { result ≡ (meshes_call mesh_bytes file.now row.old).answer }
     ensures row { row.new ≡ (meshes_call mesh_bytes file.now row.old).rows }
 {
     match check(file) {
-        Answered::Refused(r) => Answered::Refused(r),
-        Answered::Count(_) => {
+        Err(r) => Err(r),
+        Ok(_) => {
             let n = count_meshes(file);
             if row.len() / 32 < n {
-                return Answered::Refused(Refusal::NoRoom(n));
+                return Err(Refusal::NoRoom(n));
             }
             fill(file, row);
-            Answered::Count(n)
+            Ok(n)
         }
     }
 }

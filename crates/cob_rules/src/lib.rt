@@ -25,9 +25,3 @@ pub struct Record {
     pub owner: u32,
 }
 
-// What a call answers: a count (of records, of numbers filled, of vertices), or a refusal.
-#[derive(Clone, Copy)]
-pub enum Answered {
-    Count(usize),
-    Refused(Refusal),
-}

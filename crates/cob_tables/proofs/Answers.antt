@@ -1,4 +1,5 @@
 -- The calls' answers and rows: by the room in them, and by the mesh that was asked for.
+use Rattle.std.specs.Prelude.{Result, Ok, Err}
 use mathlib.Core.Path.{◌≡◌, sym, ap, subst, ◌∙◌}
 use Prim.Native.Nat.{ℕ, ◌+◌, ◌*◌, ◌/◌, ◌<◌, ◌≤◌}
 use native.Mathlib.Nat.{div-mul-le_self}
@@ -15,7 +16,6 @@ use Rattle.shared_words.proofs.Numbers.{length-numbers}
 use Rattle.shared_numbers.specs.Numbers.{long_at}
 use Rattle.shared_numbers.specs.Put.{Put}
 use Rattle.shared_numbers.proofs.Put.{put_then, put_front}
-use Rattle.cob_rules.specs.declared.Answered.{Answered}
 use Rattle.cob_rules.specs.Mesh.{faces_at, faces_of, triangles, corners_of}
 use Rattle.cob_rules.specs.Gives.{Mesh, mesh_in}
 use Rattle.cob_rules.specs.Calls.{give, sizes_of, sizes_call, Rows, tables_of, tables_call}
@@ -31,7 +31,7 @@ use Rattle.cob_rules.proofs.Triangles.{three-each}
 -- ---- the sizes of a body
 
 pub sizes-no-room : (m : Mesh) (row : List ℕ) → length row / 4 < 2 →
-    (Answered.Refused (NoRoom 2) ≡ (give (number_bytes 4) (sizes_of m) row).answer) × (row ≡ (give (number_bytes 4) (sizes_of m) row).rows)
+    (Err (NoRoom 2) ≡ (give (number_bytes 4) (sizes_of m) row).answer) × (row ≡ (give (number_bytes 4) (sizes_of m) row).rows)
 sizes-no-room m row h = let t = lt-leb 2 (length row / 4) h in (rw t, rw t)
 
 module _ {body : List ℕ} {l : Lists} (h : Laid body l) where
@@ -52,7 +52,7 @@ module _ {body : List ℕ} {l : Lists} (h : Laid body l) where
 
     pub sizes-put : {v f : ℕ} {row row₁ row₂ : List ℕ} {i j : ℕ} → v ≡ long_at body l.vertices → f ≡ length (triangles (faces_at count (drop (l.faces + 4) body))) →
         2 ≤ length row / 4 → Put row 0 (le 4 v) row₁ i → Put row₁ i (le 4 f) row₂ j →
-        (Answered.Count 2 ≡ (give (number_bytes 4) (sizes_of (mesh_in body)) row).answer) × (row₂ ≡ (give (number_bytes 4) (sizes_of (mesh_in body)) row).rows)
+        (Ok 2 ≡ (give (number_bytes 4) (sizes_of (mesh_in body)) row).answer) × (row₂ ≡ (give (number_bytes 4) (sizes_of (mesh_in body)) row).rows)
     sizes-put {v} {f} {row} {row₁} {row₂} a b r p q =
         let t = le-leb 2 (length row / 4) r in
         let n = vertex-count ∙ sym a in
@@ -68,7 +68,7 @@ module _ {body : List ℕ} {l : Lists} (h : Laid body l) where
       vertices-long : length (mesh_in body).vertices ≡ 3 * v
       vertices-long = ap length vertices_in_lem ∙ length-numbers 4 (3 * v) (drop (l.vertices + 4) body)
 
-      pub no-vertices : (vs cs : List ℕ) → length vs / 4 < 3 * v → TablesAre (mesh_in body) vs cs (Answered.Refused (NoRoom (3 * v))) vs cs
+      pub no-vertices : (vs cs : List ℕ) → length vs / 4 < 3 * v → TablesAre (mesh_in body) vs cs (Err (NoRoom (3 * v))) vs cs
       no-vertices vs cs r =
           let e = vertices-long in
           let t = lt-leb (3 * v) (length vs / 4) r in
@@ -81,7 +81,7 @@ module _ {body : List ℕ} {l : Lists} (h : Laid body l) where
         corners-long : length (mesh_in body).corners ≡ 3 * f
         corners-long = ap length corners_in ∙ three-each (faces_at count (drop (l.faces + 4) body)) ∙ ap (λ (k : ℕ). 3 * k) (sym b)
 
-        pub no-corners : length cs / 4 < 3 * f → TablesAre (mesh_in body) vs cs (Answered.Refused (NoRoom (3 * f))) vs cs
+        pub no-corners : length cs / 4 < 3 * f → TablesAre (mesh_in body) vs cs (Err (NoRoom (3 * f))) vs cs
         no-corners q =
             let d = vertices-long in
             let e = corners-long in
@@ -94,7 +94,7 @@ module _ {body : List ℕ} {l : Lists} (h : Laid body l) where
         corners-room q = omega (arith, ap length (sym corners_in) ∙ corners-long, div-mul-le_self (length cs) 4)
 
         pub all-filled : 3 * f ≤ length cs / 4 → {vs' cs' : List ℕ} → vs' ≡ filled (packed 4 (numbers 4 (3 * v) (drop (l.vertices + 4) body))) vs →
-            cs' ≡ filled (packed 4 (corners_of (triangles (faces_at count (drop (l.faces + 4) body))))) cs → TablesAre (mesh_in body) vs cs (Answered.Count v) vs' cs'
+            cs' ≡ filled (packed 4 (corners_of (triangles (faces_at count (drop (l.faces + 4) body))))) cs → TablesAre (mesh_in body) vs cs (Ok v) vs' cs'
         all-filled q x y =
             let d = vertices-long in
             let e = corners-long in
@@ -102,7 +102,7 @@ module _ {body : List ℕ} {l : Lists} (h : Laid body l) where
             let u = le-leb (3 * f) (length cs / 4) q in
             let n : v ≡ (mesh_in body).vertex_count = a ∙ sym vertex-count in
             record {
-              answer-is = rw (d, t, e, u) (ap Answered.Count n);
+              answer-is = rw (d, t, e, u) (ap Ok n);
               vertices_are = rw (d, t, e, u) (x ∙ ap (λ (k : List ℕ). filled (packed 4 k) vs) (sym vertices_in_lem));
               corners_are = rw (d, t, e, u) (y ∙ ap (λ (k : List ℕ). filled (packed 4 k) cs) (sym corners_in));
             }
@@ -118,33 +118,33 @@ module _ {s : List ℕ} {mesh : ℕ} {r : Asked} (a : AskedIs s mesh r) where
 
   module _ (row : List ℕ) where
     pub sizes-refused : {q : Refusal} → r ≡ Asked.Refused q →
-        (Answered.Refused q ≡ (sizes_call (number_bytes 4) s mesh row).answer) × (row ≡ (sizes_call (number_bytes 4) s mesh row).rows)
+        (Err q ≡ (sizes_call (number_bytes 4) s mesh row).answer) × (row ≡ (sizes_call (number_bytes 4) s mesh row).rows)
     unfolding sizes_call
     sizes-refused {q} e =
-        let t = of-picked (λ x. leaving (Answered.Refused x) row) (λ m. give (number_bytes 4) (sizes_of m) row) s mesh (bad q) (asked_as (Asked.Refused q) e) in
+        let t = of-picked (λ x. leaving (Err x) row) (λ m. give (number_bytes 4) (sizes_of m) row) s mesh (bad q) (asked_as (Asked.Refused q) e) in
         (rw t, rw t)
 
-    pub sizes-of-body : {from to : ℕ} → r ≡ Asked.At from to → {b : Answered} {row' : List ℕ} →
+    pub sizes-of-body : {from to : ℕ} → r ≡ Asked.At from to → {b : Result ℕ Refusal} {row' : List ℕ} →
         (b ≡ (give (number_bytes 4) (sizes_of (mesh_in (body_in s from to))) row).answer) × (row' ≡ (give (number_bytes 4) (sizes_of (mesh_in (body_in s from to))) row).rows) →
         (b ≡ (sizes_call (number_bytes 4) s mesh row).answer) × (row' ≡ (sizes_call (number_bytes 4) s mesh row).rows)
     unfolding sizes_call
     sizes-of-body {from} {to} e p =
-        let t = of-picked (λ x. leaving (Answered.Refused x) row) (λ m. give (number_bytes 4) (sizes_of m) row) s mesh (good (mesh_in (body_in s from to))) (asked_as (Asked.At from to) e).0 in
+        let t = of-picked (λ x. leaving (Err x) row) (λ m. give (number_bytes 4) (sizes_of m) row) s mesh (good (mesh_in (body_in s from to))) (asked_as (Asked.At from to) e).0 in
         (rw t p.0, rw t p.1)
 
   module _ (vs cs : List ℕ) where
-    abbrev call : Effect Answered Rows
+    abbrev call : Effect (Result ℕ Refusal) Rows
     call = tables_call (number_bytes 4) s mesh (rows vs cs)
 
-    pub tables-refused : {q : Refusal} → r ≡ Asked.Refused q → (Answered.Refused q ≡ call.answer) × (rows vs cs ≡ call.rows)
+    pub tables-refused : {q : Refusal} → r ≡ Asked.Refused q → (Err q ≡ call.answer) × (rows vs cs ≡ call.rows)
     unfolding tables_call
     tables-refused {q} e =
-        let t = of-picked (λ x. leaving (Answered.Refused x) (rows vs cs)) (tables_of (number_bytes 4) (rows vs cs)) s mesh (bad q) (asked_as (Asked.Refused q) e) in
+        let t = of-picked (λ x. leaving (Err x) (rows vs cs)) (tables_of (number_bytes 4) (rows vs cs)) s mesh (bad q) (asked_as (Asked.Refused q) e) in
         (rw t, rw t)
 
-    pub tables-of-body : {from to : ℕ} → r ≡ Asked.At from to → {b : Answered} {vs' cs' : List ℕ} → TablesAre (mesh_in (body_in s from to)) vs cs b vs' cs' →
+    pub tables-of-body : {from to : ℕ} → r ≡ Asked.At from to → {b : Result ℕ Refusal} {vs' cs' : List ℕ} → TablesAre (mesh_in (body_in s from to)) vs cs b vs' cs' →
         (b ≡ call.answer) × (rows vs' cs' ≡ call.rows)
     unfolding tables_call
     tables-of-body {from} {to} e p =
-        let t = of-picked (λ x. leaving (Answered.Refused x) (rows vs cs)) (tables_of (number_bytes 4) (rows vs cs)) s mesh (good (mesh_in (body_in s from to))) (asked_as (Asked.At from to) e).0 in
+        let t = of-picked (λ x. leaving (Err x) (rows vs cs)) (tables_of (number_bytes 4) (rows vs cs)) s mesh (good (mesh_in (body_in s from to))) (asked_as (Asked.At from to) e).0 in
         (rw t p.answer-is, rw t (rw (p.vertices_are, p.corners_are)))

@@ -1,4 +1,5 @@
 -- The mesh that is asked for, by the check's answer and the search.
+use Rattle.std.specs.Prelude.{Result, Ok, Err}
 use mathlib.Core.Path.{◌≡◌, refl, sym, ap, subst, ◌∙◌}
 use Prim.Native.Nat.{ℕ}
 use native.Mathlib.Omega.{arith}
@@ -9,7 +10,6 @@ use Rattle.shared_words.specs.declared.Refusal.{Refusal}
 use Rattle.shared_words.specs.declared.Refusal.TheVariants.{NoSuchMesh}
 use Rattle.shared_words.specs.Conditions.{refused, accepted}
 use Rattle.shared_words.specs.Picked.{pick_mesh}
-use Rattle.cob_rules.specs.declared.Answered.{Answered}
 use Rattle.cob_rules.specs.Layout.{Layout}
 use Rattle.cob_rules.specs.Walk.{Verdict, verdict}
 use Rattle.cob_rules.specs.Gives.{Mesh, meshes}
@@ -18,20 +18,20 @@ use Rattle.cob_tables.specs.declared.Found.{Found}
 use Rattle.cob_tables.specs.declared.Asked.{Asked}
 use Rattle.cob_tables.specs.Asked.{Readable, FoundIn, FoundIs, Picked, bad, good, picked, AskedIs}
 
-pub refused-by : (v : Verdict) (q : Refusal) → Answered.Refused q ≡ check_of v → v ≡ refused q
+pub refused-by : (v : Verdict) (q : Refusal) → Err q ≡ check_of v → v ≡ refused q
 refused-by (refused r) q e = let z : r ≡ q = cc in ap refused z
 refused-by (accepted l) q e = let z : ◌≡◌ {A = ℕ} 0 1 = cc in absurd (omega arith)
 
-accepted-by : (v : Verdict) (n : ℕ) → Answered.Count n ≡ check_of v → (l : Layout) × (v ≡ accepted l)
+accepted-by : (v : Verdict) (n : ℕ) → Ok n ≡ check_of v → (l : Layout) × (v ≡ accepted l)
 accepted-by (refused r) n e = let z : ◌≡◌ {A = ℕ} 0 1 = cc in absurd (omega arith)
 accepted-by (accepted l) n e = (l, refl)
 
-module _ (s : List ℕ) {r : Answered} (c : r ≡ check_call s) where
-  pub file-refused : (mesh : ℕ) {q : Refusal} → r ≡ Answered.Refused q → AskedIs s mesh (Asked.Refused q)
+module _ (s : List ℕ) {r : Result ℕ Refusal} (c : r ≡ check_call s) where
+  pub file-refused : (mesh : ℕ) {q : Refusal} → r ≡ Err q → AskedIs s mesh (Asked.Refused q)
   unfolding check_call
   file-refused mesh {q} e = record { told = rw (refused-by (verdict s) q (sym e ∙ c)) }
 
-  pub readable : {n : ℕ} → r ≡ Answered.Count n → Readable s
+  pub readable : {n : ℕ} → r ≡ Ok n → Readable s
   unfolding check_call
   readable {n} e = let a = accepted-by (verdict s) n (sym e ∙ c) in record { layout = a.0; is = a.1 }
 

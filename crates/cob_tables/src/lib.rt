@@ -21,7 +21,6 @@ ghost use Rattle.cob_tables.specs.Rows.{rows, TablesAre};
 use cob_check::check;
 use cob_chunk::{chunk_end, is_end, is_mesh, kind_at};
 use cob_mesh::{face_at, hole_first, lists_of};
-use cob_rules::Answered;
 use shared_numbers::{long_at, put_long, wide};
 use shared_words::Refusal;
 use studio_mesh_rows::fill_float_bytes;
@@ -73,8 +72,8 @@ fn ask(file: &[u8], mesh: u32) -> Asked
     ensures { AskedIs file.now mesh result }
 {
     match check(file) {
-        Answered::Refused(r) => Asked::Refused(r),
-        Answered::Count(_) => match find_mesh(file, wide(mesh)) {
+        Err(r) => Asked::Refused(r),
+        Ok(_) => match find_mesh(file, wide(mesh)) {
             Found::At(from, to) => Asked::At(from, to),
             Found::Nowhere(n) => Asked::Refused(Refusal::NoSuchMesh(n)),
         },
@@ -183,13 +182,13 @@ fn fill_corners(s: &[u8], at: usize, count: usize, row: &mut [u8])
 // ---- the calls
 
 // The sizes of the mesh of a body.
-fn put_sizes(body: &[u8], row: &mut [u8]) -> Answered
+fn put_sizes(body: &[u8], row: &mut [u8]) -> Result<usize, Refusal>
     requires { exact Kind.PolH body.now ≡ true }
     ensures answer { result ≡ (give (number_bytes 4) (sizes_of (mesh_in body.now)) row.old).answer }
     ensures row { row.new ≡ (give (number_bytes 4) (sizes_of (mesh_in body.now)) row.old).rows }
 {
     if row.len() / 4 < 2 {
-        return Answered::Refused(Refusal::NoRoom(2));
+        return Err(Refusal::NoRoom(2));
     }
     let l = lists_of(body);
     let vertices = long_at(body, l.vertices);
@@ -197,49 +196,49 @@ fn put_sizes(body: &[u8], row: &mut [u8]) -> Answered
     let faces = count_triangles(body, l.faces + 4, count);
     let behind = put_long(vertices, 0, row);
     put_long(faces as u32, behind, row);
-    Answered::Count(2)
+    Ok(2)
 }
 
 // The tables of the mesh of a body.
-fn put_tables(body: &[u8], vertices: &mut [u8], corners: &mut [u8]) -> Answered
+fn put_tables(body: &[u8], vertices: &mut [u8], corners: &mut [u8]) -> Result<usize, Refusal>
     requires { exact Kind.PolH body.now ≡ true }
     ensures { TablesAre (mesh_in body.now) vertices.old corners.old result vertices.new corners.new }
 {
     let l = lists_of(body);
     let n = wide(long_at(body, l.vertices));
     if vertices.len() / 4 < 3 * n {
-        return Answered::Refused(Refusal::NoRoom(3 * n));
+        return Err(Refusal::NoRoom(3 * n));
     }
     let count = wide(long_at(body, l.faces));
     let faces = count_triangles(body, l.faces + 4, count);
     if corners.len() / 4 < 3 * faces {
-        return Answered::Refused(Refusal::NoRoom(3 * faces));
+        return Err(Refusal::NoRoom(3 * faces));
     }
     fill_float_bytes(body, l.vertices + 4, 3 * n, vertices);
     fill_corners(body, l.faces + 4, count, corners);
-    Answered::Count(n)
+    Ok(n)
 }
 
 // How many vertices and faces a mesh has, as two numbers into a lent row; or a refusal, which leaves the row as it was.
-pub fn sizes(file: &[u8], mesh: u32, row: &mut [u8]) -> Answered
+pub fn sizes(file: &[u8], mesh: u32, row: &mut [u8]) -> Result<usize, Refusal>
     ensures answer { result ≡ (sizes_call (number_bytes 4) file.now mesh row.old).answer }
     ensures row { row.new ≡ (sizes_call (number_bytes 4) file.now mesh row.old).rows }
 {
     match ask(file, mesh) {
-        Asked::Refused(r) => Answered::Refused(r),
+        Asked::Refused(r) => Err(r),
         Asked::At(from, to) => put_sizes(&file[from..to], row),
     }
 }
 
 // The vertices and the corners of a mesh, into lent rows; answers how many vertices there are, or a refusal, which leaves the
 // rows as they were.
-pub fn tables(file: &[u8], mesh: u32, vertices: &mut [u8], corners: &mut [u8]) -> Answered
+pub fn tables(file: &[u8], mesh: u32, vertices: &mut [u8], corners: &mut [u8]) -> Result<usize, Refusal>
     ensures answer { result ≡ (tables_call (number_bytes 4) file.now mesh (rows vertices.old corners.old)).answer }
     ensures rows { rows vertices.new corners.new ≡
         (tables_call (number_bytes 4) file.now mesh (rows vertices.old corners.old)).rows }
 {
     match ask(file, mesh) {
-        Asked::Refused(r) => Answered::Refused(r),
+        Asked::Refused(r) => Err(r),
         Asked::At(from, to) => put_tables(&file[from..to], vertices, corners),
     }
 }

@@ -14,7 +14,7 @@ use listing_printing::{put_decimal, put_four_digits, put_text};
 use shared_numbers::put_byte;
 use shared_words::Refusal;
 use studio_list_rows::RECORD_NUMBERS;
-use studio_rules::{Checked, Counts};
+use studio_rules::Counts;
 
 // The numbers of the program's row of 1,024 records.
 const ROW: usize = 1024 * RECORD_NUMBERS;
@@ -98,8 +98,8 @@ fn put_listing(file: &[u8], out: &mut [u8; ROOM]) -> usize
 {
     let mut row = [0u32; ROW];
     match studio_list::list(file, &mut row) {
-        Checked::Refused(r) => put_refusal(r, 0, out),
-        Checked::Accepted(counts) => {
+        Err(r) => put_refusal(r, 0, out),
+        Ok(counts) => {
             let first = put_counts(file.len(), counts, 0, out);
             put_chunks(&row, counts.records, first, out)
         }

@@ -6,7 +6,7 @@ ghost use Rattle.std.specs.Prelude.{◌+◌, ◌≤◌};
 
 use shared_words::Refusal;
 use std::io;
-use studio_rules::Checked;
+use studio_rules::Counts;
 
 // The bytes of the longest file that is read.
 const LONGEST: usize = 1048576;
@@ -26,11 +26,11 @@ fn print_refusal(rt: &impl Print, r: Refusal) -> io::Result<()> {
 }
 
 // The sample's name, and the refusal or the three byte counts.
-fn print_answer(rt: &impl Print, name: &str, answer: Checked) -> io::Result<()> {
+fn print_answer(rt: &impl Print, name: &str, answer: Result<Counts, Refusal>) -> io::Result<()> {
     print!(rt; "{name}")?;
     match answer {
-        Checked::Refused(r) => print_refusal(rt, r),
-        Checked::Accepted(counts) => {
+        Err(r) => print_refusal(rt, r),
+        Ok(counts) => {
             print_field(rt, " accepted ", counts.headers)?;
             print_field(rt, " ", counts.own)?;
             print_field(rt, " ", counts.skipped)
@@ -38,7 +38,7 @@ fn print_answer(rt: &impl Print, name: &str, answer: Checked) -> io::Result<()> 
     }
 }
 
-fn show(rt: &impl Print, name: &str, answer: Checked) -> io::Result<()> {
+fn show(rt: &impl Print, name: &str, answer: Result<Counts, Refusal>) -> io::Result<()> {
     print_answer(rt, name, answer)?;
     end_line(rt)
 }
@@ -155,8 +155,8 @@ fn show_counts(rt: &impl Print, name: &str, file: &[u8; LONGEST]) -> io::Result<
     let answer = studio_check::check(file);
     print_answer(rt, name, answer)?;
     match answer {
-        Checked::Accepted(counts) => print_field(rt, " records ", counts.records)?,
-        Checked::Refused(_) => (),
+        Ok(counts) => print_field(rt, " records ", counts.records)?,
+        Err(_) => (),
     }
     end_line(rt)
 }

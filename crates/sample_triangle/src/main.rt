@@ -3,7 +3,7 @@
 
 ghost use Rattle.std.specs.Prelude.{◌≡◌, length};
 
-use shared_words::{Refusal, Written};
+use shared_words::Refusal;
 use std::io;
 
 // The upper-case digit of a number below 16.
@@ -56,7 +56,7 @@ fn main(rt: HostRuntime) -> io::Result<()> {
     let corners = [0u16, 1, 2];
     let mut out = [0u8; 86];
     match studio_write::write(&name, &vertices, &corners, &mut out) {
-        Written::Size(_) => print_triangle(&rt, &out),
-        Written::Refused(r) => print_refusal(&rt, r),
+        Ok(_) => print_triangle(&rt, &out),
+        Err(r) => print_refusal(&rt, r),
     }
 }

@@ -1,8 +1,7 @@
 -- Conditions in order: the first that does not hold is answered.
-use Rattle.std.specs.Prelude.{Bool, true, false, List, [], ◌∷◌}
+use Rattle.std.specs.Prelude.{Bool, true, false, List, [], ◌∷◌, Result, Ok, Err}
 use Rattle.std.proofs.Math.Option.{Option, none, some}
 use Rattle.shared_words.specs.declared.Refusal.{Refusal}
-use Rattle.shared_words.specs.declared.Judged.{Judged}
 
 -- what must hold, and the refusal where it does not
 pub data Condition : Type 0 where
@@ -15,11 +14,11 @@ broken (must true r ∷ cs) = broken cs
 broken (must false r ∷ cs) = some r
 
 -- what code answers of them: the first that is broken, or that none is
-abbrev pub judged_by : Option Refusal → Judged
-judged_by none = Judged.Good
-judged_by (some r) = Judged.Refused r
+abbrev pub judged_by : Option Refusal → Result Unit Refusal
+judged_by none = Ok tt
+judged_by (some r) = Err r
 
-unfoldable pub answered : List Condition → Judged
+unfoldable pub answered : List Condition → Result Unit Refusal
 answered cs = judged_by (broken cs)
 
 -- what a walk answers: a refusal, or what it has read

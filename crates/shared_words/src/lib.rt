@@ -45,16 +45,3 @@ pub enum Refusal {
     Changed(usize),
 }
 
-// What is found of something that is judged: nothing wrong, or the first refusal.
-#[derive(Clone, Copy)]
-pub enum Judged {
-    Good,
-    Refused(Refusal),
-}
-
-// What a writer answers: the size of what was written, or a refusal.
-#[derive(Clone, Copy)]
-pub enum Written {
-    Size(usize),
-    Refused(Refusal),
-}

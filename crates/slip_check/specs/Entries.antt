@@ -1,9 +1,9 @@
 -- The entries of a slip by their offsets, as the code steps over them; and what its functions promise.
-use Rattle.std.specs.Prelude.{◌≡◌, ℕ, zero, suc, ◌+◌, ◌≤◌, Bool, true, List, [], ◌∷◌, eqb, leb, length, drop, get_or}
+use Rattle.shared_words.specs.declared.Refusal.{Refusal}
+use Rattle.std.specs.Prelude.{◌≡◌, ℕ, zero, suc, ◌+◌, ◌≤◌, Bool, true, List, [], ◌∷◌, eqb, leb, length, drop, get_or, Result, Ok, Err}
 use Rattle.shared_words.specs.declared.Refusal.TheVariants.{Slip}
 use Rattle.shared_words.specs.Bytes.{be_at}
 use Rattle.shared_words.specs.Conditions.{refused, accepted}
-use Rattle.slip_rules.specs.declared.Found.{Found}
 use Rattle.slip_rules.specs.Slip.{Entry}
 use Rattle.slip_rules.specs.Rules.{is_named, sums_proper, not_twice, most_entries}
 use Rattle.slip_rules.specs.Conditions.{all_of}
@@ -67,16 +67,16 @@ unfoldable pub head_good : List ℕ → Bool
 head_good s = all_of (leb 7 (length s) ∷ eqb (get_or s 0 0) 1 ∷ eqb (5 + be_at 1 4 s) (length s) ∷ leb (be_at 5 2 s) most_entries ∷ [])
 
 -- the verdict, where the check answers r
-abbrev pub answer_as : Found → List ℕ → Entries
-answer_as (Found.Refused r) s = refused r
-answer_as (Found.Entries n) s = accepted (entries_in n s 7)
+abbrev pub answer_as : Result ℕ Refusal → List ℕ → Entries
+answer_as (Err r) s = refused r
+answer_as (Ok n) s = accepted (entries_in n s 7)
 
 -- of n entries that were read, by their names
-pub record Labels (s : List ℕ) (n : ℕ) (r : Found) : Type 0 where
+pub record Labels (s : List ℕ) (n : ℕ) (r : Result ℕ Refusal) : Type 0 where
   pub is : labelled (accepted (entries_in n s 7)) ≡ answer_as r s
-  pub count : (k : ℕ) → r ≡ Found.Entries k → k ≡ n
+  pub count : (k : ℕ) → r ≡ Ok k → k ≡ n
 
-pub record Checks (s : List ℕ) (r : Found) : Type 0 where
+pub record Checks (s : List ℕ) (r : Result ℕ Refusal) : Type 0 where
   pub is : verdict s ≡ answer_as r s
-  pub whole : (n : ℕ) → r ≡ Found.Entries n → Whole n s 7
-  pub few : (n : ℕ) → r ≡ Found.Entries n → n ≤ most_entries
+  pub whole : (n : ℕ) → r ≡ Ok n → Whole n s 7
+  pub few : (n : ℕ) → r ≡ Ok n → n ≤ most_entries

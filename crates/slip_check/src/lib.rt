@@ -10,7 +10,6 @@ use shared_big_endian::{byte_at, long_at, word_at};
 use shared_labels::fits_label;
 use shared_name_tree::add;
 use shared_words::Refusal;
-use slip_rules::Found;
 
 // What the walk over the entries answers: the place of refusal 18, or that there is none.
 #[derive(Clone, Copy)]
@@ -66,7 +65,7 @@ fn walk_entries(s: &[u8], count: usize, nodes: &mut [u32]) -> Walked
 }
 
 // The names of the entries, which are whole: where the first stands that does not fit the label, or how many there are.
-fn judge_labels(s: &[u8], count: usize) -> Found
+fn judge_labels(s: &[u8], count: usize) -> Result<usize, Refusal>
     requires { Whole count s.now 7 }
     ensures { Labels s.now count result }
 {
@@ -75,12 +74,12 @@ fn judge_labels(s: &[u8], count: usize) -> Found
     while 0 < left {
         let len = byte_at(s, o);
         if !fits_label(s, o + 1, o + 1 + len) {
-            return Found::Refused(Refusal::Text(o));
+            return Err(Refusal::Text(o));
         }
         o += 7 + len;
         left -= 1;
     }
-    Found::Entries(count)
+    Ok(count)
 }
 
 // ---- the slip
@@ -102,16 +101,16 @@ fn is_headed(s: &[u8]) -> bool
 }
 
 // The check of a slip.
-pub fn check(s: &[u8]) -> Found
+pub fn check(s: &[u8]) -> Result<usize, Refusal>
     ensures { Checks s.now result }
 {
     if !is_headed(s) {
-        return Found::Refused(Refusal::Slip(0));
+        return Err(Refusal::Slip(0));
     }
     let count = word_at(s, 5);
     let mut nodes = [0u32; 4000];
     match walk_entries(s, count, &mut nodes) {
-        Walked::Bad(place) => Found::Refused(Refusal::Slip(place)),
+        Walked::Bad(place) => Err(Refusal::Slip(place)),
         Walked::Good => judge_labels(s, count),
     }
 }

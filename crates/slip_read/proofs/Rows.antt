@@ -1,4 +1,5 @@
 -- Entries in a row of bytes: four numbers after four, and entries after others.
+use Rattle.std.specs.Prelude.{Ok, Err}
 use mathlib.Core.Path.{◌≡◌, refl, sym, ap, subst, ◌∙◌}
 use Prim.Native.Nat.{ℕ, zero, suc, ◌+◌, ◌-◌, ◌*◌, ◌/◌, ◌<◌, ◌≤◌}
 use native.Mathlib.Omega.{arith}
@@ -12,7 +13,6 @@ use Rattle.shared_numbers.specs.Put.{Put}
 use Rattle.shared_numbers.proofs.At.{head_is}
 use Rattle.shared_numbers.proofs.Put.{put_then, put-sets, sets_append}
 use Rattle.slip_rules.specs.declared.Numbers.{Numbers}
-use Rattle.slip_rules.specs.declared.Found.{Found}
 use Rattle.shared_words.specs.Bytes.{le, packed, value_be, be_at}
 use Rattle.shared_words.specs.Conditions.{refused, accepted}
 use Rattle.shared_words.specs.Effects.{leaving, filled}
@@ -106,20 +106,20 @@ length-rows o [] = refl
 length-rows o (e ∷ es) = omega (arith, length-rows (behind o e) es)
 
 module _ (s row : List ℕ) where
-  pub read-refused : (r : Refusal) → verdict s ≡ refused r → slip_read_call byte_row s row ≡ leaving (Found.Refused r) row
+  pub read-refused : (r : Refusal) → verdict s ≡ refused r → slip_read_call byte_row s row ≡ leaving (Err r) row
   unfolding slip_read_call
   read-refused r e = rw e
 
   module _ (n : ℕ) (e : verdict s ≡ accepted (entries_in n s 7)) where
-    pub read_small : length row / 16 < n → slip_read_call byte_row s row ≡ leaving (Found.Refused (NoRoom n)) row
+    pub read_small : length row / 16 < n → slip_read_call byte_row s row ≡ leaving (Err (NoRoom n)) row
     unfolding slip_read_call
     read_small l = rw (e, length-entries n s 7, lt-leb n (length row / 16) l)
 
-    pub read-filled : n ≤ length row / 16 → slip_read_call byte_row s row ≡ leaving (Found.Entries n) (sets row 0 (packed 4 (flat (all_numbers 7 (entries_in n s 7)))))
+    pub read-filled : n ≤ length row / 16 → slip_read_call byte_row s row ≡ leaving (Ok n) (sets row 0 (packed 4 (flat (all_numbers 7 (entries_in n s 7)))))
     unfolding slip_read_call
     read-filled l =
         let new = packed 4 (flat (all_numbers 7 (entries_in n s 7))) in
         let k : length new ≡ 16 * n = length-rows 7 (entries_in n s 7) ∙ ap (λ (x : ℕ). 16 * x) (length-entries n s 7) in
         let z : 0 + length new ≡ length new = omega arith in
         let f : sets row 0 new ≡ filled new row = sets-eq new row 0 (omega arith) ∙ ap (λ (x : ℕ). new ++ drop x row) z in
-        rw (e, length-entries n s 7, le-leb n (length row / 16) l) (ap (leaving (Found.Entries n)) (sym f))
+        rw (e, length-entries n s 7, le-leb n (length row / 16) l) (ap (leaving (Ok n)) (sym f))

@@ -12,7 +12,6 @@ use shared_big_endian::{byte_at, long_at};
 use shared_numbers::put_long;
 use shared_words::Refusal;
 use slip_check::check;
-use slip_rules::Found;
 
 // Puts the four numbers of the entry at an offset, and answers the position behind them.
 fn put_entry(s: &[u8], o: usize, at: usize, row: &mut [u8]) -> usize
@@ -46,18 +45,18 @@ fn fill(s: &[u8], count: usize, row: &mut [u8])
 
 // The entries of a slip, in order, into a lent row whose room is counted in whole entries. Answers how many there are, or
 // the refusal; a refusal leaves the row as it was.
-pub fn read(slip: &[u8], row: &mut [u8]) -> Found
+pub fn read(slip: &[u8], row: &mut [u8]) -> Result<usize, Refusal>
     ensures answer { result ≡ (slip_read_call byte_row slip.now row.old).answer }
     ensures row { row.new ≡ (slip_read_call byte_row slip.now row.old).rows }
 {
     match check(slip) {
-        Found::Refused(r) => Found::Refused(r),
-        Found::Entries(n) => {
+        Err(r) => Err(r),
+        Ok(n) => {
             if row.len() / 16 < n {
-                return Found::Refused(Refusal::NoRoom(n));
+                return Err(Refusal::NoRoom(n));
             }
             fill(slip, n, row);
-            Found::Entries(n)
+            Ok(n)
         }
     }
 }

@@ -1,6 +1,7 @@
 -- The writer: what it writes reads back, and what is read is written again as it was.
 -- Its conditions are the rules of the entries that its numbers stand for; and the numbers of a slip's entries stand for
 -- those entries, with the slip itself as the names.
+use Rattle.std.specs.Prelude.{Ok, Err}
 use mathlib.Core.Path.{◌≡◌, refl, sym, ap, ap₂, subst, ◌∙◌}
 use Prim.Native.Nat.{ℕ, suc, ◌+◌, ◌*◌, ◌/◌, ◌%◌, ◌≤◌}
 use native.Mathlib.Omega.{arith}
@@ -20,7 +21,6 @@ use Rattle.shared_words.specs.Lists.{All}
 use Rattle.shared_words.proofs.Bools.{and_parts}
 use Rattle.shared_words.proofs.Conditions.{Met, met, unbroken}
 use Rattle.slip_rules.specs.declared.Numbers.{Numbers}
-use Rattle.shared_words.specs.declared.Written.{Written}
 use Rattle.slip_rules.specs.Slip.{Entry, behind_name, entry_bytes, all_bytes, rest, bytes}
 use Rattle.slip_rules.specs.Rules.{sums_proper, remember, most_entries, AllLawful, Meets}
 use Rattle.slip_rules.specs.Conditions.{entry_conditions}
@@ -67,11 +67,11 @@ reads-back names entries out b size = test (broken (write_conditions names g (le
     new : List ℕ
     new = bytes (entries_from names g.rows)
 
-    test : (r : Option Refusal) → broken (write_conditions names g (length out)) ≡ r → (write_of new out r).answer ≡ Written.Size size →
+    test : (r : Option Refusal) → broken (write_conditions names g (length out)) ≡ r → (write_of new out r).answer ≡ Ok size →
         verdict (take size (write_of new out r).rows) ≡ accepted (entries_from names g.rows)
     test (some r) q a = absurd (never a)
       where
-        never : Written.Refused r ≡ Written.Size size → ⊥
+        never : Err r ≡ Ok size → ⊥
         never a = let z : ◌≡◌ {A = ℕ} 0 1 = cc in omega arith
     test none q a =
         let n : length new ≡ size = cc in
@@ -159,11 +159,11 @@ module _ (es : List Entry) (m : Meets (bytes es) es) (out : List ℕ) (l : lengt
       rows_back es [] 0 (seven es) _ m.lawful (omega arith)
       (refl, rw entries_are (met_labels one_on _ 0 es m.labelled (le-leb (length (bytes es)) (length out) l, tt)))
 
-  good-back : slip_write_call (bytes es) (whole (all_numbers 7 es)) out ≡ leaving (Written.Size (length (bytes es))) (filled (bytes es) out)
+  good-back : slip_write_call (bytes es) (whole (all_numbers 7 es)) out ≡ leaving (Ok (length (bytes es))) (filled (bytes es) out)
   unfolding slip_write_call
   good-back =
       let q : broken (write_conditions (bytes es) (whole (all_numbers 7 es)) (length out)) ≡ none = unbroken _ conditions-back in
-      rw q (ap (λ (x : List Entry). leaving (Written.Size (length (bytes x))) (filled (bytes x) out)) entries_are)
+      rw q (ap (λ (x : List Entry). leaving (Ok (length (bytes x))) (filled (bytes x) out)) entries_are)
 
 pub writes_back : WritesBack
 writes_back s h es a out l =
@@ -173,4 +173,4 @@ writes_back s h es a out l =
     let n = given_back (all_numbers 7 es) (all_small es [] 7 m.lawful (omega arith)) in
     let g = good-back es record { is = refl; few = m.few; lawful = m.lawful; labelled = m.labelled } out (omega (arith, ap length e)) in
     ap (λ (x : Given). slip_write_call s x out) n ∙
-    subst (λ (x : List ℕ). slip_write_call x (whole (all_numbers 7 es)) out ≡ leaving (Written.Size (length x)) (filled x out)) e g
+    subst (λ (x : List ℕ). slip_write_call x (whole (all_numbers 7 es)) out ≡ leaving (Ok (length x)) (filled x out)) e g

@@ -1,4 +1,5 @@
 -- The answers are small, as there are at most 1,000 entries of at most 70 bytes.
+use Rattle.std.specs.Prelude.{Result, Ok, Err}
 use mathlib.Core.Path.{◌≡◌, refl, subst}
 use Prim.Native.Nat.{ℕ, ◌+◌, ◌*◌, ◌≤◌}
 use native.Mathlib.Omega.{arith}
@@ -19,8 +20,6 @@ use Rattle.shared_words.specs.Encodings.{Encoding}
 use Rattle.shared_words.proofs.Bools.{and_parts}
 use Rattle.shared_words.proofs.Conditions.{met}
 use Rattle.slip_rules.specs.declared.Numbers.{Numbers}
-use Rattle.slip_rules.specs.declared.Found.{Found}
-use Rattle.shared_words.specs.declared.Written.{Written}
 use Rattle.slip_rules.specs.Slip.{Entry, behind_name, entry_bytes, all_bytes, bytes}
 use Rattle.slip_rules.specs.Rules.{is_labelled, most_entries, Meets}
 use Rattle.slip_rules.specs.Walk.{Entries, verdict}
@@ -32,16 +31,16 @@ use Rattle.slip_rules.proofs.Again.{written-meets}
 
 -- ---- entries
 
-abbrev Few : Found → Type 0
-Few (Found.Entries n) = n ≤ most_entries
-Few (Found.Refused r) = Unit
+abbrev Few : Result ℕ Refusal → Type 0
+Few (Ok n) = n ≤ most_entries
+Few (Err r) = Unit
 
 read-few : (c : Encoding Numbers ℕ) (s row : List ℕ) → Bytes s → Few (slip_read_call c s row).answer
 unfolding slip_read_call
 read-few c s row b = go (verdict s) refl
   where
     room : (es : List Entry) → length es ≤ most_entries → (t : Bool) →
-        Few (cond t (leaving (Found.Entries (length es)) (filled (c.encode (all_numbers 7 es)) row)) (leaving (Found.Refused (NoRoom (length es))) row)).answer
+        Few (cond t (leaving (Ok (length es)) (filled (c.encode (all_numbers 7 es)) row)) (leaving (Err (NoRoom (length es))) row)).answer
     room es l true = l
     room es l false = tt
 
@@ -54,9 +53,9 @@ few-entries c s row n b e = subst Few e (read-few c s row b)
 
 -- ---- sizes
 
-abbrev Short : Written → Type 0
-Short (Written.Size n) = n ≤ 7 + 70 * most_entries
-Short (Written.Refused r) = Unit
+abbrev Short : Result ℕ Refusal → Type 0
+Short (Ok n) = n ≤ 7 + 70 * most_entries
+Short (Err r) = Unit
 
 -- a name that fits the label has at most 63 bytes
 label_short : (name : List ℕ) → fits_label name ≡ true → length name ≤ 63

@@ -1,5 +1,5 @@
 -- What the two calls answer and leave in the lent rows, for every slip, row and names.
-use Rattle.std.specs.Prelude.{ℕ, zero, suc, ◌+◌, ◌*◌, ◌/◌, ◌%◌, Bool, false, not, cond, List, [], ◌∷◌, eqb, ltb, leb, length, take, drop}
+use Rattle.std.specs.Prelude.{ℕ, zero, suc, ◌+◌, ◌*◌, ◌/◌, ◌%◌, Bool, false, not, cond, List, [], ◌∷◌, eqb, ltb, leb, length, take, drop, Result, Ok, Err}
 use Rattle.std.proofs.Math.Option.{Option, none, some}
 use Rattle.shared_words.specs.declared.Refusal.{Refusal}
 use Rattle.shared_words.specs.declared.Refusal.TheVariants.{Slip, NoRoom}
@@ -8,8 +8,6 @@ use Rattle.shared_words.specs.Conditions.{Condition, must, broken, refused, acce
 use Rattle.shared_words.specs.Effects.{Effect, leaving, filled}
 use Rattle.shared_words.specs.Encodings.{Encoding}
 use Rattle.slip_rules.specs.declared.Numbers.{Numbers}
-use Rattle.slip_rules.specs.declared.Found.{Found}
-use Rattle.shared_words.specs.declared.Written.{Written}
 use Rattle.slip_rules.specs.Slip.{Entry, bytes}
 use Rattle.slip_rules.specs.Rules.{remember, most_entries}
 use Rattle.slip_rules.specs.Conditions.{entry_conditions, label_conditions}
@@ -44,14 +42,14 @@ byte_row = record { room = λ n. n / 16; encode = λ ns. packed 4 (flat ns) }
 
 -- ---- reading
 
-abbrev pub read_of : Encoding Numbers ℕ → List ℕ → Entries → Effect Found (List ℕ)
-read_of c row (refused r) = leaving (Found.Refused r) row
+abbrev pub read_of : Encoding Numbers ℕ → List ℕ → Entries → Effect (Result ℕ Refusal) (List ℕ)
+read_of c row (refused r) = leaving (Err r) row
 read_of c row (accepted es) =
     cond (leb (length es) (c.room (length row)))
-    (leaving (Found.Entries (length es)) (filled (c.encode (all_numbers 7 es)) row))
-    (leaving (Found.Refused (NoRoom (length es))) row)
+    (leaving (Ok (length es)) (filled (c.encode (all_numbers 7 es)) row))
+    (leaving (Err (NoRoom (length es))) row)
 
-unfoldable pub slip_read_call : Encoding Numbers ℕ → List ℕ → List ℕ → Effect Found (List ℕ)
+unfoldable pub slip_read_call : Encoding Numbers ℕ → List ℕ → List ℕ → Effect (Result ℕ Refusal) (List ℕ)
 slip_read_call c s row = read_of c row (verdict s)
 
 -- ---- what the writer is given: the numbers of entries, and whether a part of one more stands behind them
@@ -100,9 +98,9 @@ write_conditions names g room =
     label_conditions one_on 0 (entries_from names g.rows) (
     must (leb (length (bytes (entries_from names g.rows))) room) (NoRoom (length (bytes (entries_from names g.rows)))) ∷ []))
 
-abbrev pub write_of : List ℕ → List ℕ → Option Refusal → Effect Written (List ℕ)
-write_of new out (some r) = leaving (Written.Refused r) out
-write_of new out none = leaving (Written.Size (length new)) (filled new out)
+abbrev pub write_of : List ℕ → List ℕ → Option Refusal → Effect (Result ℕ Refusal) (List ℕ)
+write_of new out (some r) = leaving (Err r) out
+write_of new out none = leaving (Ok (length new)) (filled new out)
 
-unfoldable pub slip_write_call : List ℕ → Given → List ℕ → Effect Written (List ℕ)
+unfoldable pub slip_write_call : List ℕ → Given → List ℕ → Effect (Result ℕ Refusal) (List ℕ)
 slip_write_call names g out = write_of (bytes (entries_from names g.rows)) out (broken (write_conditions names g (length out)))

@@ -1,12 +1,11 @@
 -- Worked slips: the empty one, one of two entries, and one for each refusal. (The answers are those of an independent
 -- reader and writer.)
-use Rattle.std.specs.Prelude.{◌≡◌, ℕ, List, [], ◌∷◌, ◌++◌, take, set, replicate}
+use Rattle.shared_words.specs.declared.Refusal.{Refusal}
+use Rattle.std.specs.Prelude.{◌≡◌, ℕ, List, [], ◌∷◌, ◌++◌, take, set, replicate, Result, Ok, Err}
 use Rattle.shared_words.specs.declared.Refusal.TheVariants.{NoRoom}
 use Rattle.shared_words.specs.Refusals.{Code, code_of}
 use Rattle.shared_words.specs.Bytes.{packed}
 use Rattle.shared_words.specs.Effects.{leaving}
-use Rattle.slip_rules.specs.declared.Found.{Found}
-use Rattle.shared_words.specs.declared.Written.{Written}
 use Rattle.slip_rules.specs.Calls.{byte_row, slip_read_call, given_bytes, slip_write_call}
 
 -- the smallest slip
@@ -38,13 +37,13 @@ pub data Shown : Type 0 where
 abbrev pub shown_code : Code → Shown
 shown_code c = no c.number c.place
 
-abbrev pub found_shown : Found → Shown
-found_shown (Found.Entries n) = yes n
-found_shown (Found.Refused r) = shown_code (code_of r)
+abbrev pub found_shown : Result ℕ Refusal → Shown
+found_shown (Ok n) = yes n
+found_shown (Err r) = shown_code (code_of r)
 
-abbrev pub written_shown : Written → Shown
-written_shown (Written.Size n) = yes n
-written_shown (Written.Refused r) = shown_code (code_of r)
+abbrev pub written_shown : Result ℕ Refusal → Shown
+written_shown (Ok n) = yes n
+written_shown (Err r) = shown_code (code_of r)
 
 -- a slip read into a row with room for three entries, and names and numbers written into a buffer of 30 bytes
 abbrev pub read : List ℕ → Shown
@@ -56,7 +55,7 @@ write names ns = written_shown (slip_write_call names (given_bytes (packed 4 ns)
 pub record Samples : Type 0 where
   -- reading
   pub empty-read : read empty ≡ yes 0
-  pub two-read : slip_read_call byte_row two (replicate 33 7) ≡ leaving (Found.Entries 2) (packed 4 two_numbers ++ (7 ∷ []))
+  pub two-read : slip_read_call byte_row two (replicate 33 7) ≡ leaving (Ok 2) (packed 4 two_numbers ++ (7 ∷ []))
   pub short : read (take 6 empty) ≡ no 18 0
   pub version : read (set two 0 2) ≡ no 18 0
   pub length-field : read (set two 4 18) ≡ no 18 0
@@ -69,10 +68,10 @@ pub record Samples : Type 0 where
   pub name_twice : read (1 ∷ 0 ∷ 0 ∷ 0 ∷ 18 ∷ 0 ∷ 2 ∷ 1 ∷ 0x61 ∷ 0 ∷ 0 ∷ 0 ∷ 0 ∷ 0 ∷ 0 ∷ 1 ∷ 0x61 ∷ 0 ∷ 0 ∷ 0 ∷ 0 ∷ 0 ∷ 0 ∷ []) ≡ no 18 15
   pub text : read (set two 17 31) ≡ no 24 15
   pub text-after-slip : read (set (set two 8 31) 22 255) ≡ no 18 15
-  pub room_last : slip_read_call byte_row two (replicate 31 0) ≡ leaving (Found.Refused (NoRoom 2)) (replicate 31 0)
+  pub room_last : slip_read_call byte_row two (replicate 31 0) ≡ leaving (Err (NoRoom 2)) (replicate 31 0)
   -- writing
-  pub two-written : slip_write_call names (given_bytes (packed 4 given)) (replicate 30 7) ≡ leaving (Written.Size 24) (two ++ replicate 6 7)
-  pub two-again : slip_write_call two (given_bytes (packed 4 two_numbers)) (replicate 24 7) ≡ leaving (Written.Size 24) two
+  pub two-written : slip_write_call names (given_bytes (packed 4 given)) (replicate 30 7) ≡ leaving (Ok 24) (two ++ replicate 6 7)
+  pub two-again : slip_write_call two (given_bytes (packed 4 two_numbers)) (replicate 24 7) ≡ leaving (Ok 24) two
   pub outside-names : write names (set given 5 3) ≡ no 18 1
   pub sums_255 : write names (set given 3 255) ≡ no 18 0
   pub sums_large : write names (set given 3 65536) ≡ no 18 0
@@ -80,4 +79,4 @@ pub record Samples : Type 0 where
   pub twice_written : write (0x61 ∷ 0x61 ∷ []) (set given 5 1) ≡ no 18 1
   pub text-written : write (0x61 ∷ 0x62 ∷ 127 ∷ []) given ≡ no 24 1
   pub text-after-part : write (31 ∷ 0x62 ∷ 0x63 ∷ []) (take 7 given) ≡ no 18 1
-  pub room-written : slip_write_call names (given_bytes (packed 4 given)) (replicate 23 7) ≡ leaving (Written.Refused (NoRoom 24)) (replicate 23 7)
+  pub room-written : slip_write_call names (given_bytes (packed 4 given)) (replicate 23 7) ≡ leaving (Err (NoRoom 24)) (replicate 23 7)

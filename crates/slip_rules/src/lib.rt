@@ -13,9 +13,3 @@ pub struct Numbers {
     pub sums: u32,
 }
 
-// What a slip read answers: how many entries it has.
-#[derive(Clone, Copy)]
-pub enum Found {
-    Entries(usize),
-    Refused(Refusal),
-}

@@ -1,4 +1,5 @@
 -- What passes against an entry.
+use Rattle.std.specs.Prelude.{Ok}
 use mathlib.Core.Path.{◌≡◌, refl, sym, ap, ◌∙◌}
 use mathlib.Core.Bool.{Bool, true, false}
 use mathlib.Core.List.{flatten}
@@ -8,28 +9,27 @@ use lib.Dec.{eqb}
 use lib.ListN.{length}
 use borrow.Author.Tests.{eq-eqb, ne_eqb, eqb-true, eqb-false}
 use Rattle.slip_sums.specs.declared.Sum.{Sum}
-use Rattle.slip_sums.specs.declared.Matched.TheVariants.{Same}
 use Rattle.slip_sums.specs.Fletcher.{sum_of}
 use Rattle.slip_sums.specs.Passes.{length_fault, other_sums, match_of, PassesExactly, SamePartByPart}
 use Rattle.slip_sums.proofs.Remainders.{sum_same}
 use Rattle.slip_sums.proofs.Joined.{part-by-part}
 
 -- the same sums pass
-passes : (a : Sum) → match_of a a.len a.first a.second ≡ Same
+passes : (a : Sum) → match_of a a.len a.first a.second ≡ (Ok tt)
 passes a = rw (eq-eqb a.len a.len refl, eq-eqb a.first a.first refl, eq-eqb a.second a.second refl)
 
 -- and no others
-same : (a b : Sum) → match_of a b.len b.first b.second ≡ Same → a ≡ b
+same : (a b : Sum) → match_of a b.len b.first b.second ≡ (Ok tt) → a ≡ b
 same a b = go (eqb a.len b.len) refl (eqb a.first b.first) refl (eqb a.second b.second) refl
   where
-    other_length : length_fault ≡ Same → ⊥
+    other_length : length_fault ≡ (Ok tt) → ⊥
     other_length p = let z : ◌≡◌ {A = ℕ} 0 1 = cc in omega arith
 
-    other_sums_lem : other_sums ≡ Same → ⊥
+    other_sums_lem : other_sums ≡ (Ok tt) → ⊥
     other_sums_lem p = let z : ◌≡◌ {A = ℕ} 0 1 = cc in omega arith
 
     go : (t : Bool) → eqb a.len b.len ≡ t → (u : Bool) → eqb a.first b.first ≡ u → (v : Bool) → eqb a.second b.second ≡ v →
-        match_of a b.len b.first b.second ≡ Same → a ≡ b
+        match_of a b.len b.first b.second ≡ (Ok tt) → a ≡ b
     go true e true f true g p = sum_same (eqb-true _ _ e) (eqb-true _ _ f) (eqb-true _ _ g)
     go true e true f false g p = absurd (other_sums_lem (rw (e, f, g) at p))
     go true e false f v g p = absurd (other_sums_lem (rw (e, f) at p))

@@ -1,7 +1,6 @@
 -- Worked cases: well-known sums of short texts, files against entries (19), and damage that is missed.
-use Rattle.std.specs.Prelude.{◌≡◌, List, [], ◌∷◌, ◌++◌, ℕ, replicate}
+use Rattle.std.specs.Prelude.{◌≡◌, List, [], ◌∷◌, ◌++◌, ℕ, replicate, Ok}
 use Rattle.slip_sums.specs.declared.Sum.{Sum}
-use Rattle.slip_sums.specs.declared.Matched.TheVariants.{Same}
 use Rattle.slip_sums.specs.Fletcher.{sum_of}
 use Rattle.slip_sums.specs.Passes.{length_fault, other_sums, against}
 
@@ -20,7 +19,7 @@ pub record Samples : Type 0 where
   pub turned_round : sum_of (0x62 ∷ 0x61 ∷ []) ≡ sum 2 0xC3 0x26
   pub in_order : sum_of (0x61 ∷ 0x62 ∷ []) ≡ sum 2 0xC3 0x25
   -- against an entry: the file itself; one byte more, which is 19 at 0; two bytes exchanged, which is 19 at 1
-  pub passes : against abcde (sum 5 0xF0 0xC8) ≡ Same
+  pub passes : against abcde (sum 5 0xF0 0xC8) ≡ (Ok tt)
   pub one_more : against (abcde ++ (0 ∷ [])) (sum 5 0xF0 0xC8) ≡ length_fault
   pub exchanged : against (0x62 ∷ 0x61 ∷ []) (sum 2 0xC3 0x25) ≡ other_sums
   -- a byte 0 turned into 255

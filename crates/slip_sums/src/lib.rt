@@ -17,20 +17,6 @@ pub struct Sum {
     pub second: u64,
 }
 
-// What the making of an entry answers.
-#[derive(Clone, Copy)]
-pub enum Summed {
-    Sums(Sum),
-    Refused(Refusal),
-}
-
-// What the check of a file against an entry answers.
-#[derive(Clone, Copy)]
-pub enum Matched {
-    Same,
-    Refused(Refusal),
-}
-
 // The two sums of a few bytes, before the remainders are taken.
 #[derive(Clone, Copy)]
 struct Totals {
@@ -103,13 +89,13 @@ pub fn sums(file: &[u8]) -> Sum
 }
 
 // The sum of a file that is to be entered in a slip.
-pub fn entry_sums(file: &[u8]) -> Summed
+pub fn entry_sums(file: &[u8]) -> Result<Sum, Refusal>
     ensures { result ≡ sums_call file.now }
 {
     if 1048576 < file.len() {
-        return Summed::Refused(Refusal::TooLong);
+        return Err(Refusal::TooLong);
     }
-    Summed::Sums(sums(file))
+    Ok(sums(file))
 }
 
 // ---- part by part
@@ -151,17 +137,17 @@ pub fn with_part(before: Sum, part: &[u8]) -> Sum
 // ---- against an entry
 
 // Whether the file of a sum is the one of an entry, as far as length and sums tell.
-pub fn matches(sum: Sum, len: u64, first: u64, second: u64) -> Matched
+pub fn matches(sum: Sum, len: u64, first: u64, second: u64) -> Result<(), Refusal>
     ensures { result ≡ match_of sum len first second }
 {
     if sum.len != len {
-        return Matched::Refused(Refusal::Differs(0));
+        return Err(Refusal::Differs(0));
     }
     if sum.first != first {
-        return Matched::Refused(Refusal::Differs(1));
+        return Err(Refusal::Differs(1));
     }
     if sum.second != second {
-        return Matched::Refused(Refusal::Differs(1));
+        return Err(Refusal::Differs(1));
     }
-    Matched::Same
+    Ok(())
 }

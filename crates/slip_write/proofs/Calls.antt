@@ -1,4 +1,5 @@
 -- The writer's answer, by what the judgement answers; and what is known once it answers a size.
+use Rattle.std.specs.Prelude.{Result, Ok, Err}
 use mathlib.Core.Path.{◌≡◌, refl, sym, ap, subst, ◌∙◌}
 use Prim.Native.Nat.{ℕ, suc, ◌+◌, ◌-◌, ◌*◌, ◌/◌, ◌≤◌}
 use native.Mathlib.Omega.{arith}
@@ -17,7 +18,6 @@ use Rattle.shared_words.proofs.Conditions.{Met, met}
 use Rattle.shared_numbers.specs.Put.{Put}
 use Rattle.shared_numbers.proofs.Put.{put_then}
 use Rattle.slip_rules.specs.declared.Numbers.{Numbers}
-use Rattle.shared_words.specs.declared.Written.{Written}
 use Rattle.slip_rules.specs.Slip.{behind_name, entry_bytes, all_bytes, rest, bytes}
 use Rattle.slip_rules.specs.Rules.{remember, most_entries}
 use Rattle.slip_rules.specs.Calls.{entry_from, entries_from, given_bytes, row_conditions, one_on, write_conditions, slip_write_call}
@@ -69,10 +69,10 @@ ready-short {names} {s} r =
 -- ---- the answer
 
 module _ (names s out : List ℕ) where
-  abbrev pub WriteIs : Written → Type 0
-  WriteIs (Written.Refused r) = slip_write_call names (given_bytes s) out ≡ leaving (Written.Refused r) out
-  WriteIs (Written.Size size) =
-      Ready names s size (length out) × (slip_write_call names (given_bytes s) out ≡ leaving (Written.Size size) (filled (bytes (entries_from names (given_bytes s).rows)) out))
+  abbrev pub WriteIs : Result ℕ Refusal → Type 0
+  WriteIs (Err r) = slip_write_call names (given_bytes s) out ≡ leaving (Err r) out
+  WriteIs (Ok size) =
+      Ready names s size (length out) × (slip_write_call names (given_bytes s) out ≡ leaving (Ok size) (filled (bytes (entries_from names (given_bytes s).rows)) out))
 
   pub write-is : WriteIs (judged names (given_bytes s) (length out))
   unfolding slip_write_call judged

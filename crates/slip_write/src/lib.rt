@@ -12,9 +12,9 @@ ghost use Rattle.slip_write.specs.Ready.{Fitting, Ready};
 use shared_big_endian::{put_long, put_word};
 use shared_copy::put_part;
 use shared_numbers::put_byte;
-use shared_words::Written;
 use slip_rules::Numbers;
 use slip_write_judge::{judge, row};
+use shared_words::Refusal;
 
 // One entry.
 fn put_entry(names: &[u8], it: Numbers, at: usize, out: &mut [u8]) -> usize
@@ -57,15 +57,15 @@ fn put_slip(names: &[u8], entries: &[u8], size: usize, out: &mut [u8]) -> usize
 
 // Writes a slip of the entries given, whose names stand in `names`. Answers its size, or the refusal; a refusal leaves the
 // buffer as it was.
-pub fn write(names: &[u8], entries: &[u8], out: &mut [u8]) -> Written
+pub fn write(names: &[u8], entries: &[u8], out: &mut [u8]) -> Result<usize, Refusal>
     ensures answer { result ≡ (slip_write_call names.now (given_bytes entries.now) out.old).answer }
     ensures out { out.new ≡ (slip_write_call names.now (given_bytes entries.now) out.old).rows }
 {
     match judge(names, entries, out.len()) {
-        Written::Refused(r) => Written::Refused(r),
-        Written::Size(size) => {
+        Err(r) => Err(r),
+        Ok(size) => {
             put_slip(names, entries, size, out);
-            Written::Size(size)
+            Ok(size)
         }
     }
 }

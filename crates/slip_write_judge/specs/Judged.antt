@@ -1,21 +1,20 @@
 -- What the writer's judgement answers, before a byte is written.
-use Rattle.std.specs.Prelude.{◌≡◌, ℕ, ◌/◌, List, [], length}
+use Rattle.std.specs.Prelude.{◌≡◌, ℕ, ◌/◌, List, [], length, Result, Ok, Err}
 use Rattle.std.proofs.Math.Option.{Option, none, some}
 use Rattle.shared_words.specs.declared.Refusal.{Refusal}
 use Rattle.shared_words.specs.declared.Refusal.TheVariants.{Slip}
 use Rattle.shared_words.specs.Conditions.{Condition, broken}
-use Rattle.shared_words.specs.declared.Written.{Written}
 use Rattle.slip_rules.specs.Slip.{bytes}
 use Rattle.slip_rules.specs.Calls.{entries_from, Given, given_bytes, row_conditions, write_conditions}
 use Rattle.slip_write_judge.specs.Rows.{AllInside}
 use Rattle.slip_write_judge.specs.declared.Judged.{Judged}
 
 -- the refusal, or the size of the slip
-abbrev pub size_unless : ℕ → Option Refusal → Written
-size_unless size (some r) = Written.Refused r
-size_unless size none = Written.Size size
+abbrev pub size_unless : ℕ → Option Refusal → Result ℕ Refusal
+size_unless size (some r) = Err r
+size_unless size none = Ok size
 
-unfoldable pub judged : List ℕ → Given → ℕ → Written
+unfoldable pub judged : List ℕ → Given → ℕ → Result ℕ Refusal
 judged names g room = size_unless (length (bytes (entries_from names g.rows))) (broken (write_conditions names g room))
 
 -- of the rows alone: the first that is bad, or that all are good and how long the slip is

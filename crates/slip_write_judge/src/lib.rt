@@ -14,7 +14,7 @@ ghost use Rattle.slip_write_judge.specs.Judged.{judged, JudgesRows};
 use shared_labels::fits_label;
 use shared_name_tree::add;
 use shared_numbers::long_at;
-use shared_words::{Refusal, Written};
+use shared_words::Refusal;
 use slip_rules::Numbers;
 
 // What the judgement of the rows alone answers: the number of the first bad one, or the size of the slip.
@@ -102,25 +102,25 @@ fn first_unfit(names: &[u8], entries: &[u8], n: usize) -> usize
 }
 
 // The judgement of all, for a buffer of `room` bytes.
-pub fn judge(names: &[u8], entries: &[u8], room: usize) -> Written
+pub fn judge(names: &[u8], entries: &[u8], room: usize) -> Result<usize, Refusal>
     ensures { result ≡ judged names.now (given_bytes entries.now) room }
 {
     let mut nodes = [0u32; 4000];
     match judge_rows(names, entries, &mut nodes) {
-        Judged::Bad(i) => Written::Refused(Refusal::Slip(i)),
+        Judged::Bad(i) => Err(Refusal::Slip(i)),
         Judged::Good(size) => {
             if entries.len() % 16 != 0 {
-                return Written::Refused(Refusal::Slip(entries.len() / 16));
+                return Err(Refusal::Slip(entries.len() / 16));
             }
             let n = entries.len() / 16;
             let unfit = first_unfit(names, entries, n);
             if unfit < n {
-                return Written::Refused(Refusal::Text(unfit));
+                return Err(Refusal::Text(unfit));
             }
             if room < size {
-                return Written::Refused(Refusal::NoRoom(size));
+                return Err(Refusal::NoRoom(size));
             }
-            Written::Size(size)
+            Ok(size)
         }
     }
 }

@@ -1,4 +1,5 @@
 -- Items one after another, and then the entries, as loops judge them: after some that are in order, the conditions of the rest answer for all.
+use Rattle.std.specs.Prelude.{Result, Ok, Err}
 use mathlib.Core.Path.{◌≡◌, refl, sym, ap, ◌∙◌}
 use mathlib.Core.Bool.{true, false}
 use mathlib.Core.List.{List, [], ◌++◌, tail}
@@ -10,7 +11,6 @@ use lib.Seq.{drop-cons}
 use Rattle.slip_rules.specs.Slip.{Entry}
 use Rattle.shared_words.specs.declared.Refusal.{Refusal}
 use Rattle.shared_words.specs.declared.Refusal.TheVariants.{Absent}
-use Rattle.shared_words.specs.declared.Judged.{Judged}
 use Rattle.shared_words.specs.Conditions.{answered, broken}
 use Rattle.stick_rules.proofs.Answers.{never, goes_on, stops}
 use Rattle.stick_rules.specs.Items.{Item}
@@ -35,12 +35,12 @@ module _ (es : List Entry) (names s flags₀ : List ℕ) where
       let e : tail (items_in names s) ≡ items_from (n - 1) names s 1 = rw q (ap tail (items_step (item_count s) names s 0 (omega arith))) in
       record { few = l; long = refl; matched = []; marks = m; goes = rw e; meets = rw e }
 
-  module _ (n : ℕ) (flags : List ℕ) (i : ℕ) (g : Going n flags i) (l : i < n) (r : Judged) (flags' : List ℕ)
+  module _ (n : ℕ) (flags : List ℕ) (i : ℕ) (g : Going n flags i) (l : i < n) (r : Result Unit Refusal) (flags' : List ℕ)
       (j : JudgesItem es i (item_no names s i) flags r flags') where
     abbrev rest : List Item
     rest = items_from (n - i - 1) names s (i + 1)
 
-    abbrev cs : List Item → Judged
+    abbrev cs : List Item → Result Unit Refusal
     cs ts = answered (items_conditions es g.matched i ts)
 
     going_step : answered (items_conditions es [] 1 (tail (items_in names s))) ≡
@@ -52,7 +52,7 @@ module _ (es : List Entry) (names s flags₀ : List ℕ) where
     unfolding matched_by
     meets-step = g.meets ∙ ap (matched_by es g.matched) (items_step (n - i) names s i (omega arith))
 
-    pub going_bad : (p : Refusal) → r ≡ Judged.Refused p → JudgesItems es (tail (items_in names s)) flags₀ (Judged.Refused p) flags'
+    pub going_bad : (p : Refusal) → r ≡ Err p → JudgesItems es (tail (items_in names s)) flags₀ (Err p) flags'
     going_bad p q =
         let k = j.judges g.matched g.marks in
         record {
@@ -60,7 +60,7 @@ module _ (es : List Entry) (names s flags₀ : List ℕ) where
           judges = λ _. record { is = sym (going_step ∙ stops _ _ p (sym k.is ∙ q)); marks = never p };
         }
 
-    pub going_on : r ≡ Judged.Good → Going n flags' (i + 1)
+    pub going_on : r ≡ (Ok tt) → Going n flags' (i + 1)
     going_on q =
         let k = j.judges g.matched g.marks in
         let z : n - (i + 1) ≡ n - i - 1 = omega arith in
@@ -73,7 +73,7 @@ module _ (es : List Entry) (names s flags₀ : List ℕ) where
           meets = meets-step ∙ rw z;
         }
 
-  pub going_end : (n : ℕ) (flags : List ℕ) (i : ℕ) → Going n flags i → n ≤ i → JudgesItems es (tail (items_in names s)) flags₀ Judged.Good flags
+  pub going_end : (n : ℕ) (flags : List ℕ) (i : ℕ) → Going n flags i → n ≤ i → JudgesItems es (tail (items_in names s)) flags₀ (Ok tt) flags
   unfolding items_conditions matched_by answered broken
   going_end n flags i g l =
       let e = items_none (n - i) names s i (omega arith) in
@@ -100,7 +100,7 @@ passed_none n flags = record { few = omega arith; goes = λ es matched h m. refl
 
 module _ (n : ℕ) (flags : List ℕ) (k : ℕ) (p : Passed n flags k) where
   module _ (l : k < n) (h : 64 * n ≤ length flags) where
-    pub passed_off : get_or flags (64 * k) 0 ≡ 0 → JudgesEntries n flags (Judged.Refused (Absent k))
+    pub passed_off : get_or flags (64 * k) 0 ≡ 0 → JudgesEntries n flags (Err (Absent k))
     unfolding entry_conditions answered broken
     passed_off z es matched e m =
         let y : 64 * k + 0 ≡ 64 * k = omega arith in
@@ -117,6 +117,6 @@ module _ (n : ℕ) (flags : List ℕ) (k : ℕ) (p : Passed n flags k) where
           p.goes es matched e m ∙ rw (drop-cons es k blank (omega arith), a, add-one k);
     }
 
-  pub passed-all : n ≤ k → JudgesEntries n flags Judged.Good
+  pub passed-all : n ≤ k → JudgesEntries n flags (Ok tt)
   unfolding entry_conditions answered broken
   passed-all l es matched e m = sym (p.goes es matched e m ∙ rw (drop_of_length-le es {i = k} (omega arith)))

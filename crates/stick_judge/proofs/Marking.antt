@@ -1,4 +1,5 @@
 -- One item judged, and the flags after it.
+use Rattle.std.specs.Prelude.{Result, Ok, Err}
 use mathlib.Core.Path.{◌≡◌, refl, sym, ap, ◌∙◌}
 use mathlib.Core.Bool.{Bool, true, false, not, ◌||◌, true≢false, cond}
 use mathlib.Core.List.{List, ◌∷◌}
@@ -14,7 +15,6 @@ use Rattle.slip_check.specs.Entries.{next_at, entries_in}
 use Rattle.stick_names.proofs.Alike.{part_length}
 use Rattle.shared_words.specs.declared.Refusal.{Refusal}
 use Rattle.shared_words.specs.declared.Refusal.TheVariants.{Unchecked, Unexpected}
-use Rattle.shared_words.specs.declared.Judged.{Judged}
 use Rattle.stick_rules.specs.declared.ItemRecord.{ItemRecord}
 use Rattle.shared_words.specs.Conditions.{answered, broken}
 use Rattle.stick_rules.proofs.Answers.{never}
@@ -73,7 +73,7 @@ flag_unset flags matched m k n h l f = sym (m k n h l) ∙ rw (eq-eqb _ _ f)
 module _ (es : List Entry) (n : ℕ) (t : Item) (flags : List ℕ) where
   -- it is refused, and no flag is set
   abbrev pub Stops : Refusal → Type 0
-  Stops p = JudgesItem es n t flags (Judged.Refused p) flags
+  Stops p = JudgesItem es n t flags (Err p) flags
 
   module _ (f : is_file t ≡ true) where
     pub file_nameless : eqb (length t.path) 0 ≡ true → Stops (Unexpected n)
@@ -99,7 +99,7 @@ module _ (es : List Entry) (n : ℕ) (t : Item) (flags : List ℕ) where
                 record { is = rw (f, z, o, a); marks = never (Unexpected n) };
           }
 
-      pub file-judged : (s : Sought) (r : Judged) → Finds true es t.path s → s.number < length es → 64 * s.number + 0 < length flags →
+      pub file-judged : (s : Sought) (r : Result Unit Refusal) → Finds true es t.path s → s.number < length es → 64 * s.number + 0 < length flags →
           get_or flags (64 * s.number + 0) 0 ≡ 0 → r ≡ answered (evidence n s.file s.sums t) →
           JudgesItem es n t flags r (set flags (64 * s.number + 0) 1)
       unfolding item_conditions answered broken
@@ -159,7 +159,7 @@ module _ (es : List Entry) (n : ℕ) (t : Item) (flags : List ℕ) where
                     record { is = rw (z, i, b, s, f, o, a); marks = never (Unexpected n) };
               }
 
-              pub folder-unlisted : get_or flags at 0 ≡ 0 → is_listed t ≡ false → JudgesItem es n t flags (Judged.Refused (Unchecked n)) (set flags at 1)
+              pub folder-unlisted : get_or flags at 0 ≡ 0 → is_listed t ≡ false → JudgesItem es n t flags (Err (Unchecked n)) (set flags at 1)
               unfolding item_conditions answered broken
               folder-unlisted g y = record {
                 long = length-set flags at 1;
@@ -168,7 +168,7 @@ module _ (es : List Entry) (n : ℕ) (t : Item) (flags : List ℕ) where
                     record { is = rw (z, i, b, s, f, o, a, y); marks = never (Unchecked n) };
               }
 
-              pub folder-good : get_or flags at 0 ≡ 0 → is_listed t ≡ true → JudgesItem es n t flags Judged.Good (set flags at 1)
+              pub folder-good : get_or flags at 0 ≡ 0 → is_listed t ≡ true → JudgesItem es n t flags (Ok tt) (set flags at 1)
               unfolding item_conditions answered broken
               folder-good g y = record {
                 long = length-set flags at 1;
@@ -230,10 +230,10 @@ module _ (slip names : List ℕ) (entries : ℕ) (it : ItemRecord) (n : ℕ) (fl
       leads_again f = folder-again es n t flags no-file folder-is has_path_lem is-short g.no-entry leads flag_within (rw flag_is at f)
 
       pub leads_unlisted : get_or flags (64 * r.number + it.len) 0 ≡ 0 → it.size ≡ 0 →
-          JudgesItem es n t flags (Judged.Refused (Unchecked n)) (set flags (64 * r.number + it.len) 1)
+          JudgesItem es n t flags (Err (Unchecked n)) (set flags (64 * r.number + it.len) 1)
       leads_unlisted f u =
           rw flag_is (folder-unlisted es n t flags no-file folder-is has_path_lem is-short g.no-entry leads flag_within (rw flag_is at f) (ap not (eq-eqb it.size 0 u)))
 
-      pub leads_good : get_or flags (64 * r.number + it.len) 0 ≡ 0 → (it.size ≡ 0 → ⊥) → JudgesItem es n t flags Judged.Good (set flags (64 * r.number + it.len) 1)
+      pub leads_good : get_or flags (64 * r.number + it.len) 0 ≡ 0 → (it.size ≡ 0 → ⊥) → JudgesItem es n t flags (Ok tt) (set flags (64 * r.number + it.len) 1)
       leads_good f u =
           rw flag_is (folder-good es n t flags no-file folder-is has_path_lem is-short g.no-entry leads flag_within (rw flag_is at f) (ap not (ne_eqb it.size 0 u)))

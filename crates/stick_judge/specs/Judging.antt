@@ -1,9 +1,9 @@
 -- What the functions of the judge promise.
-use Rattle.std.specs.Prelude.{◌≡◌, Bool, true, not, ℕ, ◌+◌, ◌*◌, ◌%◌, ◌<◌, ◌≤◌, eqb, length, get_or}
+use Rattle.shared_words.specs.declared.Refusal.{Refusal}
+use Rattle.std.specs.Prelude.{◌≡◌, Bool, true, not, ℕ, ◌+◌, ◌*◌, ◌%◌, ◌<◌, ◌≤◌, eqb, length, get_or, Result, Ok}
 use mathlib.Core.List.{List, [], ◌∷◌, ◌++◌, tail}
 use Rattle.slip_rules.specs.Slip.{Entry}
 use Rattle.shared_words.specs.declared.Refusal.TheVariants.{Unchecked, Changed, BadFigure}
-use Rattle.shared_words.specs.declared.Judged.{Judged}
 use Rattle.shared_words.specs.Conditions.{Condition, must, answered}
 use Rattle.stick_rules.specs.Items.{Item, sums_of, has_length_of, has_sums_of, is_read, has_own_reader, is_accepted}
 use Rattle.slip_check.specs.Entries.{entry_in, after, Whole}
@@ -59,26 +59,26 @@ abbrev pub Flags : List ℕ → List Target → Type 0
 Flags flags matched = (k n : ℕ) → n < 64 → 64 * k + n < length flags → not (eqb (get_or flags (64 * k + n) 0) 0) ≡ is_matched k n matched
 
 -- an item whose conditions are these was judged, and the flags are those of `matched'` then
-pub record Marked (flags' : List ℕ) (cs : List Condition) (matched' : List Target) (r : Judged) : Type 0 where
+pub record Marked (flags' : List ℕ) (cs : List Condition) (matched' : List Target) (r : Result Unit Refusal) : Type 0 where
   pub is : r ≡ answered cs
-  pub marks : r ≡ Judged.Good → Flags flags' matched'
+  pub marks : r ≡ (Ok tt) → Flags flags' matched'
 
-pub record JudgesItem (es : List Entry) (n : ℕ) (t : Item) (flags : List ℕ) (r : Judged) (flags' : List ℕ) : Type 0 where
+pub record JudgesItem (es : List Entry) (n : ℕ) (t : Item) (flags : List ℕ) (r : Result Unit Refusal) (flags' : List ℕ) : Type 0 where
   pub long : length flags' ≡ length flags
   pub judges : (matched : List Target) → Flags flags matched → Marked flags' (item_conditions es matched n t) (matching es matched t) r
 
 -- ---- all of them
 
 -- those behind the first
-pub record JudgesItems (es : List Entry) (ts : List Item) (flags : List ℕ) (r : Judged) (flags' : List ℕ) : Type 0 where
+pub record JudgesItems (es : List Entry) (ts : List Item) (flags : List ℕ) (r : Result Unit Refusal) (flags' : List ℕ) : Type 0 where
   pub long : length flags' ≡ length flags
   pub judges : Flags flags [] → Marked flags' (items_conditions es [] 1 ts) (matched_by es [] ts) r
 
 -- the entries, of which there are so many
-abbrev pub JudgesEntries : ℕ → List ℕ → Judged → Type 0
+abbrev pub JudgesEntries : ℕ → List ℕ → Result Unit Refusal → Type 0
 JudgesEntries n flags r = (es : List Entry) (matched : List Target) → length es ≡ n → Flags flags matched → r ≡ answered (entry_conditions 0 es matched)
 
-abbrev pub JudgesRest : ℕ → List Item → List ℕ → Judged → Type 0
+abbrev pub JudgesRest : ℕ → List Item → List ℕ → Result Unit Refusal → Type 0
 JudgesRest n ts flags r = (es : List Entry) (matched : List Target) → length es ≡ n → Flags flags matched → r ≡ answered (rest_conditions es matched ts)
 
 -- all conditions but those of the stick's own folder

@@ -25,9 +25,8 @@ ghost use Rattle.stick_judge.specs.Judging.{
 };
 
 use shared_big_endian::{byte_at, long_at};
-use shared_words::{Judged, Refusal};
+use shared_words::Refusal;
 use slip_check::check;
-use slip_rules::Found;
 use slip_sums::sums;
 use stick_names::{belongs, digest, format_of, is_slip};
 use stick_records::{has_figure, is_whole, item_record};
@@ -156,26 +155,26 @@ fn fill_digests(slip: &[u8], entries: usize, digests: &mut [u32])
 // ---- one item
 
 // A file, the i-th item, whose entry has this length and these sums.
-fn judge_evidence(names: &[u8], it: ItemRecord, i: usize, file: u64, sums: u64) -> Judged
+fn judge_evidence(names: &[u8], it: ItemRecord, i: usize, file: u64, sums: u64) -> Result<(), Refusal>
     requires { it.name + it.len ≤ length names.now }
     ensures { result ≡ answered (evidence i file sums (item_of names.now it)) }
 {
     if it.size != file {
-        return Judged::Refused(Refusal::Changed(i));
+        return Err(Refusal::Changed(i));
     }
     if it.checksum / 65536 != it.size {
-        return Judged::Refused(Refusal::Unchecked(i));
+        return Err(Refusal::Unchecked(i));
     }
     if it.reader != format_of(names, it.name as usize, it.len as usize) {
-        return Judged::Refused(Refusal::Unchecked(i));
+        return Err(Refusal::Unchecked(i));
     }
     if it.checksum % 65536 != sums {
-        return Judged::Refused(Refusal::Changed(i));
+        return Err(Refusal::Changed(i));
     }
     if 4294967296 <= it.answer {
-        return Judged::Refused(Refusal::BadFigure(i));
+        return Err(Refusal::BadFigure(i));
     }
-    Judged::Good
+    Ok(())
 }
 
 // A file. Its entry is then among what is matched.
@@ -187,14 +186,14 @@ fn judge_file(
     it: ItemRecord,
     i: usize,
     matched: &mut [u8],
-) -> Judged
+) -> Result<(), Refusal>
     requires { Indexed slip.now entries digests.now × (it.kind ≡ 1) × (it.name + it.len ≤ length names.now) ×
         (64 * entries + 64 ≤ length matched.old) }
     ensures { JudgesItem (manifest slip.now (entries_in entries slip.now 7)) i
         (item_of names.now it) matched.old result matched.new }
 {
     if it.len == 0 {
-        return Judged::Refused(Refusal::Unexpected(i));
+        return Err(Refusal::Unexpected(i));
     }
     let sought = find(
         true,
@@ -207,11 +206,11 @@ fn judge_file(
     );
     let k = sought.number;
     if entries < k {
-        return Judged::Refused(Refusal::Unexpected(i));
+        return Err(Refusal::Unexpected(i));
     }
     let at = 64 * k;
     if matched[at] != 0 {
-        return Judged::Refused(Refusal::Unexpected(i));
+        return Err(Refusal::Unexpected(i));
     }
     matched[at] = 1;
     judge_evidence(names, it, i, sought.file, sought.sums)
@@ -226,7 +225,7 @@ fn judge_leading(
     it: ItemRecord,
     i: usize,
     matched: &mut [u8],
-) -> Judged
+) -> Result<(), Refusal>
     requires { Indexed slip.now entries digests.now × (it.kind ≡ 2) × (it.name + it.len ≤ length names.now) ×
         (1 ≤ it.len) × (it.len < 64) ×
         (is_no_entry (manifest slip.now (entries_in entries slip.now 7)) (item_of names.now it) ≡ true) ×
@@ -238,17 +237,17 @@ fn judge_leading(
     let len = it.len as usize;
     let k = find(false, slip, entries, digests, names, at, len).number;
     if entries < k {
-        return Judged::Refused(Refusal::Unexpected(i));
+        return Err(Refusal::Unexpected(i));
     }
     let flag = 64 * k + len;
     if matched[flag] != 0 {
-        return Judged::Refused(Refusal::Unexpected(i));
+        return Err(Refusal::Unexpected(i));
     }
     matched[flag] = 1;
     if it.size == 0 {
-        return Judged::Refused(Refusal::Unchecked(i));
+        return Err(Refusal::Unchecked(i));
     }
-    Judged::Good
+    Ok(())
 }
 
 // What is no file must be a folder, of a path that is no entry's.
@@ -260,25 +259,25 @@ fn judge_folder(
     it: ItemRecord,
     i: usize,
     matched: &mut [u8],
-) -> Judged
+) -> Result<(), Refusal>
     requires { Indexed slip.now entries digests.now × (it.kind ≡ 1 → ⊥) ×
         (it.kind ≡ 2 → it.name + it.len ≤ length names.now) × (64 * entries + 64 ≤ length matched.old) }
     ensures { JudgesItem (manifest slip.now (entries_in entries slip.now 7)) i
         (item_of names.now it) matched.old result matched.new }
 {
     if it.kind != 2 {
-        return Judged::Refused(Refusal::Unchecked(i));
+        return Err(Refusal::Unchecked(i));
     }
     if it.len == 0 {
-        return Judged::Refused(Refusal::Unexpected(i));
+        return Err(Refusal::Unexpected(i));
     }
     if 64 <= it.len {
-        return Judged::Refused(Refusal::Unexpected(i));
+        return Err(Refusal::Unexpected(i));
     }
     let at = it.name as usize;
     let len = it.len as usize;
     if find(true, slip, entries, digests, names, at, len).number <= entries {
-        return Judged::Refused(Refusal::Unexpected(i));
+        return Err(Refusal::Unexpected(i));
     }
     judge_leading(slip, entries, digests, names, it, i, matched)
 }
@@ -292,7 +291,7 @@ fn judge_item(
     items: &[u8],
     i: usize,
     matched: &mut [u8],
-) -> Judged
+) -> Result<(), Refusal>
     requires { Indexed slip.now entries digests.now × (56 * i + 56 ≤ length items.now) ×
         (64 * entries + 64 ≤ length matched.old) }
     ensures { JudgesItem (manifest slip.now (entries_in entries slip.now 7)) i
@@ -306,21 +305,21 @@ fn judge_item(
 }
 
 // The first item is the stick's own folder.
-fn judge_root(names: &[u8], items: &[u8]) -> Judged
+fn judge_root(names: &[u8], items: &[u8]) -> Result<(), Refusal>
     requires { 56 ≤ length items.now }
     ensures { result ≡ answered (root_conditions (items_in names.now items.now)) }
 {
     let it = item_record(names, items, 0);
     if it.kind != 2 {
-        return Judged::Refused(Refusal::Unchecked(0));
+        return Err(Refusal::Unchecked(0));
     }
     if it.len != 0 {
-        return Judged::Refused(Refusal::Unexpected(0));
+        return Err(Refusal::Unexpected(0));
     }
     if it.size == 0 {
-        return Judged::Refused(Refusal::Unchecked(0));
+        return Err(Refusal::Unchecked(0));
     }
-    Judged::Good
+    Ok(())
 }
 
 // ---- all of them
@@ -333,7 +332,7 @@ fn judge_items(
     names: &[u8],
     items: &[u8],
     matched: &mut [u8],
-) -> Judged
+) -> Result<(), Refusal>
     requires { Indexed slip.now entries digests.now × (64 * entries + 64 ≤ length matched.old) × Flags matched.old [] ×
         (56 ≤ length items.now) }
     ensures { JudgesItems (manifest slip.now (entries_in entries slip.now 7))
@@ -343,49 +342,49 @@ fn judge_items(
     let mut i = 1usize;
     while i < n {
         match judge_item(slip, entries, digests, names, items, i, matched) {
-            Judged::Refused(r) => return Judged::Refused(r),
-            Judged::Good => i += 1,
+            Err(r) => return Err(r),
+            Ok(()) => i += 1,
         }
     }
-    Judged::Good
+    Ok(())
 }
 
 // Whether the file of each of n entries is met.
-fn judge_entries(matched: &[u8], n: usize) -> Judged
+fn judge_entries(matched: &[u8], n: usize) -> Result<(), Refusal>
     requires { 64 * n ≤ length matched.now }
     ensures { JudgesEntries n matched.now result }
 {
     let mut k = 0usize;
     while k < n {
         if matched[64 * k] == 0 {
-            return Judged::Refused(Refusal::Absent(k));
+            return Err(Refusal::Absent(k));
         }
         k += 1;
     }
-    Judged::Good
+    Ok(())
 }
 
 // What is left when each item is in order.
-fn judge_rest(matched: &[u8], n: usize, names: &[u8], items: &[u8]) -> Judged
+fn judge_rest(matched: &[u8], n: usize, names: &[u8], items: &[u8]) -> Result<(), Refusal>
     requires { 64 * n ≤ length matched.now }
     ensures { JudgesRest n (items_in names.now items.now) matched.now result }
 {
     if !is_whole(names, items) {
-        return Judged::Refused(Refusal::Incomplete);
+        return Err(Refusal::Incomplete);
     }
     match judge_entries(matched, n) {
-        Judged::Refused(r) => Judged::Refused(r),
-        Judged::Good => {
+        Err(r) => Err(r),
+        Ok(()) => {
             if !has_figure(names, items) {
-                return Judged::Refused(Refusal::NoFigure);
+                return Err(Refusal::NoFigure);
             }
-            Judged::Good
+            Ok(())
         }
     }
 }
 
 // All items, and then the rest. There are 64 flags for each entry: of its file, and of a folder by the length of its path.
-fn judge_all(slip: &[u8], entries: usize, names: &[u8], items: &[u8]) -> Judged
+fn judge_all(slip: &[u8], entries: usize, names: &[u8], items: &[u8]) -> Result<(), Refusal>
     requires { Whole entries slip.now 7 × (entries ≤ 1000) × (56 ≤ length items.now) }
     ensures { result ≡ answered (behind_root (manifest slip.now (entries_in entries slip.now 7))
         (items_in names.now items.now)) }
@@ -394,35 +393,35 @@ fn judge_all(slip: &[u8], entries: usize, names: &[u8], items: &[u8]) -> Judged
     fill_digests(slip, entries, &mut digests);
     let mut matched = [0u8; 64064];
     match judge_items(slip, entries, &digests, names, items, &mut matched) {
-        Judged::Refused(r) => Judged::Refused(r),
-        Judged::Good => judge_rest(&matched, entries + 1, names, items),
+        Err(r) => Err(r),
+        Ok(()) => judge_rest(&matched, entries + 1, names, items),
     }
 }
 
 // A stick whose slip has so many entries.
-fn judge_stick(slip: &[u8], entries: usize, names: &[u8], items: &[u8]) -> Judged
+fn judge_stick(slip: &[u8], entries: usize, names: &[u8], items: &[u8]) -> Result<(), Refusal>
     requires { Whole entries slip.now 7 × (entries ≤ 1000) }
     ensures { result ≡ judge_records slip.now (accepted (entries_in entries slip.now 7)) names.now
         items.now }
 {
     if items.len() % 56 != 0 {
-        return Judged::Refused(Refusal::Unchecked(items.len() / 56));
+        return Err(Refusal::Unchecked(items.len() / 56));
     }
     if items.len() == 0 {
-        return Judged::Refused(Refusal::Incomplete);
+        return Err(Refusal::Incomplete);
     }
     match judge_root(names, items) {
-        Judged::Refused(r) => Judged::Refused(r),
-        Judged::Good => judge_all(slip, entries, names, items),
+        Err(r) => Err(r),
+        Ok(()) => judge_all(slip, entries, names, items),
     }
 }
 
 // The judge of a stick.
-pub fn judge(slip: &[u8], names: &[u8], items: &[u8]) -> Judged
+pub fn judge(slip: &[u8], names: &[u8], items: &[u8]) -> Result<(), Refusal>
     ensures { result ≡ judge_call slip.now names.now items.now }
 {
     match check(slip) {
-        Found::Refused(r) => Judged::Refused(r),
-        Found::Entries(entries) => judge_stick(slip, entries, names, items),
+        Err(r) => Err(r),
+        Ok(entries) => judge_stick(slip, entries, names, items),
     }
 }

@@ -1,4 +1,5 @@
 -- A stick passes exactly when it is good.
+use Rattle.std.specs.Prelude.{Ok, Err}
 use mathlib.Core.Path.{◌≡◌, refl, sym, ap, ◌∙◌}
 use mathlib.Core.Bool.{Bool, true, false, not, ◌&&◌, false≢true, true≢false, and-true, and-false, cond}
 use mathlib.Core.List.{List, [], ◌∷◌, ◌++◌}
@@ -12,7 +13,6 @@ use Rattle.shared_words.specs.Lists.{All}
 use Rattle.shared_words.proofs.Bools.{both, and_parts}
 use Rattle.slip_rules.specs.Slip.{Entry}
 use Rattle.shared_words.specs.declared.Refusal.TheVariants.{Incomplete}
-use Rattle.shared_words.specs.declared.Judged.{Judged}
 use Rattle.shared_words.specs.Conditions.{Condition, must, answered, broken}
 use Rattle.stick_rules.specs.Items.{Item, is_file, is_folder, has_path, is_read, has_own_reader, is_accepted, has_length_of, has_sums_of}
 use Rattle.stick_rules.specs.Judge.{entry_index, entry_of, index_of, entry_is, Target, up_to_of, target_of, is_target, is_matched, is_unmatched, root_conditions}
@@ -31,11 +31,11 @@ entry-agrees es t none q f w l r j a x = absurd (false≢true a)
 entry-agrees es t (some e) q f w l r j a x =
     file e f w q (record { agree = both (has_length_of e t) (has_sums_of e t) l a; whole = r; judged = eqb-true _ _ j; accepted = ltb-true _ _ x })
 
-in_order : (es : List Entry) (matched' : List Target) (n : ℕ) (t : Item) → answered (item_conditions es matched' n t) ≡ Judged.Good → InOrder es t
+in_order : (es : List Entry) (matched' : List Target) (n : ℕ) (t : Item) → answered (item_conditions es matched' n t) ≡ (Ok tt) → InOrder es t
 unfolding item_conditions
 in_order es matched' n t h = go (is_file t) refl h
   where
-    go : (b : Bool) → is_file t ≡ b → answered (cond b (file_conditions es matched' n t) (folder_conditions es matched' n t)) ≡ Judged.Good → InOrder es t
+    go : (b : Bool) → is_file t ≡ b → answered (cond b (file_conditions es matched' n t) (folder_conditions es matched' n t)) ≡ (Ok tt) → InOrder es t
     go true f h =
         let m = all-met (file_conditions es matched' n t) h in
         let e = m.1.1.1 in
@@ -47,18 +47,18 @@ in_order es matched' n t h = go (is_file t) refl h
         folder m.0 (record { below = m.1.0; short = m.1.1.0; free = leb-true _ _ e.0; leads = rw f at l; was-listed = e.1.1.1.0 })
 
 -- none before it has met the same
-first-matched : (es : List Entry) (matched' : List Target) (n : ℕ) (t : Item) → answered (item_conditions es matched' n t) ≡ Judged.Good →
+first-matched : (es : List Entry) (matched' : List Target) (n : ℕ) (t : Item) → answered (item_conditions es matched' n t) ≡ (Ok tt) →
     is_matched (index_of es t) (up_to_of t) matched' ≡ false
 unfolding item_conditions
 first-matched es matched' n t h = not-true _ (go (is_file t) h)
   where
-    go : (b : Bool) → answered (cond b (file_conditions es matched' n t) (folder_conditions es matched' n t)) ≡ Judged.Good → is_unmatched es matched' t ≡ true
+    go : (b : Bool) → answered (cond b (file_conditions es matched' n t) (folder_conditions es matched' n t)) ≡ (Ok tt) → is_unmatched es matched' t ≡ true
     go true h = (all-met (file_conditions es matched' n t) h).1.1.0
     go false h = (all-met (folder_conditions es matched' n t) h).1.1.1.1.1.0
 
 -- ---- all items
 
-all-in_order : (es : List Entry) (matched' : List Target) (n : ℕ) (ts : List Item) → answered (items_conditions es matched' n ts) ≡ Judged.Good → All (InOrder es) ts
+all-in_order : (es : List Entry) (matched' : List Target) (n : ℕ) (ts : List Item) → answered (items_conditions es matched' n ts) ≡ (Ok tt) → All (InOrder es) ts
 unfolding items_conditions
 all-in_order es matched' n [] h = tt
 all-in_order es matched' n (t ∷ ts) h =
@@ -66,7 +66,7 @@ all-in_order es matched' n (t ∷ ts) h =
     (in_order es matched' n t b.0, all-in_order es (matching es matched' t) (suc n) ts b.1)
 
 -- what is met at the end was met before, or by one item
-counted : (es : List Entry) (matched' : List Target) (n : ℕ) (ts : List Item) → answered (items_conditions es matched' n ts) ≡ Judged.Good → (k u : ℕ) →
+counted : (es : List Entry) (matched' : List Target) (n : ℕ) (ts : List Item) → answered (items_conditions es matched' n ts) ≡ (Ok tt) → (k u : ℕ) →
     targeting es k u ts + once (is_matched k u matched') ≡ once (is_matched k u (matched_by es matched' ts))
 unfolding items_conditions matched_by
 counted es matched' n [] h k u = omega arith
@@ -77,7 +77,7 @@ counted es matched' n (t ∷ ts) h k u =
 -- ---- and back
 
 folder-passes : (es : List Entry) (matched' : List Target) (n : ℕ) (t : Item) → is_file t ≡ false → is_folder t ≡ true → Leads es t →
-    is_matched (index_of es t) (up_to_of t) matched' ≡ false → answered (item_conditions es matched' n t) ≡ Judged.Good
+    is_matched (index_of es t) (up_to_of t) matched' ≡ false → answered (item_conditions es matched' n t) ≡ (Ok tt)
 unfolding item_conditions
 folder-passes es matched' n t z is l v =
     let o : index_of es t < length es = rw z l.leads in
@@ -85,7 +85,7 @@ folder-passes es matched' n t z is l v =
     none-wrong (folder_conditions es matched' n t) (is, (l.below, (l.short, (le-leb _ _ l.free, (lt-ltb _ _ o, (ap not v, (l.was-listed, tt)))))))
 
 file-passes : (es : List Entry) (matched' : List Target) (n : ℕ) (t : Item) (e : Entry) → is_file t ≡ true → has_path t ≡ true → entry_of es t.path ≡ some e →
-    Agrees e t → is_matched (index_of es t) (up_to_of t) matched' ≡ false → answered (item_conditions es matched' n t) ≡ Judged.Good
+    Agrees e t → is_matched (index_of es t) (up_to_of t) matched' ≡ false → answered (item_conditions es matched' n t) ≡ (Ok tt)
 unfolding item_conditions
 file-passes es matched' n t e f w q g v =
     let p = and_parts (has_length_of e t) (has_sums_of e t) g.agree in
@@ -97,7 +97,7 @@ file-passes es matched' n t e f w q g v =
     (w, (lt-ltb _ _ o, (ap not v, (a, (g.whole, (eq-eqb _ _ g.judged, (b, (lt-ltb _ _ g.accepted, tt))))))))
 
 item-passes : (es : List Entry) (matched' : List Target) (n : ℕ) (t : Item) → InOrder es t → is_matched (index_of es t) (up_to_of t) matched' ≡ false →
-    answered (item_conditions es matched' n t) ≡ Judged.Good
+    answered (item_conditions es matched' n t) ≡ (Ok tt)
 item-passes es matched' n t (folder is l) v =
     let z : is_file t ≡ false = ne_eqb t.kind 1 (λ (e : t.kind ≡ 1). let k = eqb-true t.kind 2 is in omega arith) in
     folder-passes es matched' n t z is l v
@@ -105,7 +105,7 @@ item-passes es matched' n t (file e f w q g) v = file-passes es matched' n t e f
 
 -- what is known of the items that are left: each is in order, and each mark is met once, here or before
 passes : (es : List Entry) (matched' : List Target) (n : ℕ) (ts : List Item) → All (InOrder es) ts →
-    ((k u : ℕ) → targeting es k u ts + once (is_matched k u matched') ≤ 1) → answered (items_conditions es matched' n ts) ≡ Judged.Good
+    ((k u : ℕ) → targeting es k u ts + once (is_matched k u matched') ≤ 1) → answered (items_conditions es matched' n ts) ≡ (Ok tt)
 unfolding items_conditions answered broken
 passes es matched' n [] a h = refl
 passes es matched' n (t ∷ ts) a h =
@@ -140,7 +140,7 @@ module _ (es : List Entry) (t : Item) (ts : List Item) where
   abbrev rest : List Condition
   rest = rest_conditions es (matched_by es [] ts) (t ∷ ts)
 
-  there : judgement es (t ∷ ts) ≡ Judged.Good → Good es (t ∷ ts)
+  there : judgement es (t ∷ ts) ≡ (Ok tt) → Good es (t ∷ ts)
   unfolding judgement
   there h =
       let z = both-good (root_conditions (t ∷ ts)) (items_conditions es [] 1 ts ++ rest) h in
@@ -162,13 +162,13 @@ module _ (es : List Entry) (t : Item) (ts : List Item) where
         a-figure = (all-met (figure_conditions (t ∷ ts)) b.1).0;
       }
 
-  back : Good es (t ∷ ts) → judgement es (t ∷ ts) ≡ Judged.Good
+  back : Good es (t ∷ ts) → judgement es (t ∷ ts) ≡ (Ok tt)
   unfolding judgement
   back g =
       let r = none-wrong (root_conditions (t ∷ ts)) (g.rooted.is-folder, (eq-eqb _ _ g.rooted.no_path, (g.rooted.was-listed, tt))) in
-      let p : answered (items_conditions es [] 1 ts) ≡ Judged.Good = passes es [] 1 ts g.in_order (λ k u. omega (arith, g.none_twice k u)) in
+      let p : answered (items_conditions es [] 1 ts) ≡ (Ok tt) = passes es [] 1 ts g.in_order (λ k u. omega (arith, g.none_twice k u)) in
       let w = none-wrong (must (is_whole (t ∷ ts)) Incomplete ∷ []) (eq-eqb _ _ g.whole, tt) in
-      let m : answered (entry_conditions 0 es (matched_by es [] ts)) ≡ Judged.Good = matched-all 0 es (matched_by es [] ts) (λ k l.
+      let m : answered (entry_conditions 0 es (matched_by es [] ts)) ≡ (Ok tt) = matched-all 0 es (matched_by es [] ts) (λ k l.
       let z : 0 + k ≡ k = omega arith in
       rw z (once-true (is_matched k 0 (matched_by es [] ts)) (omega (arith, g.each-once k l, counted es [] 1 ts p k 0, files_marked es k ts g.in_order)))) in
       goes_on (root_conditions (t ∷ ts)) (items_conditions es [] 1 ts ++ rest) r ∙
@@ -177,7 +177,7 @@ module _ (es : List Entry) (t : Item) (ts : List Item) where
       goes_on (entry_conditions 0 es (matched_by es [] ts)) (figure_conditions (t ∷ ts)) m ∙
       none-wrong (figure_conditions (t ∷ ts)) (g.a-figure, tt)
 
-no_items : (es : List Entry) → judgement es [] ≡ Judged.Refused Incomplete
+no_items : (es : List Entry) → judgement es [] ≡ Err Incomplete
 unfolding judgement items_conditions answered broken
 no_items es = refl
 

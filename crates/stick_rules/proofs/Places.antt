@@ -1,4 +1,5 @@
 -- Numbers of entries: those that are met so far, and those that a path has.
+use Rattle.std.specs.Prelude.{Ok}
 use mathlib.Core.Path.{◌≡◌, refl}
 use mathlib.Core.Bool.{Bool, true, false, ◌||◌, cond}
 use mathlib.Core.List.{List, [], ◌∷◌}
@@ -14,7 +15,6 @@ use Rattle.stick_rules.specs.Names.{equal_ignoring_case}
 use Rattle.stick_rules.specs.Judge.{Target, is_target, is_matched, entry_index, entry_of, entry_conditions}
 use Rattle.shared_words.specs.Conditions.{must, answered, broken}
 use Rattle.shared_words.specs.declared.Refusal.TheVariants.{Absent}
-use Rattle.shared_words.specs.declared.Judged.{Judged}
 use Rattle.stick_rules.proofs.Answers.{never}
 
 -- 1 where it holds
@@ -59,14 +59,14 @@ has_place (x ∷ es) path e h = go (has_place es path e) (equal_ignoring_case x.
     go on false h = omega (arith, on h)
 
 -- all entries are met exactly where the conditions say so
-pub all-matched : (k : ℕ) (es : List Entry) (matched : List Target) → answered (entry_conditions k es matched) ≡ Judged.Good →
+pub all-matched : (k : ℕ) (es : List Entry) (matched : List Target) → answered (entry_conditions k es matched) ≡ (Ok tt) →
     (j : ℕ) → j < length es → is_matched (k + j) 0 matched ≡ true
 unfolding answered broken entry_conditions
 all-matched k [] matched h j l = absurd (omega arith)
 all-matched k (e ∷ es) matched h j l = go (all-matched (suc k) es matched) (is_matched k 0 matched) refl h j l
   where
-    go : (answered (entry_conditions (suc k) es matched) ≡ Judged.Good → (j : ℕ) → j < length es → is_matched (suc k + j) 0 matched ≡ true) →
-        (b : Bool) → is_matched k 0 matched ≡ b → answered (must b (Absent k) ∷ entry_conditions (suc k) es matched) ≡ Judged.Good →
+    go : (answered (entry_conditions (suc k) es matched) ≡ (Ok tt) → (j : ℕ) → j < length es → is_matched (suc k + j) 0 matched ≡ true) →
+        (b : Bool) → is_matched k 0 matched ≡ b → answered (must b (Absent k) ∷ entry_conditions (suc k) es matched) ≡ (Ok tt) →
         (j : ℕ) → j < suc (length es) → is_matched (k + j) 0 matched ≡ true
     go on true q h zero l = let z : k + 0 ≡ k = omega arith in rw z q
     go on true q h (suc j) l =
@@ -75,7 +75,7 @@ all-matched k (e ∷ es) matched h j l = go (all-matched (suc k) es matched) (is
     go on false q h j l = never (Absent k) h
 
 pub matched-all : (k : ℕ) (es : List Entry) (matched : List Target) → ((j : ℕ) → j < length es → is_matched (k + j) 0 matched ≡ true) →
-    answered (entry_conditions k es matched) ≡ Judged.Good
+    answered (entry_conditions k es matched) ≡ (Ok tt)
 unfolding answered broken entry_conditions
 matched-all k [] matched h = refl
 matched-all k (e ∷ es) matched h =

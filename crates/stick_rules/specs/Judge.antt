@@ -1,10 +1,10 @@
 -- A stick against its manifest: what must hold of the items that the walk met, in order.
-use Rattle.std.specs.Prelude.{Bool, true, false, not, ◌&&◌, cond, ℕ, suc, ◌+◌, eqb, ltb, leb, length}
+use Rattle.shared_words.specs.declared.Refusal.{Refusal}
+use Rattle.std.specs.Prelude.{Bool, true, false, not, ◌&&◌, cond, ℕ, suc, ◌+◌, eqb, ltb, leb, length, Result}
 use mathlib.Core.List.{List, [], ◌∷◌, ◌++◌, tail}
 use Rattle.std.proofs.Math.Option.{Option, none, some}
 use Rattle.shared_words.specs.Lists.{any, total}
 use Rattle.shared_words.specs.Conditions.{Condition, must, answered}
-use Rattle.shared_words.specs.declared.Judged.{Judged}
 use Rattle.shared_words.specs.declared.Refusal.TheVariants.{Unchecked, BadFigure, Unexpected, Absent, Incomplete, NoFigure, Changed}
 use Rattle.slip_rules.specs.Slip.{Entry}
 use Rattle.slip_sums.specs.Fletcher.{sum_of}
@@ -140,5 +140,5 @@ rest_conditions es matched ts = must (is_whole ts) Incomplete ∷ (entry_conditi
 abbrev pub all_conditions : List Entry → List Item → List Condition
 all_conditions es ts = root_conditions ts ++ (items_conditions es [] 1 (tail ts) ++ rest_conditions es (matched_by es [] (tail ts)) ts)
 
-unfoldable pub judgement : List Entry → List Item → Judged
+unfoldable pub judgement : List Entry → List Item → Result Unit Refusal
 judgement es ts = answered (all_conditions es ts)

@@ -1,10 +1,10 @@
 -- How C hands items over: all paths in one row of bytes, and a record of seven numbers an item, little-endian, eight bytes each.
-use Rattle.std.specs.Prelude.{Bool, cond, List, [], ◌∷◌, ℕ, zero, suc, ◌+◌, ◌*◌, ◌/◌, ◌%◌, eqb, leb, length, take, drop}
+use Rattle.shared_words.specs.declared.Refusal.{Refusal}
+use Rattle.std.specs.Prelude.{Bool, cond, List, [], ◌∷◌, ℕ, zero, suc, ◌+◌, ◌*◌, ◌/◌, ◌%◌, eqb, leb, length, take, drop, Result, Err}
 use Rattle.shared_words.specs.Bytes.{value}
 use Rattle.shared_words.specs.Conditions.{refused, accepted}
 use Rattle.slip_rules.specs.Walk.{Entries, verdict}
 use Rattle.shared_words.specs.declared.Refusal.TheVariants.{Unchecked}
-use Rattle.shared_words.specs.declared.Judged.{Judged}
 use Rattle.stick_rules.specs.declared.ItemRecord.{ItemRecord}
 use Rattle.stick_rules.specs.Items.{Item}
 use Rattle.stick_rules.specs.Judge.{manifest, judgement}
@@ -70,11 +70,11 @@ items_in names s = items_from (item_count s) names s 0
 
 -- ---- the call
 
-abbrev pub judge_records : List ℕ → Entries → List ℕ → List ℕ → Judged
-judge_records slip (refused r) names s = Judged.Refused (r)
+abbrev pub judge_records : List ℕ → Entries → List ℕ → List ℕ → Result Unit Refusal
+judge_records slip (refused r) names s = Err (r)
 judge_records slip (accepted es) names s =
-    cond (eqb (length s % record_size) 0) (judgement (manifest slip es) (items_in names s)) (Judged.Refused (Unchecked (item_count s)))
+    cond (eqb (length s % record_size) 0) (judgement (manifest slip es) (items_in names s)) (Err (Unchecked (item_count s)))
 
 -- THE ANSWER to a slip, and the items of its stick
-unfoldable pub judge_call : List ℕ → List ℕ → List ℕ → Judged
+unfoldable pub judge_call : List ℕ → List ℕ → List ℕ → Result Unit Refusal
 judge_call slip names s = judge_records slip (verdict slip) names s

@@ -1,12 +1,11 @@
 -- Worked sticks: a good one, one for each problem, and those that a tool has passed wrongly.
-use Rattle.std.specs.Prelude.{◌≡◌, List, [], ◌∷◌, ◌++◌, ℕ, ◌+◌, ◌*◌, ◌^◌}
+use Rattle.std.specs.Prelude.{◌≡◌, List, [], ◌∷◌, ◌++◌, ℕ, ◌+◌, ◌*◌, ◌^◌, Result, Ok, Err}
 use Rattle.shared_words.specs.declared.Refusal.TheVariants.{Slip}
 use Rattle.shared_words.specs.Bytes.{packed}
 use Rattle.slip_sums.specs.Fletcher.{sum_of}
 use Rattle.slip_rules.specs.Slip.{Entry}
 use Rattle.shared_words.specs.declared.Refusal.{Refusal}
 use Rattle.shared_words.specs.declared.Refusal.TheVariants.{Unchecked, Unexpected, Changed, BadFigure, Absent, Incomplete, NoFigure}
-use Rattle.shared_words.specs.declared.Judged.{Judged}
 use Rattle.stick_rules.specs.Names.{slip_name, format_of}
 use Rattle.stick_rules.specs.Items.{Item}
 use Rattle.stick_rules.specs.Judge.{judgement}
@@ -59,8 +58,8 @@ slip es = line slip_name 40 ∷ es
 abbrev pub its_slip : Item
 its_slip = read slip_name 40
 
-abbrev pub refused : Refusal → Judged
-refused = Judged.Refused
+abbrev pub refused : Refusal → Result Unit Refusal
+refused = Err
 
 -- d, d/a.3ds
 abbrev pub dir : List ℕ
@@ -77,8 +76,8 @@ abbrev pub two : List Entry
 two = slip (line figure 86 ∷ line inner 86 ∷ [])
 
 pub record Samples : Type 0 where
-  pub good : judgement one (root 2 ∷ accepted capital 86 ∷ its_slip ∷ []) ≡ Judged.Good
-  pub in_a_folder : judgement two (root 3 ∷ folder dir 1 ∷ accepted inner 86 ∷ accepted figure 86 ∷ its_slip ∷ []) ≡ Judged.Good
+  pub good : judgement one (root 2 ∷ accepted capital 86 ∷ its_slip ∷ []) ≡ (Ok tt)
+  pub in_a_folder : judgement two (root 3 ∷ folder dir 1 ∷ accepted inner 86 ∷ accepted figure 86 ∷ its_slip ∷ []) ≡ (Ok tt)
   pub missing : judgement (slip (line figure 86 ∷ line text 2 ∷ [])) (root 2 ∷ accepted figure 86 ∷ its_slip ∷ []) ≡ refused (Absent 2)
   pub extra : judgement one (root 3 ∷ accepted figure 86 ∷ unread text 2 ∷ its_slip ∷ []) ≡ refused (Unexpected 2)
   pub same-name_twice : judgement one (root 3 ∷ accepted capital 86 ∷ accepted figure 86 ∷ its_slip ∷ []) ≡ refused (Unexpected 2)
@@ -154,7 +153,7 @@ abbrev pub of_slip : ℕ → List ℕ
 of_slip len = packed 8 (5 ∷ len ∷ 1 ∷ 19 ∷ (65_536 * 19 + (sum_of real_slip).first + 256 * (sum_of real_slip).second) ∷ 0 ∷ 0 ∷ [])
 
 pub record CallSamples : Type 0 where
-  pub passes : judge_call real_slip names (of_folder ++ of_figure ++ of_slip 10) ≡ Judged.Good
+  pub passes : judge_call real_slip names (of_folder ++ of_figure ++ of_slip 10) ≡ (Ok tt)
   -- a name that ends outside the names; a part of an item more; a slip that is refused, or is not the one on the stick
   pub name-outside : judge_call real_slip names (of_folder ++ of_figure ++ of_slip 11) ≡ refused (Unchecked 2)
   pub part_left : judge_call real_slip names (of_folder ++ of_figure ++ of_slip 10 ++ (0 ∷ [])) ≡ refused (Unchecked 3)

@@ -1,10 +1,9 @@
 -- What is proved of the judgement.
-use Rattle.std.specs.Prelude.{◌≡◌, Bool, true, false, ◌&&◌, ◌↔◌, ℕ, ◌+◌, ◌^◌, ◌<◌, ◌≤◌, eqb, length}
+use Rattle.std.specs.Prelude.{◌≡◌, Bool, true, false, ◌&&◌, ◌↔◌, ℕ, ◌+◌, ◌^◌, ◌<◌, ◌≤◌, eqb, length, Ok}
 use mathlib.Core.List.{List, [], ◌∷◌, tail, flatten}
 use Rattle.std.proofs.Math.Option.{some}
 use Rattle.shared_words.specs.Lists.{any, total, how_many, All}
 use Rattle.slip_rules.specs.Slip.{Entry}
-use Rattle.shared_words.specs.declared.Judged.{Judged}
 use Rattle.stick_rules.specs.Names.{equal_ignoring_case, format_of}
 use Rattle.stick_rules.specs.Items.{Item, is_file, is_folder, has_path, is_short, is_listed, listed, is_read, is_figure, has_length_of, has_sums_of}
 use Rattle.stick_rules.specs.Judge.{entry_index, entry_of, target_of, is_target, judgement}
@@ -66,7 +65,7 @@ pub record Good (es : List Entry) (ts : List Item) : Type 0 where
 
 -- A STICK PASSES EXACTLY when it is good.
 abbrev pub PassesExactly : Type 0
-PassesExactly = (es : List Entry) (ts : List Item) → (judgement es ts ≡ Judged.Good) ↔ Good es ts
+PassesExactly = (es : List Entry) (ts : List Item) → (judgement es ts ≡ (Ok tt)) ↔ Good es ts
 
 -- ---- in plain words
 
@@ -97,7 +96,7 @@ pub record Sealed (es : List Entry) (ts : List Item) : Type 0 where
   pub every-file : All (λ (t : Item). is_file t ≡ true → OnSlip es t) ts
 
 abbrev pub InPlainWords : Type 0
-InPlainWords = (es : List Entry) (ts : List Item) → judgement es ts ≡ Judged.Good → Sealed es ts
+InPlainWords = (es : List Entry) (ts : List Item) → judgement es ts ≡ (Ok tt) → Sealed es ts
 
 -- ---- nothing more
 
@@ -112,7 +111,7 @@ pub record AllMet (ts : List Item) : Type 0 where
   pub as_many : length ts ≡ 1 + total listed ts
 
 abbrev pub NothingMore : Type 0
-NothingMore = (es : List Entry) (ts : List Item) → judgement es ts ≡ Judged.Good → AllMet ts
+NothingMore = (es : List Entry) (ts : List Item) → judgement es ts ≡ (Ok tt) → AllMet ts
 
 -- the names that were listed in each item, as paths below the stick's folder: as many as it told
 abbrev pub Listings : List Item → List (List (List ℕ)) → Type 0
@@ -130,5 +129,5 @@ WasMet ts name = any (λ (t : Item). equal_ignoring_case name t.path) ts ≡ tru
 
 -- NO NAME IS LOST: if every item but the stick's own folder was listed somewhere, every name that was listed is an item.
 abbrev pub NoneLost : Type 0
-NoneLost = (es : List Entry) (ts : List Item) (ls : List (List (List ℕ))) → judgement es ts ≡ Judged.Good → Listings ts ls →
+NoneLost = (es : List Entry) (ts : List Item) (ls : List (List (List ℕ))) → judgement es ts ≡ (Ok tt) → Listings ts ls →
     All (WasListed (flatten ls)) (tail ts) → All (WasMet (tail ts)) (flatten ls)

@@ -1,10 +1,10 @@
 -- What the callers of the check know of a file that it accepts: its layout.
+use Rattle.std.specs.Prelude.{Ok}
 use mathlib.Core.Path.{◌≡◌, refl}
 use mathlib.Core.List.{List}
 use Prim.Native.Nat.{ℕ}
 use native.Mathlib.Omega.{arith}
 use Rattle.studio_rules.specs.declared.Counts.{Counts}
-use Rattle.studio_rules.specs.declared.Checked.{Checked}
 use Rattle.shared_words.specs.Bytes.{Bytes}
 use Rattle.studio_rules.specs.Layout.{Run}
 use Rattle.studio_rules.specs.Rules.{Meets}
@@ -18,11 +18,11 @@ pub record Accepted (s : List ℕ) (counts : Counts) : Type 0 where
   pub verdict-is : verdict s ≡ accepted kids
   pub counts_are : counts ≡ counts_of kids
 
-pub accepted-by : (s : List ℕ) (counts : Counts) → check_call s ≡ Checked.Accepted counts → Accepted s counts
+pub accepted-by : (s : List ℕ) (counts : Counts) → check_call s ≡ Ok counts → Accepted s counts
 unfolding check_call
 accepted-by s counts = go (verdict s) refl
   where
-    go : (a : Answer Run) → verdict s ≡ a → check_of a ≡ Checked.Accepted counts → Accepted s counts
+    go : (a : Answer Run) → verdict s ≡ a → check_of a ≡ Ok counts → Accepted s counts
     go (refused r) v e = absurd (let z : ◌≡◌ {A = ℕ} 0 1 = cc in omega arith)
     go (accepted kids) v e = record { kids = kids; verdict-is = v; counts_are = cc }
 

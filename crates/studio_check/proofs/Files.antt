@@ -1,4 +1,5 @@
 -- The whole file: its own conditions, and the answer once the children of 4D4D are read.
+use Rattle.std.specs.Prelude.{Result, Ok, Err}
 use mathlib.Core.Path.{◌≡◌, refl, sym, ap, ◌∙◌, subst}
 use mathlib.Core.Bool.{Bool, true}
 use mathlib.Core.List.{List, []}
@@ -13,7 +14,6 @@ use Rattle.shared_words.specs.declared.Refusal.{Refusal}
 use Rattle.shared_words.specs.declared.Refusal.TheVariants.{TooLong, NotAFigure, Short, Overrun, Trailing}
 use Rattle.shared_words.specs.Refusals.{limit}
 use Rattle.studio_rules.specs.declared.Counts.{Counts}
-use Rattle.studio_rules.specs.declared.Checked.{Checked}
 use Rattle.shared_words.specs.Bytes.{Bytes, value}
 use Rattle.studio_rules.specs.Table.{rows, listed, limits, at_most_one_ids}
 use Rattle.studio_rules.specs.Layout.{figure}
@@ -27,7 +27,6 @@ use Rattle.studio_rules.proofs.Sound.{length-bytes}
 use Rattle.studio_rules.proofs.Theorems.{counted-once}
 use Rattle.shared_numbers.specs.Numbers.{word_at, long_at}
 use Rattle.studio_row.specs.Packed.{places, row_of}
-use Rattle.shared_words.specs.declared.Judged.{Judged}
 use Rattle.studio_marks.specs.Marks.{no_marks, ShutIs, RuleIs, EndIs}
 use Rattle.studio_walk.specs.declared.Ran.{Ran}
 use Rattle.studio_head.specs.Contexts.{Context}
@@ -40,16 +39,16 @@ use Rattle.studio_rules.proofs.SixEach.{six_each}
 -- ---- the file's own conditions
 
 module _ (s : List ℕ) where
-  shut_is : (x : Option Refusal) (r : Judged) → broken (file_conditions s (length_field s)) ≡ x → ShutIs x r → ShutIs (broken (file_conditions s (length_field s))) r
+  shut_is : (x : Option Refusal) (r : Result Unit Refusal) → broken (file_conditions s (length_field s)) ≡ x → ShutIs x r → ShutIs (broken (file_conditions s (length_field s))) r
   shut_is x r e h = subst (λ (y : Option Refusal). ShutIs y r) (sym e) h
 
-  pub file-too_long : limit < length s → ShutIs (broken (file_conditions s (length_field s))) (Judged.Refused TooLong)
+  pub file-too_long : limit < length s → ShutIs (broken (file_conditions s (length_field s))) (Err TooLong)
   file-too_long h = shut_is (some TooLong) _ (broken-here _ _ _ (lt-leb (length s) limit h)) refl
 
-  pub file-too_short : length s ≤ limit → length s < 6 → ShutIs (broken (file_conditions s (length_field s))) (Judged.Refused NotAFigure)
+  pub file-too_short : length s ≤ limit → length s < 6 → ShutIs (broken (file_conditions s (length_field s))) (Err NotAFigure)
   file-too_short short h = shut_is (some NotAFigure) _ (broken-later _ _ _ (le-leb (length s) limit short) ∙ broken-here _ _ _ (lt-leb 6 (length s) h)) refl
 
-  pub file-no-figure : length s ≤ limit → 6 ≤ length s → (id : ℕ) → id ≡ word_at s 0 → (id ≡ 0x4D4D → ⊥) → ShutIs (broken (file_conditions s (length_field s))) (Judged.Refused NotAFigure)
+  pub file-no-figure : length s ≤ limit → 6 ≤ length s → (id : ℕ) → id ≡ word_at s 0 → (id ≡ 0x4D4D → ⊥) → ShutIs (broken (file_conditions s (length_field s))) (Err NotAFigure)
   unfolding word_at
   file-no-figure short six id i h =
       shut_is (some NotAFigure) _
@@ -80,39 +79,39 @@ module _ (s : List ℕ) where
     past : broken (file_conditions s (length_field s)) ≡ broken (drop 3 (file_conditions s (length_field s)))
     past = broken-later _ _ _ p₁ ∙ broken-later _ _ _ p₂ ∙ broken-later _ _ _ p₃
 
-    pub file-short : n < 6 → ShutIs (broken (file_conditions s (length_field s))) (Judged.Refused (Short 0))
+    pub file-short : n < 6 → ShutIs (broken (file_conditions s (length_field s))) (Err (Short 0))
     file-short h = shut_is (some (Short 0)) _ (past ∙ broken-here _ _ _ (rw field (lt-leb 6 n h))) refl
 
     module _ (m : 6 ≤ n) where
       p₄ : leb 6 (length_field s) ≡ true
       p₄ = rw field (le-leb 6 n m)
 
-      pub file-overrun : length s < n → ShutIs (broken (file_conditions s (length_field s))) (Judged.Refused (Overrun 0))
+      pub file-overrun : length s < n → ShutIs (broken (file_conditions s (length_field s))) (Err (Overrun 0))
       file-overrun h = shut_is (some (Overrun 0)) _ (past ∙ broken-later _ _ _ p₄ ∙ broken-here _ _ _ (rw field (lt-leb n (length s) h))) refl
 
       module _ (l : n ≤ length s) where
         p₅ : leb (length_field s) (length s) ≡ true
         p₅ = rw field (le-leb n (length s) l)
 
-        pub file_trailing : n < length s → ShutIs (broken (file_conditions s (length_field s))) (Judged.Refused (Trailing n))
+        pub file_trailing : n < length s → ShutIs (broken (file_conditions s (length_field s))) (Err (Trailing n))
         file_trailing h =
             shut_is (some (Trailing n)) _
             (past ∙ broken-later _ _ _ p₄ ∙ broken-later _ _ _ p₅ ∙ broken-here _ _ _ (rw field (lt-leb (length s) n h)) ∙ ap (λ (k : ℕ). some (Trailing k)) field) refl
 
-        pub file_fine : length s ≤ n → ShutIs (broken (file_conditions s (length_field s))) Judged.Good
+        pub file_fine : length s ≤ n → ShutIs (broken (file_conditions s (length_field s))) (Ok tt)
         file_fine h = shut_is none _ (unbroken _ (p₁, (p₂, (p₃, (p₄, (p₅, (rw field (le-leb (length s) n h), tt))))))) refl
 
   -- ---- what follows of them
 
-  pub file-refused : (y : Refusal) (r : Judged) → r ≡ Judged.Refused y → ShutIs (broken (file_conditions s (length_field s))) r → Checked.Refused y ≡ check_call s
+  pub file-refused : (y : Refusal) (r : Result Unit Refusal) → r ≡ Err y → ShutIs (broken (file_conditions s (length_field s))) r → Err y ≡ check_call s
   unfolding check_call verdict
   file-refused y r e h = go (broken (file_conditions s (length_field s))) h
     where
-      go : (x : Option Refusal) → ShutIs x r → Checked.Refused y ≡ check_of (unless x (figure_at (top (version_in (drop 6 s))) (drop 6 s)))
+      go : (x : Option Refusal) → ShutIs x r → Err y ≡ check_of (unless x (figure_at (top (version_in (drop 6 s))) (drop 6 s)))
       go (some x) h = cc
       go none h = absurd (clash (cc))
 
-  pub file-is_fine : (r : Judged) → r ≡ Judged.Good → ShutIs (broken (file_conditions s (length_field s))) r → broken (file_conditions s (length_field s)) ≡ none
+  pub file-is_fine : (r : Result Unit Refusal) → r ≡ (Ok tt) → ShutIs (broken (file_conditions s (length_field s))) r → broken (file_conditions s (length_field s)) ≡ none
   file-is_fine r e h = go (broken (file_conditions s (length_field s))) h
     where
       go : (x : Option Refusal) → ShutIs x r → x ≡ none
@@ -165,7 +164,7 @@ module _ (s : List ℕ) (b : Bytes s) (six : 6 ≤ length s) (short : length s �
   unfolding figure_answer
   answer-is = rw whole
 
-  pub figure-refused : (y : Refusal) → RunIs (length s) 0 0 6 no_marks (walk (told s) [] 6 (slice 6 (length s) s)) (Ran.Refused y) inner → Checked.Refused y ≡ check_of (figure_answer s)
+  pub figure-refused : (y : Refusal) → RunIs (length s) 0 0 6 no_marks (walk (told s) [] 6 (slice 6 (length s) s)) (Ran.Refused y) inner → Err y ≡ check_of (figure_answer s)
   figure-refused y h =
       let a = run-refused (file (version_in (drop 6 s))) [] s 0 0x4D4D 6 (length s) [] b six (omega arith) (omega arith) (omega arith) (walk (told s) [] 6 (slice 6 (length s) s)) y inner h in
       sym (ap check_of (answer-is ∙ ap (ended (told s) 0) a))
@@ -174,16 +173,16 @@ module _ (s : List ℕ) (b : Bytes s) (six : 6 ≤ length s) (short : length s �
     well : Ran-well (file (version_in (drop 6 s))) [] s 0 0x4D4D 6 (length s) [] b six (omega arith) (omega arith) (omega arith) (walk (told s) [] 6 (slice 6 (length s) s)) n k inner
     well = run-accepted (file (version_in (drop 6 s))) [] s 0 0x4D4D 6 (length s) [] b six (omega arith) (omega arith) (omega arith) next n k inner h
 
-    module _ (as_many : Bool) (rule : RuleIs (told s) as_many) (shut : Judged) (ends : EndIs s 0x4D4D 0 as_many inner shut) where
+    module _ (as_many : Bool) (rule : RuleIs (told s) as_many) (shut : Result Unit Refusal) (ends : EndIs s 0x4D4D 0 as_many inner shut) where
       at-end : ShutIs (broken (end_conditions (told s) 0 well.t)) shut
       at-end = ends (told s) well.t (length s) refl rule well.kept
 
-      pub figure_shut : (y : Refusal) → shut ≡ Judged.Refused y → Checked.Refused y ≡ check_of (figure_answer s)
+      pub figure_shut : (y : Refusal) → shut ≡ Err y → Err y ≡ check_of (figure_answer s)
       figure_shut y e =
           go (broken (end_conditions (told s) 0 well.t)) (subst (ShutIs (broken (end_conditions (told s) 0 well.t))) e at-end) ∙
           sym (ap check_of (answer-is ∙ ap (ended (told s) 0) well.is))
         where
-          go : (x : Option Refusal) → ShutIs x (Judged.Refused y) → Checked.Refused y ≡ check_of (unless x (accepted well.t))
+          go : (x : Option Refusal) → ShutIs x (Err y) → Err y ≡ check_of (unless x (accepted well.t))
           go (some x) h = cc
           go none h = absurd (clash (cc))
 
@@ -200,11 +199,11 @@ module _ (s : List ℕ) (b : Bytes s) (six : 6 ≤ length s) (short : length s �
           let e : r.own ≡ owned (figure well.t) = omega (arith, c.own_is, well.records_are, well.skipped_are) in
           same-counts r (counts_of well.t) a d e f
 
-      pub figure-accepted : shut ≡ Judged.Good → (r : Counts) → CountsAre (n + 1) k (length s) r → Checked.Accepted r ≡ check_of (figure_answer s)
+      pub figure-accepted : shut ≡ (Ok tt) → (r : Counts) → CountsAre (n + 1) k (length s) r → Ok r ≡ check_of (figure_answer s)
       figure-accepted e r c =
           go (broken (end_conditions (told s) 0 well.t)) (subst (ShutIs (broken (end_conditions (told s) 0 well.t))) e at-end) ∙
           sym (ap check_of (answer-is ∙ ap (ended (told s) 0) well.is))
         where
-          go : (x : Option Refusal) → ShutIs x Judged.Good → Checked.Accepted r ≡ check_of (unless x (accepted well.t))
+          go : (x : Option Refusal) → ShutIs x (Ok tt) → Ok r ≡ check_of (unless x (accepted well.t))
           go (some x) h = absurd (clash (cc))
-          go none h = ap Checked.Accepted (counts_are r c)
+          go none h = ap Ok (counts_are r c)

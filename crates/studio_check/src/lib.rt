@@ -9,35 +9,35 @@ ghost use Rattle.studio_marks.specs.Marks.{ShutIs};
 ghost use Rattle.studio_check.specs.Figure.{CountsAre, figure_answer};
 
 use shared_numbers::{long_at, word_at};
-use shared_words::{Judged, Refusal};
-use studio_rules::{Checked, Counts};
+use shared_words::Refusal;
+use studio_rules::Counts;
 use studio_walk::Ran;
 
 // The file's own conditions: its length, and the header of its one chunk 4D4D.
-pub fn judge_file(file: &[u8]) -> Judged
+pub fn judge_file(file: &[u8]) -> Result<(), Refusal>
     ensures { ShutIs (broken (file_conditions file.now (length_field file.now))) result }
 {
     let size = file.len();
     if 1048576 < size {
-        return Judged::Refused(Refusal::TooLong);
+        return Err(Refusal::TooLong);
     }
     if size < 6 {
-        return Judged::Refused(Refusal::NotAFigure);
+        return Err(Refusal::NotAFigure);
     }
     if word_at(file, 0) != 0x4D4D {
-        return Judged::Refused(Refusal::NotAFigure);
+        return Err(Refusal::NotAFigure);
     }
     let len = long_at(file, 2) as usize;
     if len < 6 {
-        return Judged::Refused(Refusal::Short(0));
+        return Err(Refusal::Short(0));
     }
     if size < len {
-        return Judged::Refused(Refusal::Overrun(0));
+        return Err(Refusal::Overrun(0));
     }
     if len < size {
-        return Judged::Refused(Refusal::Trailing(len));
+        return Err(Refusal::Trailing(len));
     }
-    Judged::Good
+    Ok(())
 }
 
 // The counts of a file of so many bytes. Each byte is in a header, in own data or skipped.
@@ -55,7 +55,7 @@ fn counts(records: usize, skipped: usize, size: usize) -> Counts
 }
 
 // The children of 4D4D, and 4D4D at its end.
-fn check_figure(file: &[u8]) -> Checked
+fn check_figure(file: &[u8]) -> Result<Counts, Refusal>
     requires { (6 ≤ length file.now) × (length file.now ≤ 1048576) }
     ensures { result ≡ check_of (figure_answer file.now) }
 {
@@ -74,24 +74,24 @@ fn check_figure(file: &[u8]) -> Checked
         size,
         &mut marks,
     ) {
-        Ran::Refused(r) => Checked::Refused(r),
+        Ran::Refused(r) => Err(r),
         Ran::Done {
             next: _,
             records,
             skipped,
         } => match studio_marks::at_end(file, 0x4D4D, 0, as_many, &marks) {
-            Judged::Refused(r) => Checked::Refused(r),
-            Judged::Good => Checked::Accepted(counts(records + 1, skipped, size)),
+            Err(r) => Err(r),
+            Ok(()) => Ok(counts(records + 1, skipped, size)),
         },
     }
 }
 
 // Whether a file is a figure: the counts of its records and bytes, or the first fault in file order.
-pub fn check(file: &[u8]) -> Checked
+pub fn check(file: &[u8]) -> Result<Counts, Refusal>
     ensures { result ≡ check_call file.now }
 {
     match judge_file(file) {
-        Judged::Refused(r) => Checked::Refused(r),
-        Judged::Good => check_figure(file),
+        Err(r) => Err(r),
+        Ok(()) => check_figure(file),
     }
 }

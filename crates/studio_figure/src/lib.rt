@@ -5,9 +5,9 @@ ghost use Rattle.std.specs.Prelude.{◌≡◌};
 ghost use Rattle.studio_figure_rules.specs.Described.{write_flat};
 ghost use Rattle.studio_figure_rows.specs.Rows.{flat};
 
-use shared_words::Written;
 use studio_figure_bytes::put_figure;
 use studio_figure_judge::judge_figure;
+use shared_words::Refusal;
 
 // Writes the figure that flat rows give into the front of out. A refusal leaves out untouched, and bytes after the size stay.
 pub fn write_figure(
@@ -21,7 +21,7 @@ pub fn write_figure(
     materials: &[u32],
     colours: &[u8],
     out: &mut [u8],
-) -> Written
+) -> Result<usize, Refusal>
     ensures answer { result ≡ (write_flat (flat names.now objects.now vertices.now corners.now
         smoothing.now groups.now faces.now materials.now colours.now) out.old).answer }
     ensures out { out.new ≡ (write_flat (flat names.now objects.now vertices.now corners.now
@@ -39,13 +39,13 @@ pub fn write_figure(
         colours,
         out.len(),
     ) {
-        Written::Refused(r) => Written::Refused(r),
-        Written::Size(size) => {
+        Err(r) => Err(r),
+        Ok(size) => {
             put_figure(
                 names, objects, vertices, corners, smoothing, groups, faces, materials, colours,
                 size, out,
             );
-            Written::Size(size)
+            Ok(size)
         }
     }
 }

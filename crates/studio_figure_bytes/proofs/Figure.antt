@@ -1,4 +1,5 @@
 -- What the judgement tells of rows: they fit, each object can be put, and the bytes of the figure are those pieces in order.
+use Rattle.std.specs.Prelude.{Ok}
 use mathlib.Core.Path.{◌≡◌, refl, sym, ap, ◌∙◌, subst}
 use Prim.Native.Nat.{ℕ, zero, suc, ◌+◌, ◌-◌, ◌*◌, ◌/◌, ◌^◌, ◌<◌, ◌≤◌}
 use native.Mathlib.Omega.{arith}
@@ -8,7 +9,6 @@ use mathlib.Core.Option.{Option, none, some}
 use lib.Ieee.{Float, binary32, to_bits, fits}
 use lib.ListN.{length, length-map}
 use Rattle.shared_words.specs.declared.Refusal.{Refusal}
-use Rattle.shared_words.specs.declared.Written.TheVariants.{Size}
 use Rattle.shared_words.specs.Lists.{every, All}
 use Rattle.shared_words.specs.Conditions.{Condition, broken}
 use Rattle.shared_words.proofs.Bools.{both}
@@ -169,7 +169,7 @@ pub record Told (r : Flat) (room size : ℕ) : Type 0 where
       (over material_bytes (run (material_in r.names r.materials r.colours (rows.materials_from r)) 0 (length r.materials)) ++
       over (pieces r.names r.objects r.vertices r.corners r.smoothing r.groups r.faces (rows.groups_from r)) (run (λ k. k) 0 (object_count r))))
 
-pub told : (r : Flat) (room size : ℕ) → Floats32 r.vertices → judged_flat r room ≡ Size size → Told r room size
+pub told : (r : Flat) (room size : ℕ) → Floats32 r.vertices → judged_flat r room ≡ Ok size → Told r room size
 unfolding judged_flat
 told r room size b e =
     let a = answer-size (size_of (described r)) size (broken (fit_conditions r ++ conditions (described r) room)) e in

@@ -2,7 +2,6 @@
 #![tactic(auto)]
 
 ghost use Rattle.std.specs.Prelude.{◌≡◌, ℕ, ◌+◌, ◌*◌, ◌/◌, ◌<◌, ◌≤◌, length};
-ghost use Rattle.shared_words.specs.declared.Written.{Written};
 ghost use Rattle.shared_numbers.specs.Put.{Put};
 ghost use Rattle.studio_figure_rules.specs.Given.{over};
 ghost use Rattle.shared_words.specs.Lists.{total};
@@ -11,7 +10,6 @@ ghost use Rattle.studio_figure_rows.specs.Rows.{flat, entry, sum_to, run};
 ghost use Rattle.studio_figure_objects.specs.Sizes.{object_bytes};
 ghost use Rattle.studio_figure_bytes.specs.Objects.{At, Behind, Writable, flat_bytes, pieces};
 
-use shared_words::Written;
 use studio_figure_chunks::{put_groups, put_lists, put_materials, put_smoothing};
 use studio_figure_objects::object_size;
 use studio_figure_rows::{number, sum};
@@ -168,7 +166,7 @@ pub fn put_figure(
     out: &mut [u8],
 ) -> usize
     requires { judged_flat (flat names.now objects.now vertices.now corners.now smoothing.now groups.now faces.now materials.now colours.now)
-        (length out.old) ≡ Written.Size size }
+        (length out.old) ≡ Ok size }
     ensures { Put out.old 0 (flat_bytes (flat names.now objects.now vertices.now corners.now
         smoothing.now groups.now faces.now materials.now colours.now)) out.new result }
 {

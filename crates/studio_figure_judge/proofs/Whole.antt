@@ -1,4 +1,5 @@
 -- The judgement of the whole: the rows first, then names, objects and the size of what they give.
+use Rattle.std.specs.Prelude.{Ok, Err}
 use mathlib.Core.Path.{◌≡◌, refl, sym, ap, ◌∙◌}
 use Prim.Native.Nat.{ℕ, suc, ◌+◌, ◌<◌, ◌≤◌}
 use native.Mathlib.Omega.{arith}
@@ -10,7 +11,6 @@ use lib.ListN.{get_or}
 use borrow.Author.Tests.{le-leb, lt-leb, leb-true, leb-false}
 use Rattle.shared_words.specs.declared.Refusal.{Refusal}
 use Rattle.shared_words.specs.declared.Refusal.TheVariants.{TooLong, NoRoom}
-use Rattle.shared_words.specs.declared.Written.TheVariants.{Refused, Size}
 use Rattle.shared_words.specs.Lists.{every}
 use Rattle.shared_words.specs.Conditions.{Condition, must, broken, answered}
 use Rattle.shared_words.specs.Refusals.{limit}
@@ -22,8 +22,6 @@ use Rattle.studio_figure_rules.specs.Given.{Figure}
 use Rattle.studio_figure_rules.specs.Judged.{size_of, conditions}
 use Rattle.studio_figure_rules.specs.Described.{Flat, fit_conditions, described, judged_flat}
 use Rattle.studio_figure_rules.proofs.Described.{broken-first, broken-rest}
-use Rattle.shared_words.specs.declared.Judged.{Judged}
-use Rattle.shared_words.specs.declared.Judged.TheVariants.{Good}
 use Rattle.studio_figure_rows.specs.Rows.{Capped, figure_of}
 use Rattle.studio_figure_rows.specs.Same.{Fits}
 use Rattle.studio_figure_rows.proofs.Answers.{refused-told, good-told}
@@ -63,7 +61,7 @@ sizes-joined front first rest size a b = go (leb first 1048576) refl (leb size 1
         record { exact = λ l. absurd (omega arith); past = λ l. omega arith; within = w }
 
 module _ (all size room : ℕ) (c : Capped 0 all 1048576 size) where
-  pub too_long : 1048576 < size → Refused TooLong ≡ size_answer all room
+  pub too_long : 1048576 < size → Err TooLong ≡ size_answer all room
   unfolding size_answer
   too_long h = sym (ap (answer_of all) (broken-here (leb all limit) TooLong (must (leb all room) (NoRoom all) ∷ []) (lt-leb all limit (omega (arith, c.past h)))))
 
@@ -74,21 +72,21 @@ module _ (all size room : ℕ) (c : Capped 0 all 1048576 size) where
     within : broken (size_asked all room) ≡ broken (must (leb all room) (NoRoom all) ∷ [])
     within = broken-later (leb all limit) TooLong (must (leb all room) (NoRoom all) ∷ []) (le-leb all limit (omega (arith, is)))
 
-    pub no_room : room < size → Refused (NoRoom size) ≡ size_answer all room
+    pub no_room : room < size → Err (NoRoom size) ≡ size_answer all room
     unfolding size_answer
-    no_room l = ap (λ (n : ℕ). Refused (NoRoom n)) is ∙ sym (ap (answer_of all) (within ∙ broken-here (leb all room) (NoRoom all) [] (lt-leb all room (omega (arith, is)))))
+    no_room l = ap (λ (n : ℕ). Err (NoRoom n)) is ∙ sym (ap (answer_of all) (within ∙ broken-here (leb all room) (NoRoom all) [] (lt-leb all room (omega (arith, is)))))
 
-    pub has_room : size ≤ room → Size size ≡ size_answer all room
+    pub has_room : size ≤ room → Ok size ≡ size_answer all room
     unfolding size_answer broken
-    has_room l = ap Size is ∙ sym (ap (answer_of all) (within ∙ broken-later (leb all room) (NoRoom all) [] (le-leb all room (omega (arith, is)))))
+    has_room l = ap Ok is ∙ sym (ap (answer_of all) (within ∙ broken-later (leb all room) (NoRoom all) [] (le-leb all room (omega (arith, is)))))
 
 -- ---- the whole
 
-pub fits_told : (r : Flat) → Good ≡ answered (fit_conditions r) → Fits r
+pub fits_told : (r : Flat) → (Ok tt) ≡ answered (fit_conditions r) → Fits r
 fits_told r e = (by_position r).fits (good-told (fit_conditions r) e)
 
 module _ (r : Flat) (room : ℕ) where
-  pub misfits : (x : Refusal) → Judged.Refused x ≡ answered (fit_conditions r) → Refused x ≡ judged_flat r room
+  pub misfits : (x : Refusal) → Err x ≡ answered (fit_conditions r) → Err x ≡ judged_flat r room
   unfolding judged_flat
   misfits x e = sym (ap (answer_of (size_of (described r))) (broken-first (fit_conditions r) (conditions (described r) room) x (refused-told (fit_conditions r) x e)))
 
@@ -101,7 +99,7 @@ module _ (r : Flat) (room : ℕ) where
   abbrev size : ℕ
   size = size_of_rows r.objects r.groups r.materials
 
-  module _ (b : Floats32 r.vertices) (e : Good ≡ answered (fit_conditions r)) where
+  module _ (b : Floats32 r.vertices) (e : (Ok tt) ≡ answered (fit_conditions r)) where
     joined : judged_flat r room ≡ answer_of size (broken (names ++ (objects ++ size_asked size room)))
     unfolding judged_flat
     joined =
@@ -110,16 +108,16 @@ module _ (r : Flat) (room : ℕ) where
         ap (λ (g : Figure). answer_of (size_of g) (broken (conditions g room))) ((by_position r).same f) ∙
         ap (λ (n : ℕ). answer_of n (broken (conditions (figure_of r) room))) (size-all r f) ∙ ap (λ (cs : List Condition). answer_of size (broken cs)) (asked-same r f b room)
 
-    pub names-refused : (x : Refusal) → Judged.Refused x ≡ answered names → Refused x ≡ judged_flat r room
+    pub names-refused : (x : Refusal) → Err x ≡ answered names → Err x ≡ judged_flat r room
     names-refused x h = sym (joined ∙ ap (answer_of size) (broken-first names (objects ++ size_asked size room) x (refused-told names x h)))
 
-    module _ (h : Good ≡ answered names) where
+    module _ (h : (Ok tt) ≡ answered names) where
       named : judged_flat r room ≡ answer_of size (broken (objects ++ size_asked size room))
       named = joined ∙ ap (answer_of size) (broken-rest names (objects ++ size_asked size room) (good-told names h))
 
-      pub objects-refused : (x : Refusal) → Judged.Refused x ≡ answered objects → Refused x ≡ judged_flat r room
+      pub objects-refused : (x : Refusal) → Err x ≡ answered objects → Err x ≡ judged_flat r room
       objects-refused x o = sym (named ∙ ap (answer_of size) (broken-first objects (size_asked size room) x (refused-told objects x o)))
 
-      pub sized : Good ≡ answered objects → size_answer size room ≡ judged_flat r room
+      pub sized : (Ok tt) ≡ answered objects → size_answer size room ≡ judged_flat r room
       unfolding size_answer
       sized o = sym (named ∙ ap (answer_of size) (broken-rest objects (size_asked size room) (good-told objects o)))

@@ -1,7 +1,7 @@
 -- The judgement of flat rows that fit, by position: what is asked of names, of objects and of the size, in the papers' order.
-use Rattle.std.specs.Prelude.{ℕ, ◌+◌, ◌*◌, ◌/◌, Bool, true, false, List, [], ◌∷◌, ◌++◌, leb, Float, length}
+use Rattle.shared_words.specs.declared.Refusal.{Refusal}
+use Rattle.std.specs.Prelude.{ℕ, ◌+◌, ◌*◌, ◌/◌, Bool, true, false, List, [], ◌∷◌, ◌++◌, leb, Float, length, Result}
 use Rattle.shared_words.specs.declared.Refusal.TheVariants.{TooLong, NoRoom, NoMaterial}
-use Rattle.shared_words.specs.declared.Written.{Written}
 use Rattle.shared_words.specs.Conditions.{Condition, must, broken}
 use Rattle.shared_words.specs.Refusals.{limit}
 use Rattle.studio_write_judge.specs.Judged.{each_must, answer_of}
@@ -71,5 +71,5 @@ size_of_rows objects groups materials =
 abbrev pub size_asked : ℕ → ℕ → List Condition
 size_asked size room = must (leb size limit) TooLong ∷ must (leb size room) (NoRoom size) ∷ []
 
-unfoldable pub size_answer : ℕ → ℕ → Written
+unfoldable pub size_answer : ℕ → ℕ → Result ℕ Refusal
 size_answer size room = answer_of size (broken (size_asked size room))

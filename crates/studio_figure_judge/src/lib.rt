@@ -7,7 +7,7 @@ ghost use Rattle.studio_figure_rules.specs.Described.{judged_flat};
 ghost use Rattle.studio_figure_rows.specs.Rows.{flat, sum_to};
 ghost use Rattle.studio_figure_judge.specs.Judged.{groups_at, text_asked, same_asked, material_asked, names_asked, objects_asked, size_of_rows, size_answer};
 
-use shared_words::{Judged, Refusal, Written};
+use shared_words::Refusal;
 use studio_figure_names::{first_unnamed, judge_differ, judge_names};
 use studio_figure_objects::{
     judge_counts, judge_floats, judge_indices, materials_size, objects_size,
@@ -20,14 +20,14 @@ const LIMIT: usize = 1048576;
 const ANY: usize = 0x7FFF_FFFF_FFFF_FFFF;
 
 // 9, or 24: the names of the objects, then those of the materials.
-fn judge_text(names: &[u8], objects: &[u32], materials: &[u32], text: bool) -> Judged
+fn judge_text(names: &[u8], objects: &[u32], materials: &[u32], text: bool) -> Result<(), Refusal>
     requires { groups_at objects.now materials.now ≤ length names.now }
     ensures { result ≡ answered (text_asked text names.now objects.now materials.now) }
 {
     let n = objects.len() / 5;
     match judge_names(names, 0, objects, 5, n, text) {
-        Judged::Refused(r) => Judged::Refused(r),
-        Judged::Good => {
+        Err(r) => Err(r),
+        Ok(()) => {
             let first = sum(objects, 5, 0, 0, n, ANY);
             judge_names(names, first, materials, 1, materials.len(), text)
         }
@@ -35,14 +35,14 @@ fn judge_text(names: &[u8], objects: &[u32], materials: &[u32], text: bool) -> J
 }
 
 // 29: likewise.
-fn judge_same(names: &[u8], objects: &[u32], materials: &[u32]) -> Judged
+fn judge_same(names: &[u8], objects: &[u32], materials: &[u32]) -> Result<(), Refusal>
     requires { groups_at objects.now materials.now ≤ length names.now }
     ensures { result ≡ answered (same_asked names.now objects.now materials.now) }
 {
     let n = objects.len() / 5;
     match judge_differ(names, 0, objects, 5, n) {
-        Judged::Refused(r) => Judged::Refused(r),
-        Judged::Good => {
+        Err(r) => Err(r),
+        Ok(()) => {
             let first = sum(objects, 5, 0, 0, n, ANY);
             judge_differ(names, first, materials, 1, materials.len())
         }
@@ -50,7 +50,7 @@ fn judge_same(names: &[u8], objects: &[u32], materials: &[u32]) -> Judged
 }
 
 // 30.
-fn judge_materials(names: &[u8], objects: &[u32], materials: &[u32], groups: &[u32]) -> Judged
+fn judge_materials(names: &[u8], objects: &[u32], materials: &[u32], groups: &[u32]) -> Result<(), Refusal>
     requires { groups_at objects.now materials.now + sum_to 2 0 groups.now (length groups.now / 2) ≤ length names.now }
     ensures { result ≡ answered (material_asked names.now objects.now materials.now groups.now) }
 {
@@ -59,23 +59,23 @@ fn judge_materials(names: &[u8], objects: &[u32], materials: &[u32], groups: &[u
     let n = groups.len() / 2;
     let group = first_unnamed(names, first, materials, from, groups, n);
     if group < n {
-        return Judged::Refused(Refusal::NoMaterial(group));
+        return Err(Refusal::NoMaterial(group));
     }
-    Judged::Good
+    Ok(())
 }
 
 // All that is asked of names.
-fn judge_all_names(names: &[u8], objects: &[u32], materials: &[u32], groups: &[u32]) -> Judged
+fn judge_all_names(names: &[u8], objects: &[u32], materials: &[u32], groups: &[u32]) -> Result<(), Refusal>
     requires { groups_at objects.now materials.now + sum_to 2 0 groups.now (length groups.now / 2) ≤ length names.now }
     ensures { result ≡ answered (names_asked names.now objects.now materials.now groups.now) }
 {
     match judge_text(names, objects, materials, false) {
-        Judged::Refused(r) => Judged::Refused(r),
-        Judged::Good => match judge_text(names, objects, materials, true) {
-            Judged::Refused(r) => Judged::Refused(r),
-            Judged::Good => match judge_same(names, objects, materials) {
-                Judged::Refused(r) => Judged::Refused(r),
-                Judged::Good => judge_materials(names, objects, materials, groups),
+        Err(r) => Err(r),
+        Ok(()) => match judge_text(names, objects, materials, true) {
+            Err(r) => Err(r),
+            Ok(()) => match judge_same(names, objects, materials) {
+                Err(r) => Err(r),
+                Ok(()) => judge_materials(names, objects, materials, groups),
             },
         },
     }
@@ -88,7 +88,7 @@ fn judge_all_objects(
     corners: &[u16],
     groups: &[u32],
     faces: &[u16],
-) -> Judged
+) -> Result<(), Refusal>
     requires objects_in_bounds { (sum_to 5 1 objects.now (length objects.now / 5) ≤ length vertices.now) ×
         (sum_to 5 2 objects.now (length objects.now / 5) ≤ length corners.now) }
     requires objects_in_bounds_2 { (2 * sum_to 5 4 objects.now (length objects.now / 5) ≤ length groups.now) ×
@@ -98,16 +98,16 @@ fn judge_all_objects(
 {
     let n = objects.len() / 5;
     match judge_counts(objects, groups, n) {
-        Judged::Refused(r) => Judged::Refused(r),
-        Judged::Good => match judge_floats(objects, vertices, n) {
-            Judged::Refused(r) => Judged::Refused(r),
-            Judged::Good => judge_indices(objects, corners, groups, faces, n),
+        Err(r) => Err(r),
+        Ok(()) => match judge_floats(objects, vertices, n) {
+            Err(r) => Err(r),
+            Ok(()) => judge_indices(objects, corners, groups, faces, n),
         },
     }
 }
 
 // 1 and 15, or the size.
-fn judge_size(objects: &[u32], groups: &[u32], materials: &[u32], room: usize) -> Written
+fn judge_size(objects: &[u32], groups: &[u32], materials: &[u32], room: usize) -> Result<usize, Refusal>
     requires { (2 * sum_to 5 4 objects.now (length objects.now / 5) ≤ length groups.now) ×
         (sum_to 1 0 materials.now (length materials.now) < 9223372036854775808) }
     ensures { result ≡ size_answer (size_of_rows objects.now groups.now materials.now) room }
@@ -118,12 +118,12 @@ fn judge_size(objects: &[u32], groups: &[u32], materials: &[u32], room: usize) -
     );
     let size = objects_size(objects, groups, objects.len() / 5, first);
     if LIMIT < size {
-        return Written::Refused(Refusal::TooLong);
+        return Err(Refusal::TooLong);
     }
     if room < size {
-        return Written::Refused(Refusal::NoRoom(size));
+        return Err(Refusal::NoRoom(size));
     }
-    Written::Size(size)
+    Ok(size)
 }
 
 // The answer for a buffer of `room` bytes.
@@ -138,19 +138,19 @@ pub fn judge_figure(
     materials: &[u32],
     colours: &[u8],
     room: usize,
-) -> Written
+) -> Result<usize, Refusal>
     ensures { result ≡ judged_flat (flat names.now objects.now vertices.now corners.now smoothing.now
         groups.now faces.now materials.now colours.now) room }
 {
     match fits(
         names, objects, vertices, corners, smoothing, groups, faces, materials, colours,
     ) {
-        Judged::Refused(r) => Written::Refused(r),
-        Judged::Good => match judge_all_names(names, objects, materials, groups) {
-            Judged::Refused(r) => Written::Refused(r),
-            Judged::Good => match judge_all_objects(objects, vertices, corners, groups, faces) {
-                Judged::Refused(r) => Written::Refused(r),
-                Judged::Good => judge_size(objects, groups, materials, room),
+        Err(r) => Err(r),
+        Ok(()) => match judge_all_names(names, objects, materials, groups) {
+            Err(r) => Err(r),
+            Ok(()) => match judge_all_objects(objects, vertices, corners, groups, faces) {
+                Err(r) => Err(r),
+                Ok(()) => judge_size(objects, groups, materials, room),
             },
         },
     }

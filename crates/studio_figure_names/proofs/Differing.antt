@@ -1,4 +1,5 @@
 -- Names that are looked for among others, and names that differ.
+use Rattle.std.specs.Prelude.{Ok, Err}
 use mathlib.Core.Path.{◌≡◌, refl, sym, ap, ◌∙◌}
 use Prim.Native.Nat.{ℕ, ◌+◌, ◌-◌, ◌<◌, ◌≤◌}
 use native.Mathlib.Omega.{arith}
@@ -12,7 +13,6 @@ use Rattle.shared_words.specs.Conditions.{must, broken, judged_by, answered}
 use Rattle.shared_words.specs.Lists.{same}
 use Rattle.shared_words.proofs.Conditions.{broken-here, broken-later}
 use Rattle.studio_figure_rules.specs.Judged.{one_of, differ}
-use Rattle.shared_words.specs.declared.Judged.TheVariants.{Good, Refused}
 use Rattle.studio_figure_rows.specs.Rows.{entry, sum_to, run, part, name_at}
 use Rattle.studio_figure_names.specs.Names.{Repeated}
 use Rattle.studio_figure_rows.proofs.Runs.{run-opened, run_none, run-joined, sum-next}
@@ -109,12 +109,12 @@ module _ (thing : ℕ → List ℕ) (n : ℕ) where
       left = d.left ∙ next ∙ broken-later _ _ _ (ap not (d.those (thing i) ∙ sym e));
     }
 
-    pub differing_out : true ≡ one_of (run thing 0 i) (thing i) → Refused (SameName i) ≡ answered (differ [] (run thing 0 n))
+    pub differing_out : true ≡ one_of (run thing 0 i) (thing i) → Err (SameName i) ≡ answered (differ [] (run thing 0 n))
     unfolding answered
     differing_out e =
         sym (ap judged_by (d.left ∙ next ∙ broken-here _ _ _ (ap not (d.those (thing i) ∙ sym e)) ∙ ap (λ (k : ℕ). some (SameName k)) d.count))
 
-  pub differing_all : (i : ℕ) → n ≤ i → Differing i → Good ≡ answered (differ [] (run thing 0 n))
+  pub differing_all : (i : ℕ) → n ≤ i → Differing i → (Ok tt) ≡ answered (differ [] (run thing 0 n))
   unfolding answered broken
   differing_all i h d = sym (ap judged_by (d.left ∙ ap (λ (l : List (List ℕ)). broken (differ d.seen l)) (run_none thing i n h)))
 

@@ -1,12 +1,11 @@
 -- The names of flat rows: what is asked of each, and of all of them.
-use Rattle.std.specs.Prelude.{◌≡◌, ℕ, ◌*◌, ◌<◌, ◌≤◌, Bool, true, false, cond, List, [], ltb, length}
+use Rattle.shared_words.specs.declared.Refusal.{Refusal}
+use Rattle.std.specs.Prelude.{◌≡◌, ℕ, ◌*◌, ◌<◌, ◌≤◌, Bool, true, false, cond, List, [], ltb, length, Result, Ok, Err}
 use Rattle.shared_words.specs.declared.Refusal.TheVariants.{SameName}
 use Rattle.shared_words.specs.Lists.{first_fault}
 use Rattle.shared_words.specs.Conditions.{Condition, answered}
 use Rattle.shared_name_tree.specs.Names.{name_of, held, Holds}
 use Rattle.studio_figure_rules.specs.Judged.{without_zero, is_label, one_of, differ}
-use Rattle.shared_words.specs.declared.Judged.{Judged}
-use Rattle.shared_words.specs.declared.Judged.TheVariants.{Good, Refused}
 use Rattle.studio_figure_rows.specs.Rows.{run, name_at}
 use Rattle.studio_figure_names.specs.declared.Told.{Told}
 
@@ -22,8 +21,8 @@ name_asked true name = is_label name
 -- ---- what is asked of names, and of groups against them
 
 -- the answer by the first of n names that is among those before it; where none is, that is no less than n
-abbrev pub repeated_answer : ℕ → ℕ → Judged
-repeated_answer r n = cond (ltb r n) (Refused (SameName r)) Good
+abbrev pub repeated_answer : ℕ → ℕ → Result Unit Refusal
+repeated_answer r n = cond (ltb r n) (Err (SameName r)) (Ok tt)
 
 abbrev pub Repeated : (ℕ → List ℕ) → ℕ → ℕ → Type 0
 Repeated name n r = repeated_answer r n ≡ answered (differ [] (run name 0 n))

@@ -14,7 +14,7 @@ ghost use Rattle.studio_figure_names.specs.Names.{names_in, name_asked, repeated
 use shared_labels::label_size;
 use shared_name_tree::{add, find};
 use shared_names::same_name;
-use shared_words::{Judged, Refusal};
+use shared_words::Refusal;
 use studio_figure_rows::number;
 use studio_write_judge::first_zero;
 
@@ -22,21 +22,21 @@ use studio_write_judge::first_zero;
 const FEW: usize = 32;
 
 // Whether a name has a zero, or with `text` does not fit the label.
-fn judge_name(name: &[u8], text: bool) -> Judged
+fn judge_name(name: &[u8], text: bool) -> Result<(), Refusal>
     ensures { result ≡ answered (name_asked text name.now) }
 {
     if text {
         let taken = label_size(name, 0, name.len());
         if taken < name.len() {
-            return Judged::Refused(Refusal::Text(taken));
+            return Err(Refusal::Text(taken));
         }
-        return Judged::Good;
+        return Ok(());
     }
     let zero = first_zero(name);
     if zero < name.len() {
-        return Judged::Refused(Refusal::Name(zero));
+        return Err(Refusal::Name(zero));
     }
-    Judged::Good
+    Ok(())
 }
 
 // That of the first n names of a row of things of `width` numbers, where the first name begins at `from`.
@@ -47,7 +47,7 @@ pub fn judge_names(
     width: usize,
     n: usize,
     text: bool,
-) -> Judged
+) -> Result<(), Refusal>
     requires { (0 < width) × (width * n ≤ length row.now) × (from + sum_to width 0 row.now n ≤ length names.now) }
     ensures { result ≡ answered (over (name_asked text) (names_in width row.now names.now from n)) }
 {
@@ -56,16 +56,16 @@ pub fn judge_names(
     while i < n {
         let end = at + number(row, width, 0, i);
         match judge_name(&names[at..end], text) {
-            Judged::Refused(r) => {
-                return Judged::Refused(r);
+            Err(r) => {
+                return Err(r);
             }
-            Judged::Good => {
+            Ok(()) => {
                 at = end;
                 i += 1;
             }
         }
     }
-    Judged::Good
+    Ok(())
 }
 
 // Whether a name, of `len` bytes at a position, is one of the first n of a row.
@@ -271,17 +271,17 @@ fn tell(
 }
 
 // The answer by the first name that is among those before it.
-fn answer(repeated: usize, n: usize) -> Judged
+fn answer(repeated: usize, n: usize) -> Result<(), Refusal>
     ensures { result ≡ repeated_answer repeated n }
 {
     if repeated < n {
-        return Judged::Refused(Refusal::SameName(repeated));
+        return Err(Refusal::SameName(repeated));
     }
-    Judged::Good
+    Ok(())
 }
 
 // The first of the n names that an earlier one has too. A few are compared with each other.
-pub fn judge_differ(names: &[u8], from: usize, row: &[u32], width: usize, n: usize) -> Judged
+pub fn judge_differ(names: &[u8], from: usize, row: &[u32], width: usize, n: usize) -> Result<(), Refusal>
     requires { (0 < width) × (width * n ≤ length row.now) × (from + sum_to width 0 row.now n ≤ length names.now) }
     ensures { result ≡ answered (differ [] (names_in width row.now names.now from n)) }
 {

@@ -10,7 +10,7 @@ ghost use Rattle.studio_figure_rows.specs.Rows.{entry, sum_to, run, Capped};
 ghost use Rattle.studio_figure_objects.specs.Asked.{group_counts, counts, all_finite, floats, all_below, group_indices, indices};
 ghost use Rattle.studio_figure_objects.specs.Sizes.{size_of_words, object_bytes};
 
-use shared_words::{Judged, Refusal};
+use shared_words::Refusal;
 use studio_figure_rows::{number, sum};
 use studio_write_judge::{all_below, all_finite, first_not_below, first_not_finite, whole_row};
 
@@ -22,7 +22,7 @@ const ANY: usize = 0x7FFF_FFFF_FFFF_FFFF;
 // ---- 13
 
 // The first of n groups that has too many faces.
-fn judge_group_counts(groups: &[u32], first: usize, n: usize) -> Judged
+fn judge_group_counts(groups: &[u32], first: usize, n: usize) -> Result<(), Refusal>
     requires { 2 * (first + n) ≤ length groups.now }
     ensures { result ≡ answered (group_counts groups.now first n) }
 {
@@ -30,11 +30,11 @@ fn judge_group_counts(groups: &[u32], first: usize, n: usize) -> Judged
     while i < n {
         let faces = number(groups, 2, 1, first + i);
         if 65535 < faces {
-            return Judged::Refused(Refusal::Count(faces));
+            return Err(Refusal::Count(faces));
         }
         i += 1;
     }
-    Judged::Good
+    Ok(())
 }
 
 // Whether there are no smoothing words, or one a face.
@@ -45,27 +45,27 @@ fn none_or_each(words: usize, faces: usize) -> bool
 }
 
 // The counts of object i, whose first group is of number `group`.
-fn judge_object_counts(objects: &[u32], groups: &[u32], i: usize, group: usize) -> Judged
+fn judge_object_counts(objects: &[u32], groups: &[u32], i: usize, group: usize) -> Result<(), Refusal>
     requires { (5 * i + 5 ≤ length objects.now) × (group ≡ sum_to 5 4 objects.now i) × (2 * (group + entry 5 4 objects.now i) ≤ length groups.now) }
     ensures { result ≡ answered (counts objects.now groups.now i) }
 {
     let floats = number(objects, 5, 1, i);
     if !whole_row(floats) {
-        return Judged::Refused(Refusal::Count(floats));
+        return Err(Refusal::Count(floats));
     }
     let corners = number(objects, 5, 2, i);
     if !whole_row(corners) {
-        return Judged::Refused(Refusal::Count(corners));
+        return Err(Refusal::Count(corners));
     }
     let words = number(objects, 5, 3, i);
     if !none_or_each(words, corners / 3) {
-        return Judged::Refused(Refusal::Count(words));
+        return Err(Refusal::Count(words));
     }
     judge_group_counts(groups, group, number(objects, 5, 4, i))
 }
 
 // Those of n objects.
-pub fn judge_counts(objects: &[u32], groups: &[u32], n: usize) -> Judged
+pub fn judge_counts(objects: &[u32], groups: &[u32], n: usize) -> Result<(), Refusal>
     requires { (5 * n ≤ length objects.now) × (2 * sum_to 5 4 objects.now n ≤ length groups.now) }
     ensures { result ≡ answered (over (counts objects.now groups.now) (run (λ i. i) 0 n)) }
 {
@@ -73,32 +73,32 @@ pub fn judge_counts(objects: &[u32], groups: &[u32], n: usize) -> Judged
     let mut i = 0usize;
     while i < n {
         match judge_object_counts(objects, groups, i, group) {
-            Judged::Refused(r) => {
-                return Judged::Refused(r);
+            Err(r) => {
+                return Err(r);
             }
-            Judged::Good => {
+            Ok(()) => {
                 group += number(objects, 5, 4, i);
                 i += 1;
             }
         }
     }
-    Judged::Good
+    Ok(())
 }
 
 // ---- 11
 
 // The first float that is not finite.
-fn judge_finite(vertices: &[f32]) -> Judged
+fn judge_finite(vertices: &[f32]) -> Result<(), Refusal>
     ensures { result ≡ answered (all_finite vertices.now) }
 {
     if !all_finite(vertices) {
-        return Judged::Refused(Refusal::Number(first_not_finite(vertices)));
+        return Err(Refusal::Number(first_not_finite(vertices)));
     }
-    Judged::Good
+    Ok(())
 }
 
 // That of n objects, each by itself.
-pub fn judge_floats(objects: &[u32], vertices: &[f32], n: usize) -> Judged
+pub fn judge_floats(objects: &[u32], vertices: &[f32], n: usize) -> Result<(), Refusal>
     requires { (5 * n ≤ length objects.now) × (sum_to 5 1 objects.now n ≤ length vertices.now) }
     ensures { result ≡ answered (over (floats objects.now vertices.now) (run (λ i. i) 0 n)) }
 {
@@ -107,34 +107,34 @@ pub fn judge_floats(objects: &[u32], vertices: &[f32], n: usize) -> Judged
     while i < n {
         let end = at + number(objects, 5, 1, i);
         match judge_finite(&vertices[at..end]) {
-            Judged::Refused(r) => {
-                return Judged::Refused(r);
+            Err(r) => {
+                return Err(r);
             }
-            Judged::Good => {
+            Ok(()) => {
                 at = end;
                 i += 1;
             }
         }
     }
-    Judged::Good
+    Ok(())
 }
 
 // ---- 12
 
 // The first number that is not below n. (Where n has 16 bits the row is first looked through by vector code.)
-fn judge_below(n: usize, row: &[u16]) -> Judged
+fn judge_below(n: usize, row: &[u16]) -> Result<(), Refusal>
     ensures { result ≡ answered (all_below n row.now) }
 {
     if n < 65536 {
         if all_below(n as u16, row) {
-            return Judged::Good;
+            return Ok(());
         }
     }
     let at = first_not_below(n, row);
     if at < row.len() {
-        return Judged::Refused(Refusal::Index(at));
+        return Err(Refusal::Index(at));
     }
-    Judged::Good
+    Ok(())
 }
 
 // That of the face numbers of n groups, of which there are f faces; those of the first begin at `start`.
@@ -145,7 +145,7 @@ fn judge_group_indices(
     first: usize,
     n: usize,
     start: usize,
-) -> Judged
+) -> Result<(), Refusal>
     requires { (2 * (first + n) ≤ length groups.now) × (start ≡ sum_to 2 1 groups.now first) ×
         (sum_to 2 1 groups.now (first + n) ≤ length faces.now) }
     ensures { result ≡ answered (group_indices groups.now faces.now f first n) }
@@ -155,16 +155,16 @@ fn judge_group_indices(
     while i < n {
         let end = at + number(groups, 2, 1, first + i);
         match judge_below(f, &faces[at..end]) {
-            Judged::Refused(r) => {
-                return Judged::Refused(r);
+            Err(r) => {
+                return Err(r);
             }
-            Judged::Good => {
+            Ok(()) => {
                 at = end;
                 i += 1;
             }
         }
     }
-    Judged::Good
+    Ok(())
 }
 
 // Those of object i: its corners, whose first stands at `at`, then the face numbers of its groups.
@@ -177,7 +177,7 @@ fn judge_object_indices(
     at: usize,
     group: usize,
     face: usize,
-) -> Judged
+) -> Result<(), Refusal>
     requires i_in_bounds { (5 * i + 5 ≤ length objects.now) × (at ≡ sum_to 5 2 objects.now i) × (at + entry 5 2 objects.now i ≤ length corners.now) }
     requires group_value { (group ≡ sum_to 5 4 objects.now i) × (2 * (group + entry 5 4 objects.now i) ≤ length groups.now) }
     requires face_value { (face ≡ sum_to 2 1 groups.now group) × (sum_to 2 1 groups.now (group + entry 5 4 objects.now i) ≤ length faces.now) }
@@ -186,8 +186,8 @@ fn judge_object_indices(
     let count = number(objects, 5, 2, i);
     let end = at + count;
     match judge_below(number(objects, 5, 1, i) / 3, &corners[at..end]) {
-        Judged::Refused(r) => Judged::Refused(r),
-        Judged::Good => judge_group_indices(
+        Err(r) => Err(r),
+        Ok(()) => judge_group_indices(
             groups,
             faces,
             count / 3,
@@ -205,7 +205,7 @@ pub fn judge_indices(
     groups: &[u32],
     faces: &[u16],
     n: usize,
-) -> Judged
+) -> Result<(), Refusal>
     requires n_in_bounds { (5 * n ≤ length objects.now) × (sum_to 5 2 objects.now n ≤ length corners.now) × (2 * sum_to 5 4 objects.now n ≤ length groups.now) }
     requires n_in_bounds_2 { sum_to 2 1 groups.now (sum_to 5 4 objects.now n) ≤ length faces.now }
     ensures { result ≡ answered (over (indices objects.now corners.now groups.now faces.now)
@@ -217,10 +217,10 @@ pub fn judge_indices(
     let mut i = 0usize;
     while i < n {
         match judge_object_indices(objects, corners, groups, faces, i, at, group, face) {
-            Judged::Refused(r) => {
-                return Judged::Refused(r);
+            Err(r) => {
+                return Err(r);
             }
-            Judged::Good => {
+            Ok(()) => {
                 at += number(objects, 5, 2, i);
                 let next = group + number(objects, 5, 4, i);
                 face += sum(groups, 2, 1, group, next, ANY);
@@ -229,7 +229,7 @@ pub fn judge_indices(
             }
         }
     }
-    Judged::Good
+    Ok(())
 }
 
 // ---- 1

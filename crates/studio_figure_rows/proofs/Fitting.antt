@@ -1,4 +1,5 @@
 -- The conditions of the rows, by sums: which of them is answered, and that none is where all fit.
+use Rattle.std.specs.Prelude.{Ok, Err}
 use mathlib.Core.Path.{◌≡◌, refl, sym, ap, ◌∙◌}
 use Prim.Native.Nat.{ℕ, ◌+◌, ◌*◌, ◌%◌}
 use native.Mathlib.Omega.{arith}
@@ -13,7 +14,6 @@ use Rattle.shared_words.specs.Conditions.{Condition, must, broken, judged_by, an
 use Rattle.shared_words.proofs.Conditions.{Met, unbroken}
 use Rattle.studio_write_judge.proofs.Judged.{broken-at}
 use Rattle.studio_figure_rules.specs.Described.{Flat, ObjectCounts, GroupCounts, object_name_bytes, material_name_bytes, group_name_bytes, long_must, fit_conditions}
-use Rattle.shared_words.specs.declared.Judged.TheVariants.{Good, Refused}
 use Rattle.studio_figure_rows.specs.Rows.{sum_to, object_count, group_count, names_length}
 use Rattle.studio_figure_rows.proofs.Same.{object-total, group-total, object-names, material-names, group-names}
 
@@ -44,13 +44,13 @@ module _ (r : Flat) where
         group-total r (λ (c : GroupCounts). c.faces) 1 (λ i. refl),
       )
 
-  pub misfit : (k : ℕ) {b : Bool} {x : Refusal} {rest : List Condition} → Met (take k asked) → drop k asked ≡ must b x ∷ rest → b ≡ false → Refused x ≡ answered (fit_conditions r)
+  pub misfit : (k : ℕ) {b : Bool} {x : Refusal} {rest : List Condition} → Met (take k asked) → drop k asked ≡ must b x ∷ rest → b ≡ false → Err x ≡ answered (fit_conditions r)
   unfolding answered
   misfit k m e f = sym (ap judged_by (ap broken same_asked ∙ broken-at k asked m e f))
 
   pub all_fit : Met asked → broken (fit_conditions r) ≡ none
   all_fit m = ap broken same_asked ∙ unbroken asked m
 
-  pub fitting : Met asked → Good ≡ answered (fit_conditions r)
+  pub fitting : Met asked → (Ok tt) ≡ answered (fit_conditions r)
   unfolding answered
   fitting m = sym (ap judged_by (all_fit m))

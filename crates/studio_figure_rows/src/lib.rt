@@ -6,7 +6,7 @@ ghost use Rattle.shared_words.specs.Conditions.{answered};
 ghost use Rattle.studio_figure_rows.specs.Rows.{flat, entry, sum_to, names_length, Capped};
 ghost use Rattle.studio_figure_rules.specs.Described.{fit_conditions};
 
-use shared_words::{Judged, Refusal};
+use shared_words::Refusal;
 
 // Number `column` of thing i, where each has `width` numbers.
 pub fn number(row: &[u32], width: usize, column: usize, i: usize) -> usize
@@ -89,34 +89,34 @@ pub fn fits(
     faces: &[u16],
     materials: &[u32],
     colours: &[u8],
-) -> Judged
+) -> Result<(), Refusal>
     ensures { result ≡ answered (fit_conditions (flat names.now objects.now vertices.now corners.now smoothing.now
         groups.now faces.now materials.now colours.now)) }
 {
     if objects.len() % 5 != 0 {
-        return Judged::Refused(Refusal::Count(objects.len()));
+        return Err(Refusal::Count(objects.len()));
     }
     if !groups_add_up(objects, groups) {
-        return Judged::Refused(Refusal::Count(groups.len()));
+        return Err(Refusal::Count(groups.len()));
     }
     if !names_add_up(names.len(), objects, materials, groups) {
-        return Judged::Refused(Refusal::Count(names.len()));
+        return Err(Refusal::Count(names.len()));
     }
     let n = objects.len() / 5;
     if !adds_up(objects, 5, 1, n, vertices.len()) {
-        return Judged::Refused(Refusal::Count(vertices.len()));
+        return Err(Refusal::Count(vertices.len()));
     }
     if !adds_up(objects, 5, 2, n, corners.len()) {
-        return Judged::Refused(Refusal::Count(corners.len()));
+        return Err(Refusal::Count(corners.len()));
     }
     if !adds_up(objects, 5, 3, n, smoothing.len()) {
-        return Judged::Refused(Refusal::Count(smoothing.len()));
+        return Err(Refusal::Count(smoothing.len()));
     }
     if !adds_up(groups, 2, 1, groups.len() / 2, faces.len()) {
-        return Judged::Refused(Refusal::Count(faces.len()));
+        return Err(Refusal::Count(faces.len()));
     }
     if !colours_add_up(colours.len(), materials.len()) {
-        return Judged::Refused(Refusal::Count(colours.len()));
+        return Err(Refusal::Count(colours.len()));
     }
-    Judged::Good
+    Ok(())
 }

@@ -1,4 +1,5 @@
 -- Figures given as rows: whether the rows fit is judged before what they give, and what is written reads back.
+use Rattle.std.specs.Prelude.{Result, Ok, Err}
 use mathlib.Core.Path.{◌≡◌, refl, sym, ap, ◌∙◌, subst}
 use Prim.Native.Nat.{ℕ, ◌^◌}
 use native.Mathlib.Omega.{arith}
@@ -14,9 +15,7 @@ use Rattle.shared_words.specs.Effects.{Effect}
 use Rattle.shared_words.specs.Lists.{every}
 use Rattle.studio_rules.specs.Rules.{all_below}
 use Rattle.shared_words.proofs.Bools.{both}
-use Rattle.shared_words.specs.declared.Written.{Written}
 use Rattle.studio_write_judge.specs.Judged.{answer_of}
-use Rattle.shared_words.specs.declared.Written.TheVariants.{Size, Refused}
 use Rattle.studio_write.specs.Write.{writing}
 use Rattle.studio_write.specs.ReadsBack.{Floats32}
 use Rattle.studio_write.proofs.Floats.{floats_small}
@@ -49,7 +48,7 @@ pub fits-first : (r : Flat) (out : List ℕ) → FitsFirst r out
 unfolding write_flat judged_flat write_figure judged_figure
 fits-first r out =
     let rest = conditions (described r) (length out) in
-    let answer : Option Refusal → Effect Written (List ℕ) = λ o. writing (bytes (figure (layout (described r)))) out (answer_of (size_of (described r)) o) in
+    let answer : Option Refusal → Effect (Result ℕ Refusal) (List ℕ) = λ o. writing (bytes (figure (layout (described r)))) out (answer_of (size_of (described r)) o) in
     record { misfit = λ x h. ap answer (broken-first (fit_conditions r) rest x h); fits = λ h. ap answer (broken-rest (fit_conditions r) rest h) }
 
 -- ---- what is written reads back
@@ -72,10 +71,10 @@ flat-reads-back r out size h e = go (broken (fit_conditions r)) refl
     go : (o : Option Refusal) → broken (fit_conditions r) ≡ o → ReadsBack (described r) (take size (write_flat r out).rows)
     go none b =
         let same = (fits-first r out).fits b in
-        let answer : (write_figure (described r) out).answer ≡ Size size = sym (ap (λ (w : Effect Written (List ℕ)). w.answer) same) ∙ e in
-        subst (λ (w : Effect Written (List ℕ)). ReadsBack (described r) (take size w.rows)) (sym same)
+        let answer : (write_figure (described r) out).answer ≡ Ok size = sym (ap (λ (w : Effect (Result ℕ Refusal) (List ℕ)). w.answer) same) ∙ e in
+        subst (λ (w : Effect (Result ℕ Refusal) (List ℕ)). ReadsBack (described r) (take size w.rows)) (sym same)
         (written-reads-back (described r) out size (described-bits r h) answer)
     go (some x) b =
-        let refused : Refused x ≡ Size size = sym (ap (λ (w : Effect Written (List ℕ)). w.answer) ((fits-first r out).misfit x b)) ∙ e in
+        let refused : Err x ≡ Ok size = sym (ap (λ (w : Effect (Result ℕ Refusal) (List ℕ)). w.answer) ((fits-first r out).misfit x b)) ∙ e in
         let z : ◌≡◌ {A = ℕ} 0 1 = cc in
         absurd (omega arith)

@@ -1,4 +1,5 @@
 -- One mesh of a figure, by the reader's calls: mesh k is object k.
+use Rattle.std.specs.Prelude.{Ok, Err}
 use mathlib.Core.Path.{◌≡◌, refl, sym, ap, ◌∙◌}
 use Prim.Native.Nat.{ℕ, zero, suc, ◌+◌, ◌/◌, ◌≤◌}
 use native.Mathlib.Omega.{arith}
@@ -8,8 +9,6 @@ use lib.Ieee.{Float}
 use lib.ListN.{length, get_elem?}
 use borrow.Author.Tests.{le-leb}
 use Rattle.shared_words.specs.declared.Refusal.TheVariants.{NoSuchMesh}
-use Rattle.studio_rules.specs.declared.Counted.{Counted}
-use Rattle.studio_rules.specs.declared.Named.{Named}
 use Rattle.studio_rules.specs.Layout.{Run}
 use Rattle.shared_words.specs.Conditions.{accepted}
 use Rattle.studio_rules.specs.Walk.{verdict}
@@ -17,7 +16,6 @@ use Rattle.studio_rules.specs.Encodings.{part_row}
 use Rattle.shared_words.specs.Effects.{leaving}
 use Rattle.studio_rules.specs.Calls.{Rows, in_numbers, tables_of, tables_call, name_of, name_call, parts_call}
 use Rattle.studio_rules.specs.Gives.{Mesh, meshes, parts}
-use Rattle.shared_words.specs.declared.Written.TheVariants.{Refused}
 use Rattle.studio_figure_rules.specs.Given.{Object}
 use Rattle.studio_figure_rules.specs.Judged.{object_size}
 use Rattle.studio_figure_rules.specs.ReadsBack.{mesh_given, meshes_given, name_in}
@@ -60,10 +58,10 @@ module _ (s : List ℕ) (kids : Run) (k : ℕ) (e : verdict s ≡ accepted kids)
   unfolding name_call
   name-called m h = rw (e, h)
 
-  pub name-refused : get_elem? (meshes kids) k ≡ none → name_call s k ≡ Named.Refused (NoSuchMesh (length (meshes kids)))
+  pub name-refused : get_elem? (meshes kids) k ≡ none → name_call s k ≡ Err (NoSuchMesh (length (meshes kids)))
   unfolding name_call
   name-refused h = rw (e, h)
 
-pub parts-found : (s : List ℕ) (kids : Run) → verdict s ≡ accepted kids → parts kids ≡ [] → (row : List ℕ) → parts_call part_row s row ≡ leaving (Counted.Filled 0) row
+pub parts-found : (s : List ℕ) (kids : Run) → verdict s ≡ accepted kids → parts kids ≡ [] → (row : List ℕ) → parts_call part_row s row ≡ leaving (Ok 0) row
 unfolding parts_call
 parts-found s kids e n row = rw (e, n, le-leb 0 (length row / 2) (omega arith))

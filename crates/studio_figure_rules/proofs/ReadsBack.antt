@@ -1,4 +1,5 @@
 -- What is written reads back: a figure that is ready, and the calls that answered a size.
+use Rattle.std.specs.Prelude.{Result, Ok, Err}
 use mathlib.Core.Path.{◌≡◌, refl, sym, ap, ◌∙◌, subst}
 use Prim.Native.Nat.{ℕ}
 use native.Mathlib.Omega.{arith}
@@ -13,8 +14,6 @@ use Rattle.shared_words.specs.Conditions.{broken}
 use Rattle.studio_rules.specs.Gives.{Mesh, meshes}
 use Rattle.shared_words.proofs.Conditions.{met}
 use Rattle.studio_rules.proofs.Verdict.{verdict-good, version-agrees}
-use Rattle.shared_words.specs.declared.Written.{Written}
-use Rattle.shared_words.specs.declared.Written.TheVariants.{Size, Refused}
 use Rattle.studio_write_judge.specs.Judged.{answer_of}
 use Rattle.studio_write.specs.Write.{writing}
 use Rattle.studio_figure_rules.specs.Given.{Figure}
@@ -68,22 +67,22 @@ reads-back f room r =
 
 -- ---- a size was answered
 
-pub answer-size : (n size : ℕ) (o : Option Refusal) → answer_of n o ≡ Size size → (o ≡ none) × (size ≡ n)
+pub answer-size : (n size : ℕ) (o : Option Refusal) → answer_of n o ≡ Ok size → (o ≡ none) × (size ≡ n)
 answer-size n size none e = (refl, cc)
 answer-size n size (some r) e = let z : ◌≡◌ {A = ℕ} 0 1 = cc in absurd (omega arith)
 
-writing-answer : (file out : List ℕ) (w : Written) → (writing file out w).answer ≡ w
-writing-answer file out (Refused r) = refl
-writing-answer file out (Size size) = refl
+writing-answer : (file out : List ℕ) (w : Result ℕ Refusal) → (writing file out w).answer ≡ w
+writing-answer file out (Err r) = refl
+writing-answer file out (Ok size) = refl
 
-writing-front : (file out : List ℕ) (size : ℕ) (w : Written) → w ≡ Size size → length file ≡ size → take size (writing file out w).rows ≡ file
+writing-front : (file out : List ℕ) (size : ℕ) (w : Result ℕ Refusal) → w ≡ Ok size → length file ≡ size → take size (writing file out w).rows ≡ file
 writing-front file out size w e l = rw e (take_at file (drop (length file) out) size l)
 
 pub written-reads-back : WrittenReadsBack
 unfolding write_figure judged_figure
 written-reads-back f out size b e =
     let file = bytes (figure (layout f)) in
-    let j : judged_figure f (length out) ≡ Size size = sym (writing-answer file out (judged_figure f (length out))) ∙ e in
+    let j : judged_figure f (length out) ≡ Ok size = sym (writing-answer file out (judged_figure f (length out))) ∙ e in
     let a = answer-size (size_of f) size (broken (conditions f (length out))) j in
     let r = ready f (length out) b (met _ a.0) in
     let l : length file ≡ size = figure-size f r.objects-ready ∙ sym a.1 in

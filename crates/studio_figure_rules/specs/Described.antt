@@ -1,6 +1,6 @@
 -- A figure as C gives it: flat rows, and numbers that say how they are to be taken apart. When they fit, and which figure
 -- they give.
-use Rattle.std.specs.Prelude.{◌≡◌, ℕ, zero, suc, ◌+◌, ◌*◌, ◌/◌, ◌%◌, List, [], ◌∷◌, ◌++◌, map, eqb, Float, length, take, drop, get_or}
+use Rattle.std.specs.Prelude.{◌≡◌, ℕ, zero, suc, ◌+◌, ◌*◌, ◌/◌, ◌%◌, List, [], ◌∷◌, ◌++◌, map, eqb, Float, length, take, drop, get_or, Result, Err}
 use Rattle.std.proofs.Math.Option.{none, some}
 use Rattle.std.specs.Float.{binary32}
 use Rattle.std.specs.Float.Ieee.{to_bits}
@@ -9,8 +9,6 @@ use Rattle.shared_words.specs.declared.Refusal.TheVariants.{Count}
 use Rattle.studio_rules.specs.Layout.{figure, bytes}
 use Rattle.shared_words.specs.Conditions.{Condition, must, broken}
 use Rattle.shared_words.specs.Effects.{Effect, leaving}
-use Rattle.shared_words.specs.declared.Written.{Written}
-use Rattle.shared_words.specs.declared.Written.TheVariants.{Refused}
 use Rattle.studio_write_judge.specs.Judged.{answer_of}
 use Rattle.studio_write.specs.Write.{writing}
 use Rattle.studio_figure_rules.specs.Given.{Group, Object, Colour, Material, Figure}
@@ -133,14 +131,14 @@ described r = record {
 -- ---- the call
 
 -- the rows first, "before all else"; then what they give
-unfoldable pub judged_flat : Flat → ℕ → Written
+unfoldable pub judged_flat : Flat → ℕ → Result ℕ Refusal
 judged_flat r room = answer_of (size_of (described r)) (broken (fit_conditions r ++ conditions (described r) room))
 
 -- THE CALL, of rows
-unfoldable pub write_flat : Flat → List ℕ → Effect Written (List ℕ)
+unfoldable pub write_flat : Flat → List ℕ → Effect (Result ℕ Refusal) (List ℕ)
 write_flat r out = writing (bytes (figure (layout (described r)))) out (judged_flat r (length out))
 
 -- Rows that do not fit are refused whatever they give, and rows that fit are written as the figure that they give.
 pub record FitsFirst (r : Flat) (out : List ℕ) : Type 0 where
-  pub misfit : (x : Refusal) → broken (fit_conditions r) ≡ some x → write_flat r out ≡ leaving (Refused x) out
+  pub misfit : (x : Refusal) → broken (fit_conditions r) ≡ some x → write_flat r out ≡ leaving (Err x) out
   pub fits : broken (fit_conditions r) ≡ none → write_flat r out ≡ write_figure (described r) out

@@ -1,11 +1,11 @@
 -- What the writer of figures judges before it writes: request Q-14's refusals, in order.
-use Rattle.std.specs.Prelude.{ℕ, ◌+◌, ◌*◌, Bool, false, not, ◌||◌, List, [], ◌∷◌, eqb, leb, ltb, length}
+use Rattle.shared_words.specs.declared.Refusal.{Refusal}
+use Rattle.std.specs.Prelude.{ℕ, ◌+◌, ◌*◌, Bool, false, not, ◌||◌, List, [], ◌∷◌, eqb, leb, ltb, length, Result}
 use Rattle.shared_words.specs.declared.Refusal.TheVariants.{TooLong, Name, Number, Index, Count, NoRoom, SameName, NoMaterial, Text}
 use Rattle.shared_words.specs.Floats.{finite}
 use Rattle.shared_words.specs.Labels.{fits_label, label_fault}
 use Rattle.shared_words.specs.Lists.{total, same}
 use Rattle.shared_words.specs.Conditions.{Condition, must, broken}
-use Rattle.shared_words.specs.declared.Written.{Written}
 use Rattle.shared_words.specs.Refusals.{limit}
 use Rattle.studio_write_judge.specs.Judged.{triples, each_must, not_zero, is_whole_row, answer_of}
 use Rattle.studio_figure_rules.specs.Given.{Group, Object, Material, Figure, over, object_names, material_names, all_names, all_group_names}
@@ -100,5 +100,5 @@ conditions f room =
     (must (leb (size_of f) limit) TooLong ∷ must (leb (size_of f) room) (NoRoom (size_of f)) ∷ []) ∷ [])
 
 -- what is answered, where the buffer has `room` bytes: the first fault, or the size
-unfoldable pub judged_figure : Figure → ℕ → Written
+unfoldable pub judged_figure : Figure → ℕ → Result ℕ Refusal
 judged_figure f room = answer_of (size_of f) (broken (conditions f room))

@@ -1,12 +1,10 @@
 -- What is written reads back: the file is accepted, its meshes are the objects given, and the own data of the chunks in its
 -- list hold just what was given, in order.
-use Rattle.std.specs.Prelude.{◌≡◌, ℕ, ◌+◌, ◌≤◌, List, [], ◌∷◌, ◌++◌, map, Float, length, take, drop}
+use Rattle.std.specs.Prelude.{◌≡◌, ℕ, ◌+◌, ◌≤◌, List, [], ◌∷◌, ◌++◌, map, Float, length, take, drop, Ok, Err}
 use Rattle.std.proofs.Math.Option.{some}
 use Rattle.std.proofs.Math.ListN.{get_elem?}
 use Rattle.shared_words.specs.declared.Refusal.TheVariants.{NoSuchMesh}
 use Rattle.studio_rules.specs.declared.Record.{Record}
-use Rattle.studio_rules.specs.declared.Counted.{Counted}
-use Rattle.studio_rules.specs.declared.Named.{Named}
 use Rattle.shared_words.specs.Bytes.{packed, Bytes}
 use Rattle.studio_rules.specs.Layout.{figure, bytes}
 use Rattle.studio_rules.specs.Rules.{Meets}
@@ -16,7 +14,6 @@ use Rattle.studio_rules.specs.Gives.{list, skipped, Mesh, meshes}
 use Rattle.studio_rules.specs.Encodings.{part_row}
 use Rattle.shared_words.specs.Effects.{leaving}
 use Rattle.studio_rules.specs.Calls.{Rows, in_numbers, tables_of, tables_call, name_call, parts_call}
-use Rattle.shared_words.specs.declared.Written.TheVariants.{Size}
 use Rattle.studio_write_judge.specs.Judged.{triples}
 use Rattle.studio_write_bytes.specs.Bare.{name_data, face_data}
 use Rattle.studio_write.specs.ReadsBack.{Floats32}
@@ -98,7 +95,7 @@ name_in s m = take m.name_length (drop m.name_at s)
 -- mesh k has this name, which stands where the reader says
 pub record NameStands (s : List ℕ) (k : ℕ) (name : List ℕ) : Type 0 where
   pub offset : ℕ
-  pub call : name_call s k ≡ Named.At record { offset = offset; size = length name }
+  pub call : name_call s k ≡ Ok record { offset = offset; size = length name }
   pub there : take (length name) (drop offset s) ≡ name
 
 -- ---- the file
@@ -120,16 +117,16 @@ pub record ReadsBack (f : Figure) (s : List ℕ) : Type 0 where
   pub tables : (k : ℕ) (o : Object) (rows : Rows Float ℕ Float) → get_elem? f.objects k ≡ some o →
       tables_call in_numbers s k rows ≡ tables_of in_numbers rows (mesh_given 0 o)
   pub name : (k : ℕ) (o : Object) → get_elem? f.objects k ≡ some o → NameStands s k o.name
-  pub no_more : (k : ℕ) → length f.objects ≤ k → name_call s k ≡ Named.Refused (NoSuchMesh (length f.objects))
+  pub no_more : (k : ℕ) → length f.objects ≤ k → name_call s k ≡ Err (NoSuchMesh (length f.objects))
   -- no version is told, and the figure has no parts
   pub no-version : version_in (drop 6 s) ≡ 0
-  pub no-parts : (row : List ℕ) → parts_call part_row s row ≡ leaving (Counted.Filled 0) row
+  pub no-parts : (row : List ℕ) → parts_call part_row s row ≡ leaving (Ok 0) row
 
 -- WHAT IS WRITTEN READS BACK: for every figure and buffer that are not refused, the first `size` bytes of the buffer
 abbrev pub WrittenReadsBack : Type 0
-WrittenReadsBack = (f : Figure) (out : List ℕ) (size : ℕ) → Bits32 f → (write_figure f out).answer ≡ Size size → ReadsBack f (take size (write_figure f out).rows)
+WrittenReadsBack = (f : Figure) (out : List ℕ) (size : ℕ) → Bits32 f → (write_figure f out).answer ≡ Ok size → ReadsBack f (take size (write_figure f out).rows)
 
 -- and of rows
 abbrev pub FlatReadsBack : Type 0
-FlatReadsBack = (r : Flat) (out : List ℕ) (size : ℕ) → Floats32 r.vertices → (write_flat r out).answer ≡ Size size →
+FlatReadsBack = (r : Flat) (out : List ℕ) (size : ℕ) → Floats32 r.vertices → (write_flat r out).answer ≡ Ok size →
     ReadsBack (described r) (take size (write_flat r out).rows)

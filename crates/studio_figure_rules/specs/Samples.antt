@@ -1,10 +1,9 @@
 -- Worked cases, each as one list under one statement: which fault of a figure is answered, which row does not fit, and two
 -- figures written.
-use Rattle.std.specs.Prelude.{◌≡◌, ℕ, List, [], ◌∷◌, ◌++◌, map, replicate}
+use Rattle.std.specs.Prelude.{◌≡◌, ℕ, List, [], ◌∷◌, ◌++◌, map, replicate, Ok}
 use Rattle.shared_words.specs.Floats.{float}
 use Rattle.shared_words.specs.Effects.{leaving}
 use Rattle.studio_rules.specs.Samples.{triangle}
-use Rattle.shared_words.specs.declared.Written.TheVariants.{Size}
 use Rattle.studio_figure_rules.specs.Given.{Group, Object, Colour, Material, Figure}
 use Rattle.studio_figure_rules.specs.Judged.{judged_figure}
 use Rattle.studio_figure_rules.specs.Write.{write_figure}
@@ -156,7 +155,7 @@ misfitted = no 13 4 ∷ no 13 1 ∷ no 13 4 ∷ no 13 12 ∷ no 13 1 ∷ no 13 4
 
 pub record Samples : Type 0 where
   pub answers : map answered cases ≡ map (λ (c : Case). c.answer) cases
-  pub triangle-again : write_figure (given (meshed a [] [] ∷ []) []) (replicate 87 9) ≡ leaving (Size 86) (triangle ++ (9 ∷ []))
-  pub painted-written : write_figure painted (replicate 168 9) ≡ leaving (Size 167) (painted_bytes ++ (9 ∷ []))
+  pub triangle-again : write_figure (given (meshed a [] [] ∷ []) []) (replicate 87 9) ≡ leaving (Ok 86) (triangle ++ (9 ∷ []))
+  pub painted-written : write_figure painted (replicate 168 9) ≡ leaving (Ok 167) (painted_bytes ++ (9 ∷ []))
   pub rows-misfit : map (λ r. shown (judged_flat r 0)) misfits ≡ misfitted
-  pub rows_written : write_flat painted_rows (replicate 167 9) ≡ leaving (Size 167) painted_bytes
+  pub rows_written : write_flat painted_rows (replicate 167 9) ≡ leaving (Ok 167) painted_bytes

@@ -1,4 +1,5 @@
 -- The whole file: the layout that the check accepts stands in it, and its records in the row are what the list call gives.
+use Rattle.std.specs.Prelude.{Result, Ok, Err}
 use mathlib.Core.Path.{◌≡◌, refl, sym, ap, ◌∙◌}
 use mathlib.Core.Bool.{Bool, true, false}
 use mathlib.Core.List.{List, [], ◌++◌}
@@ -13,7 +14,6 @@ use Rattle.studio_rules.specs.declared.Record.{Record}
 use Rattle.shared_words.specs.declared.Refusal.{Refusal}
 use Rattle.shared_words.specs.declared.Refusal.TheVariants.{NoRoom}
 use Rattle.studio_rules.specs.declared.Counts.{Counts}
-use Rattle.studio_rules.specs.declared.Checked.{Checked}
 use Rattle.shared_words.specs.Bytes.{Bytes}
 use Rattle.studio_rules.specs.Layout.{Run, figure}
 use Rattle.studio_rules.specs.Rules.{file, version}
@@ -34,12 +34,12 @@ use Rattle.studio_rules.proofs.Jumps.{length-records}
 
 -- ---- a refused file
 
-pub rows-refused : (s : List ℕ) (room : ℕ) (l : Lent) (r : Refusal) → check_call s ≡ Checked.Refused r → leaving (Checked.Refused r) l ≡ list_rows s room l
+pub rows-refused : (s : List ℕ) (room : ℕ) (l : Lent) (r : Refusal) → check_call s ≡ Err r → leaving (Err r) l ≡ list_rows s room l
 unfolding check_call list_rows
 rows-refused s room l r = go (verdict s)
   where
-    go : (a : Answer Run) → check_of a ≡ Checked.Refused r → leaving (Checked.Refused r) l ≡ rows_of room l a
-    go (refused x) e = ap (λ (c : Checked). leaving c l) (sym e)
+    go : (a : Answer Run) → check_of a ≡ Err r → leaving (Err r) l ≡ rows_of room l a
+    go (refused x) e = ap (λ (c : Result Counts Refusal). leaving c l) (sym e)
     go (accepted kids) e = absurd (let z : ◌≡◌ {A = ℕ} 0 1 = cc in omega arith)
 
 -- ---- an accepted file
@@ -60,7 +60,7 @@ module _ {s : List ℕ} {counts : Counts} (a : Accepted s counts) where
     whole-bounds = record { ends = omega arith; short = (meets-by b a).within-limit; deep = omega arith; over = omega arith; before = omega arith }
 
   module _ {room : ℕ} (l : Lent) where
-    pub rows-no-room : room < counts.records → leaving (Checked.Refused (NoRoom counts.records)) l ≡ list_rows s room l
+    pub rows-no-room : room < counts.records → leaving (Err (NoRoom counts.records)) l ≡ list_rows s room l
     unfolding list_rows
     rows-no-room h = rw (a.verdict-is, records_are, lt-leb (record_count (figure a.kids)) room (omega (arith, records_are)))
 
@@ -68,7 +68,7 @@ module _ {s : List ℕ} {counts : Counts} (a : Accepted s counts) where
       pub whole_room : Room l room → Room l (0 + record_count (figure a.kids))
       whole_room = room_less refl refl (omega (arith, records_are))
 
-      pub rows-filled : {l' : Lent} {r : ℕ} → Listed l 0 0 0 0 (figure a.kids) l' r → leaving (Checked.Accepted counts) l' ≡ list_rows s room l
+      pub rows-filled : {l' : Lent} {r : ℕ} → Listed l 0 0 0 0 (figure a.kids) l' r → leaving (Ok counts) l' ≡ list_rows s room l
       unfolding list_rows
       rows-filled g = rw (a.verdict-is, le-leb (record_count (figure a.kids)) room (omega (arith, records_are)), g.fills, a.counts_are)
 
@@ -85,11 +85,11 @@ module _ (e : Encoding Record ℕ) {k : ℕ} (even : Even k e.encode) (fits : (n
 
   -- what both rows are given is, in the row in use, what the call gives
   pub gives : (s : List ℕ) (l : Lent) (of : Lent → List ℕ) → ((rs : List Record) → of (written l 0 rs) ≡ sets row (k * 0) (e.encode rs)) → of l ≡ row →
-      {answer : Checked} {l' : Lent} → leaving answer l' ≡ list_rows s (e.room (length row)) l → (answer ≡ (list_call e s row).answer) × (of l' ≡ (list_call e s row).rows)
+      {answer : Result Counts Refusal} {l' : Lent} → leaving answer l' ≡ list_rows s (e.room (length row)) l → (answer ≡ (list_call e s row).answer) × (of l' ≡ (list_call e s row).rows)
   unfolding list_rows list_call
   gives s l of w u {answer} {l'} q =
       let z = go (verdict s) in
-      (ap (λ (x : Effect Checked Lent). x.answer) q ∙ z.0, ap (λ (x : Effect Checked Lent). of x.rows) q ∙ z.1)
+      (ap (λ (x : Effect (Result Counts Refusal) Lent). x.answer) q ∙ z.0, ap (λ (x : Effect (Result Counts Refusal) Lent). of x.rows) q ∙ z.1)
     where
       go : (v : Answer Run) → ((rows_of (e.room (length row)) l v).answer ≡ (list_of e row v).answer) × (of (rows_of (e.room (length row)) l v).rows ≡ (list_of e row v).rows)
       go (refused r) = (refl, u)

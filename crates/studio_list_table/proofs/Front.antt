@@ -1,4 +1,7 @@
 -- The list in the front of a row, where the front has as much room as is allowed: it is the list in the whole row.
+use Rattle.studio_rules.specs.declared.Counts.{Counts}
+use Rattle.shared_words.specs.declared.Refusal.{Refusal}
+use Rattle.std.specs.Prelude.{Result}
 use mathlib.Core.Path.{◌≡◌, refl, sym, ap, ◌∙◌}
 use mathlib.Core.Bool.{Bool, true, false}
 use mathlib.Core.List.{List, ◌++◌, append_assoc}
@@ -8,7 +11,6 @@ use lib.Dec.{leb}
 use lib.ListN.{length, take, drop, take-append-drop}
 use lib.Seq.{length-take-le, drop-append-le}
 use borrow.Author.Tests.{leb-true}
-use Rattle.studio_rules.specs.declared.Checked.{Checked}
 use Rattle.studio_rules.specs.Layout.{Run, figure}
 use Rattle.shared_words.specs.Conditions.{Answer, refused, accepted}
 use Rattle.studio_rules.specs.Walk.{verdict}
@@ -39,7 +41,7 @@ module _ (s row : List ℕ) (room end : ℕ) (l : end ≤ length row) (e : end /
   at_front (refused r) = rw (take-append-drop end row)
   at_front (accepted kids) = in_front kids (leb (record_count (figure kids)) (min room (length row / record_numbers))) refl
 
-  pub front-list : {answer : Checked} {part : List ℕ} → answer ≡ (list_call flat_records s (take end row)).answer → part ≡ (list_call flat_records s (take end row)).rows →
+  pub front-list : {answer : Result Counts Refusal} {part : List ℕ} → answer ≡ (list_call flat_records s (take end row)).answer → part ≡ (list_call flat_records s (take end row)).rows →
       leaving answer (part ++ drop end row) ≡ list_call (beside room flat_records) s row
   unfolding list_call
   front-list p q = rw (p, q) (at_front (verdict s))

@@ -1,4 +1,5 @@
 -- Both have the same room, so the list goes into both or into neither.
+use Rattle.std.specs.Prelude.{Result, Ok, Err}
 use mathlib.Core.Path.{◌≡◌, refl, ◌∙◌}
 use mathlib.Core.Bool.{Bool, true, false, cond}
 use mathlib.Core.List.{List}
@@ -13,7 +14,6 @@ use Rattle.shared_words.specs.Effects.{leaving}
 use Rattle.shared_words.specs.Encodings.{Encoding, beside, plain_row}
 use Rattle.studio_rules.specs.declared.Record.{Record}
 use Rattle.studio_rules.specs.declared.Counts.{Counts}
-use Rattle.studio_rules.specs.declared.Checked.{Checked}
 use Rattle.studio_rules.specs.Layout.{Run, figure}
 use Rattle.studio_rules.specs.Gives.{record_numbers, record_count}
 use Rattle.studio_rules.specs.Walk.{verdict}
@@ -27,17 +27,17 @@ same-room : {A B : Type 0} (e : Encoding Record A) (f : Encoding Record B) (row 
 same-room e f row other h (refused r) = refl
 same-room {A} {B} e f row other h (accepted kids) = rw h (go (leb (record_count (figure kids)) (f.room (length other))) _ _ _ _ _ _)
   where
-    go : (b : Bool) (x y : Checked) (p q : List A) (p' q' : List B) → (cond b (leaving x p) (leaving y q)).answer ≡ (cond b (leaving x p') (leaving y q')).answer
+    go : (b : Bool) (x y : Result Counts Refusal) (p q : List A) (p' q' : List B) → (cond b (leaving x p) (leaving y q)).answer ≡ (cond b (leaving x p') (leaving y q')).answer
     go true x y p q p' q' = refl
     go false x y p q p' q' = refl
 
 -- a refusal leaves the row
-untouched : {A : Type 0} (e : Encoding Record A) (row : List A) (a : Answer Run) (r : Refusal) → (list_of e row a).answer ≡ Checked.Refused r → (list_of e row a).rows ≡ row
+untouched : {A : Type 0} (e : Encoding Record A) (row : List A) (a : Answer Run) (r : Refusal) → (list_of e row a).answer ≡ Err r → (list_of e row a).rows ≡ row
 untouched e row (refused q) r h = refl
 untouched {A} e row (accepted kids) r h = go (leb (record_count (figure kids)) (e.room (length row))) _ _ _ h
   where
-    go : (b : Bool) (c : Counts) (new : List A) (n : ℕ) → (cond b (leaving (Checked.Accepted c) new) (leaving (Checked.Refused (NoRoom n)) row)).answer ≡ Checked.Refused r →
-        (cond b (leaving (Checked.Accepted c) new) (leaving (Checked.Refused (NoRoom n)) row)).rows ≡ row
+    go : (b : Bool) (c : Counts) (new : List A) (n : ℕ) → (cond b (leaving (Ok c) new) (leaving (Err (NoRoom n)) row)).answer ≡ Err r →
+        (cond b (leaving (Ok c) new) (leaving (Err (NoRoom n)) row)).rows ≡ row
     go true c new n k = let z : ◌≡◌ {A = ℕ} 0 1 = cc in absurd (omega arith)
     go false c new n k = refl
 

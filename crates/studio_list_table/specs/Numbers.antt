@@ -1,8 +1,9 @@
 -- What the functions of this crate say of records in a flat row. Nothing here is a meaning of its own: the list is that of
 -- crate studio_rules.
-use Rattle.std.specs.Prelude.{ℕ, ◌+◌, ◌*◌, List, get_or}
+use Rattle.studio_rules.specs.declared.Counts.{Counts}
+use Rattle.shared_words.specs.declared.Refusal.{Refusal}
+use Rattle.std.specs.Prelude.{ℕ, ◌+◌, ◌*◌, List, get_or, Result, Ok, Err}
 use Rattle.studio_rules.specs.declared.Record.{Record}
-use Rattle.studio_rules.specs.declared.Checked.{Checked}
 use Rattle.studio_rules.specs.Gives.{record_numbers}
 
 -- record number k of a flat row
@@ -18,6 +19,6 @@ record_no row k = record {
 }
 
 -- how many records an answer says are in the row
-abbrev pub taken : Checked → ℕ
-taken (Checked.Accepted counts) = counts.records
-taken (Checked.Refused r) = 0
+abbrev pub taken : Result Counts Refusal → ℕ
+taken (Ok counts) = counts.records
+taken (Err r) = 0

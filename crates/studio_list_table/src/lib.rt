@@ -12,10 +12,11 @@ ghost use Rattle.studio_list_table.specs.Numbers.{record_no, taken};
 ghost use Rattle.studio_list_table.specs.Listed.{in_table, in_row};
 
 use studio_list_rows::RECORD_NUMBERS;
-use studio_rules::{Checked, Record};
+use studio_rules::{Counts, Record};
+use shared_words::Refusal;
 
 // The list into a flat row of which no more than `room` records are used.
-fn list_beside(file: &[u8], row: &mut [u32], room: usize) -> Checked
+fn list_beside(file: &[u8], row: &mut [u32], room: usize) -> Result<Counts, Refusal>
     ensures { leaving result row.new ≡ list_call (beside room flat_records) file.now row.old }
 {
     let mut end = row.len();
@@ -26,12 +27,12 @@ fn list_beside(file: &[u8], row: &mut [u32], room: usize) -> Checked
 }
 
 // How many records the list has put into the row; a refusal puts none.
-fn records_in(listed: Checked) -> usize
+fn records_in(listed: Result<Counts, Refusal>) -> usize
     ensures { result ≡ taken listed }
 {
     match listed {
-        Checked::Accepted(counts) => counts.records,
-        Checked::Refused(_) => 0,
+        Ok(counts) => counts.records,
+        Err(_) => 0,
     }
 }
 
@@ -54,7 +55,7 @@ fn record_at(row: &[u32], i: usize) -> Record
 
 // The list of a figure's known chunks, in file order, into a lent table of records, by way of a lent flat row. Room is
 // what both have room for. A refusal leaves both as they were.
-pub fn list_records(file: &[u8], row: &mut [u32], table: &mut [Record]) -> Checked
+pub fn list_records(file: &[u8], row: &mut [u32], table: &mut [Record]) -> Result<Counts, Refusal>
     ensures answer { result ≡ (in_table file.now row.old table.old).answer }
     ensures table { table.new ≡ (in_table file.now row.old table.old).rows }
     ensures row { row.new ≡ (in_row file.now row.old table.old).rows }

@@ -1,4 +1,5 @@
 -- The conditions at a chunk's end, read off the marks that its children left.
+use Rattle.std.specs.Prelude.{Result, Ok, Err}
 use mathlib.Core.Path.{◌≡◌, refl, sym, ap, ◌∙◌, subst}
 use mathlib.Core.Logic.{inl, inr, ◌↔◌}
 use mathlib.Core.Bool.{Bool, true, false, not, ◌||◌, cond, true≢false, false≢true, and-true, or-false}
@@ -29,7 +30,6 @@ use Rattle.shared_numbers.proofs.Slices.{word_slice, drop-slice}
 use Rattle.studio_scan.proofs.Parts.{corners-slice}
 use Rattle.studio_row.specs.Packed.{places, slot_of, row_of}
 use Rattle.studio_row.proofs.Facts.{SlotTest, same-is}
-use Rattle.shared_words.specs.declared.Judged.{Judged}
 use Rattle.studio_marks.specs.Marks.{tally_slot, Under, no_marks, Kept, ShutIs, RuleIs, Placed, count_at, corners_at, pairs_at, MeshPlaced, mesh_broken}
 use Rattle.studio_marks.proofs.Slots.{all_slot, tally_slot_lem, groups_slotted}
 use Rattle.studio_marks.proofs.After.{under_of, marks-zero, Alone, marks-place}
@@ -285,12 +285,12 @@ other_needs q t a b c = rw (ne_eqb q.id 0x4D4D a, ne_eqb q.id 0xAFFF b, ne_eqb q
 
 -- ---- all of it
 
-pub end-missing : (q : Parent) (o : ℕ) (t : Run) → none_missing q t ≡ false → ShutIs (broken (end_conditions q o t)) (Judged.Refused (Refusal.Missing o))
-end-missing q o t h = subst (λ (x : Option Refusal). ShutIs x (Judged.Refused (Refusal.Missing o))) (sym (broken-here _ _ _ h)) refl
+pub end-missing : (q : Parent) (o : ℕ) (t : Run) → none_missing q t ≡ false → ShutIs (broken (end_conditions q o t)) (Err (Refusal.Missing o))
+end-missing q o t h = subst (λ (x : Option Refusal). ShutIs x (Err (Refusal.Missing o))) (sym (broken-here _ _ _ h)) refl
 
-pub end-mesh : (q : Parent) (o : ℕ) (t : Run) (x : Option Refusal) (r : Judged) → none_missing q t ≡ true → x ≡ broken (mesh_conditions q (o + (6 + length q.own)) t) → ShutIs x r → ShutIs (broken (end_conditions q o t)) r
+pub end-mesh : (q : Parent) (o : ℕ) (t : Run) (x : Option Refusal) (r : Result Unit Refusal) → none_missing q t ≡ true → x ≡ broken (mesh_conditions q (o + (6 + length q.own)) t) → ShutIs x r → ShutIs (broken (end_conditions q o t)) r
 end-mesh q o t x r h e f = subst (λ (y : Option Refusal). ShutIs y r) (e ∙ sym (broken-later _ _ _ h)) f
 
-pub end_other : (q : Parent) (o : ℕ) (t : Run) → none_missing q t ≡ true → (q.id ≡ 0x4100 → ⊥) → ShutIs (broken (end_conditions q o t)) Judged.Good
+pub end_other : (q : Parent) (o : ℕ) (t : Run) → none_missing q t ≡ true → (q.id ≡ 0x4100 → ⊥) → ShutIs (broken (end_conditions q o t)) (Ok tt)
 end_other q o t h n =
-    end-mesh q o t none Judged.Good h (sym (unbroken (mesh_conditions q (o + (6 + length q.own)) t) (rw (ne_eqb q.id 0x4100 n), (rw (ne_eqb q.id 0x4100 n), tt)))) refl
+    end-mesh q o t none (Ok tt) h (sym (unbroken (mesh_conditions q (o + (6 + length q.own)) t) (rw (ne_eqb q.id 0x4100 n), (rw (ne_eqb q.id 0x4100 n), tt)))) refl

@@ -1,5 +1,5 @@
 -- Marks, by the layout of the run that left them.
-use Rattle.std.specs.Prelude.{◌≡◌, Bool, true, not, ◌||◌, cond, List, [], ◌∷◌, ◌⊎◌, ℕ, ◌+◌, ◌*◌, ◌≤◌, min, eqb, leb, length, set, get_or, drop, replicate}
+use Rattle.std.specs.Prelude.{◌≡◌, Bool, true, not, ◌||◌, cond, List, [], ◌∷◌, ◌⊎◌, ℕ, ◌+◌, ◌*◌, ◌≤◌, min, eqb, leb, length, set, get_or, drop, replicate, Result}
 use Rattle.std.proofs.Math.Option.{Option}
 use Rattle.shared_words.specs.declared.Refusal.{Refusal}
 use Rattle.shared_words.specs.declared.Refusal.TheVariants.{Index, Count}
@@ -12,7 +12,6 @@ use Rattle.studio_stands.specs.Stands.{Stands}
 use Rattle.shared_words.specs.Conditions.{must, broken, judged_by}
 use Rattle.shared_numbers.specs.Numbers.{word_at}
 use Rattle.studio_row.specs.Packed.{slot_of}
-use Rattle.shared_words.specs.declared.Judged.{Judged}
 
 -- how many chunks of a slot
 abbrev pub tally_slot : ℕ → List ℕ → ℕ
@@ -76,7 +75,7 @@ mesh_broken s as_many marks =
     must (pairs_at s (get_or marks 2 0) as_many (count_at s (get_or marks 0 0))) (Count (get_or marks 2 0)) ∷ [])
 
 -- what the conditions at a chunk's end come to
-abbrev pub ShutIs : Option Refusal → Judged → Type 0
+abbrev pub ShutIs : Option Refusal → Result Unit Refusal → Type 0
 ShutIs x r = r ≡ judged_by x
 
 -- ---- a chunk of an identifier at its end, in whatever it stands: its children left these marks
@@ -90,7 +89,7 @@ abbrev pub RuleIs : Parent → Bool → Type 0
 RuleIs q as_many = as_many_pairs q.version ≡ as_many
 
 -- what its conditions come to, where it stands at `at` in the file s
-abbrev pub EndIs : List ℕ → ℕ → ℕ → Bool → List ℕ → Judged → Type 0
+abbrev pub EndIs : List ℕ → ℕ → ℕ → Bool → List ℕ → Result Unit Refusal → Type 0
 EndIs s id at as_many marks r =
     (q : Parent) (t : Run) (stop : ℕ) → q.id ≡ id → RuleIs q as_many → Kept q t s (at + (6 + length q.own)) stop marks →
     ShutIs (broken (end_conditions q at t)) r

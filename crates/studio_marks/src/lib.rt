@@ -8,7 +8,7 @@ ghost use Rattle.studio_row.specs.Packed.{slot_in};
 ghost use Rattle.studio_marks.specs.Marks.{free, noted, MissingIs, EndIs, ShutIs, Placed, count_at, corners_at, pairs_at, MeshPlaced, mesh_broken};
 
 use shared_numbers::word_at;
-use shared_words::{Judged, Refusal};
+use shared_words::Refusal;
 
 // One chunk more of no group.
 fn counted(n: u32) -> u32
@@ -92,33 +92,33 @@ fn pairs_fine(file: &[u8], mark: usize, n: u32, as_many: bool) -> bool
 }
 
 // A mesh at its end.
-fn at_mesh_end(file: &[u8], as_many: bool, marks: &[u32]) -> Judged
+fn at_mesh_end(file: &[u8], as_many: bool, marks: &[u32]) -> Result<(), Refusal>
     requires { (length marks.now ≡ 6) × MeshPlaced file.now marks.now }
     ensures { ShutIs (mesh_broken file.now as_many marks.now) result }
 {
     let n = count_at(file, marks[0] as usize);
     let faces = marks[1] as usize;
     if !corners_fine(file, faces, n) {
-        return Judged::Refused(Refusal::Index(faces));
+        return Err(Refusal::Index(faces));
     }
     let pairs = marks[2] as usize;
     if !pairs_fine(file, pairs, n, as_many) {
-        return Judged::Refused(Refusal::Count(pairs));
+        return Err(Refusal::Count(pairs));
     }
-    Judged::Good
+    Ok(())
 }
 
 // A chunk at its end, by the marks that its children left: it stands at an offset. A mesh of the file must have as many
 // mapping pairs as vertices, or at most as many.
-pub fn at_end(file: &[u8], id: usize, at: usize, as_many: bool, marks: &[u32]) -> Judged
+pub fn at_end(file: &[u8], id: usize, at: usize, as_many: bool, marks: &[u32]) -> Result<(), Refusal>
     requires { (length marks.now ≡ 6) × (id ≡ 0x4100 → MeshPlaced file.now marks.now) }
     ensures { EndIs file.now id at as_many marks.now result }
 {
     if is_missing(id, marks) {
-        return Judged::Refused(Refusal::Missing(at));
+        return Err(Refusal::Missing(at));
     }
     if id == 0x4100 {
         return at_mesh_end(file, as_many, marks);
     }
-    Judged::Good
+    Ok(())
 }

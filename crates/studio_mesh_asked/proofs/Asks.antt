@@ -1,4 +1,5 @@
 -- What is asked of a file: the refusal of the check, or of the search, or the mesh.
+use Rattle.std.specs.Prelude.{Err}
 use mathlib.Core.Path.{◌≡◌, refl, sym, subst}
 use mathlib.Core.List.{List}
 use mathlib.Core.Option.{Option}
@@ -9,7 +10,6 @@ use Rattle.shared_words.specs.declared.Refusal.{Refusal}
 use Rattle.shared_words.specs.declared.Refusal.TheVariants.{NoSuchMesh}
 use Rattle.shared_words.specs.Picked.{pick_mesh}
 use Rattle.studio_rules.specs.declared.Counts.{Counts}
-use Rattle.studio_rules.specs.declared.Checked.{Checked}
 use Rattle.shared_words.specs.Conditions.{Answer, refused, accepted}
 use Rattle.studio_rules.specs.Walk.{verdict}
 use Rattle.studio_rules.specs.Gives.{Mesh, meshes}
@@ -53,11 +53,11 @@ module _ {s : List ℕ} {pick : Mesh → Choice} {mesh : ℕ} {r : Asked} (a : A
 
 -- ---- by the check
 
-pub file-refused : (s : List ℕ) (mesh : ℕ) {r : Refusal} → check_call s ≡ Checked.Refused r → AskedIs s yes mesh (Asked.Refused r)
+pub file-refused : (s : List ℕ) (mesh : ℕ) {r : Refusal} → check_call s ≡ Err r → AskedIs s yes mesh (Asked.Refused r)
 unfolding check_call
 file-refused s mesh {r} e = is-no (go (verdict s) e)
   where
-    go : (a : Answer Run) → check_of a ≡ Checked.Refused r → choose yes mesh a ≡ no r
+    go : (a : Answer Run) → check_of a ≡ Err r → choose yes mesh a ≡ no r
     go (refused x) e = cc
     go (accepted kids) e = absurd (let z : ◌≡◌ {A = ℕ} 0 1 = cc in omega arith)
 

@@ -6,7 +6,6 @@ ghost use Rattle.studio_mesh_asked.specs.Choices.{yes, room_for, fitting, AskedI
 
 use shared_words::Refusal;
 use studio_mesh_find::{Found, Place};
-use studio_rules::Checked;
 
 // Where the mesh asked for stands; or the refusal of the file, or of the number.
 #[derive(Clone, Copy)]
@@ -20,8 +19,8 @@ pub fn ask(file: &[u8], mesh: u32) -> Asked
     ensures { AskedIs file.now yes mesh result }
 {
     match studio_check::check(file) {
-        Checked::Refused(r) => Asked::Refused(r),
-        Checked::Accepted(_) => match studio_mesh_find::find_mesh(file, mesh as usize) {
+        Err(r) => Asked::Refused(r),
+        Ok(_) => match studio_mesh_find::find_mesh(file, mesh as usize) {
             Found::Mesh(place) => Asked::Mesh(place),
             Found::Meshes(n) => Asked::Refused(Refusal::NoSuchMesh(n)),
         },

@@ -1,4 +1,5 @@
 -- The name and the box, by what was asked.
+use Rattle.std.specs.Prelude.{Ok, Err}
 use mathlib.Core.Path.{◌≡◌, sym, ◌∙◌}
 use mathlib.Core.List.{List}
 use Prim.Native.Nat.{ℕ, ◌*◌}
@@ -6,7 +7,6 @@ use lib.ListN.{drop}
 use borrow.Author.Tests.{eq-eqb, ne_eqb}
 use Rattle.shared_words.specs.declared.Refusal.{Refusal}
 use Rattle.shared_words.specs.declared.Refusal.TheVariants.{Empty}
-use Rattle.studio_rules.specs.declared.Named.{Named}
 use Rattle.studio_rules.specs.declared.Boxed.{Boxed}
 use Rattle.studio_rules.specs.declared.Corner.{Corner}
 use Rattle.studio_rules.specs.declared.BoundingBox.{BoundingBox}
@@ -22,9 +22,9 @@ use Rattle.studio_mesh_asked.proofs.Choices.{any-refused, any-goes-on}
 
 module _ (s : List ℕ) (mesh : ℕ) where
   module _ {r : Refusal} (e : choose yes mesh (verdict s) ≡ no r) where
-    pub name-refused : Named.Refused r ≡ name_call s mesh
+    pub name-refused : Err r ≡ name_call s mesh
     unfolding name_call
-    name-refused = sym (any-refused Named.Refused name_of mesh (verdict s) e)
+    name-refused = sym (any-refused Err name_of mesh (verdict s) e)
 
     pub box-refused : Boxed.Refused r ≡ box_call s mesh
     unfolding box_call
@@ -32,9 +32,9 @@ module _ (s : List ℕ) (mesh : ℕ) where
 
   module _ {m : Mesh} (e : choose yes mesh (verdict s) ≡ yes m) where
     module _ {place : Place} (p : PlaceIs s m place) where
-      pub name-goes-on : Named.At record { offset = place.name; size = place.size } ≡ name_call s mesh
+      pub name-goes-on : Ok record { offset = place.name; size = place.size } ≡ name_call s mesh
       unfolding name_call
-      name-goes-on = rw (p.name-at, p.name-size) (sym (any-goes-on Named.Refused name_of mesh (verdict s) e))
+      name-goes-on = rw (p.name-at, p.name-size) (sym (any-goes-on Err name_of mesh (verdict s) e))
 
       box-is : box_call s mesh ≡ around_of m
       unfolding box_call

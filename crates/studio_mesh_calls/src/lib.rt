@@ -7,16 +7,16 @@ ghost use Rattle.studio_rules.specs.Within.{NameWithin, BoxNumbers};
 
 use shared_words::Refusal;
 use studio_mesh_asked::{Asked, ask};
-use studio_rules::{Boxed, Named, Span};
+use studio_rules::{Boxed, Span};
 
 // Where the name of a mesh's object stands in the file.
-pub fn name(file: &[u8], mesh: u32) -> Named
+pub fn name(file: &[u8], mesh: u32) -> Result<Span, Refusal>
     ensures answer { result ≡ name_call file.now mesh }
     ensures within { NameWithin result }
 {
     match ask(file, mesh) {
-        Asked::Refused(r) => Named::Refused(r),
-        Asked::Mesh(place) => Named::At(Span {
+        Asked::Refused(r) => Err(r),
+        Asked::Mesh(place) => Ok(Span {
             offset: place.name,
             size: place.size,
         }),

@@ -1,5 +1,6 @@
 -- The tables of a mesh: refused, or all rows filled. For whichever tables are asked for, and every way in which the numbers
 -- stand in the rows.
+use Rattle.std.specs.Prelude.{Result, Ok, Err}
 use mathlib.Core.Path.{◌≡◌, refl, sym, ap, ◌∙◌}
 use mathlib.Core.Bool.{Bool, true, false, cond}
 use mathlib.Core.List.{List}
@@ -11,7 +12,6 @@ use Rattle.shared_words.specs.declared.Refusal.{Refusal}
 use Rattle.shared_words.specs.declared.Refusal.TheVariants.{NoRoom}
 use Rattle.shared_words.specs.Refusals.{limit}
 use Rattle.studio_rules.specs.declared.Sizes.{Sizes}
-use Rattle.studio_rules.specs.declared.Tabled.{Tabled}
 use Rattle.shared_words.specs.Bytes.{numbers}
 use Rattle.studio_rules.specs.OwnData.{corners}
 use Rattle.studio_rules.specs.Walk.{verdict}
@@ -28,15 +28,15 @@ use Rattle.studio_mesh_asked.proofs.Choices.{with_choice, call-refused, call-goe
 use Rattle.studio_mesh_tables.specs.Rows.{rows, sizes_at}
 
 -- what a call answers and leaves, in two parts
-pub gives : {A B C : Type 0} {x : Effect Tabled (Rows A B C)} {answer : Tabled} {left : Rows A B C} → x ≡ leaving answer left → (answer ≡ x.answer) × (left ≡ x.rows)
-gives {A} {B} {C} e = (ap (λ (y : Effect Tabled (Rows A B C)). y.answer) (sym e), ap (λ (y : Effect Tabled (Rows A B C)). y.rows) (sym e))
+pub gives : {A B C : Type 0} {x : Effect (Result Sizes Refusal) (Rows A B C)} {answer : Result Sizes Refusal} {left : Rows A B C} → x ≡ leaving answer left → (answer ≡ x.answer) × (left ≡ x.rows)
+gives {A} {B} {C} e = (ap (λ (y : Effect (Result Sizes Refusal) (Rows A B C)). y.answer) (sym e), ap (λ (y : Effect (Result Sizes Refusal) (Rows A B C)). y.rows) (sym e))
 
 -- an answer with the sizes of a mesh, however they were put together
-pub filled-sizes : {R : Type 0} {x : Effect Tabled R} {sizes same : Sizes} {left : R} → sizes ≡ same → x ≡ leaving (Tabled.Filled same) left → x ≡ leaving (Tabled.Filled sizes) left
-filled-sizes {left = left} e f = f ∙ ap (λ (n : Sizes). leaving (Tabled.Filled n) left) (sym e)
+pub filled-sizes : {R : Type 0} {x : Effect (Result Sizes Refusal) R} {sizes same : Sizes} {left : R} → sizes ≡ same → x ≡ leaving (Ok same) left → x ≡ leaving (Ok sizes) left
+filled-sizes {left = left} e f = f ∙ ap (λ (n : Sizes). leaving (Ok n) left) (sym e)
 
 -- they are within the limit
-pub within : {s : List ℕ} {m : Mesh} {place : Place} {sizes : Sizes} → PlaceIs s m place → length s ≤ limit → sizes ≡ sizes_at place → SizesWithin (Tabled.Filled sizes)
+pub within : {s : List ℕ} {m : Mesh} {place : Place} {sizes : Sizes} → PlaceIs s m place → length s ≤ limit → sizes ≡ sizes_at place → SizesWithin (Ok sizes)
 within p l e = rw e (omega (arith, p.vertices_stay), omega (arith, p.faces_stay), omega (arith, p.vertices_stay, p.pairs_fit_lem))
 
 -- what a row is to the functions that ask for room
@@ -49,11 +49,11 @@ room-is none numbers row = refl
 room-is (some e) numbers row = refl
 
 module _ {A B C : Type 0} (t : Tables A B C) (s : List ℕ) (mesh : ℕ) (vs : List A) (cs : List B) (ps : List C) where
-  abbrev refuse : Refusal → Effect Tabled (Rows A B C)
-  refuse r = leaving (Tabled.Refused r) (rows vs cs ps)
+  abbrev refuse : Refusal → Effect (Result Sizes Refusal) (Rows A B C)
+  refuse r = leaving (Err r) (rows vs cs ps)
 
-  abbrev all : Mesh → Effect Tabled (Rows A B C)
-  all m = leaving (Tabled.Filled (sizes_of m)) (rows_with t (rows vs cs ps) m)
+  abbrev all : Mesh → Effect (Result Sizes Refusal) (Rows A B C)
+  all m = leaving (Ok (sizes_of m)) (rows_with t (rows vs cs ps) m)
 
   abbrev pub pick : Mesh → Choice
   pick = fitting (lent t.vertices vs) (lent t.corners cs) (lent t.mapping ps)
@@ -71,7 +71,7 @@ module _ {A B C : Type 0} (t : Tables A B C) (s : List ℕ) (mesh : ℕ) (vs : L
       go true false z = refl
       go false y z = refl
 
-  pub tables-refused : {r : Refusal} → choose pick mesh (verdict s) ≡ no r → tables_call t s mesh (rows vs cs ps) ≡ leaving (Tabled.Refused r) (rows vs cs ps)
+  pub tables-refused : {r : Refusal} → choose pick mesh (verdict s) ≡ no r → tables_call t s mesh (rows vs cs ps) ≡ leaving (Err r) (rows vs cs ps)
   unfolding tables_call
   tables-refused e = call-refused refuse all (tables_of t (rows vs cs ps)) pick picks mesh (verdict s) e
 
@@ -80,7 +80,7 @@ module _ {A B C : Type 0} (t : Tables A B C) (s : List ℕ) (mesh : ℕ) (vs : L
         (vs' : List A) → vs' ≡ tabled t.vertices (numbers 4 (3 * place.vertices.count) (drop place.vertices.at s)) vs →
         (cs' : List B) → cs' ≡ tabled t.corners (corners place.faces.count (drop place.faces.at s)) cs →
         (ps' : List C) → ps' ≡ tabled t.mapping (filled_up (2 * place.mapping.pairs) (numbers 4 (2 * place.mapping.count) (drop place.mapping.at s))) ps →
-        tables_call t s mesh (rows vs cs ps) ≡ leaving (Tabled.Filled (sizes_at place)) (rows vs' cs' ps')
+        tables_call t s mesh (rows vs cs ps) ≡ leaving (Ok (sizes_at place)) (rows vs' cs' ps')
     unfolding tables_call
     tables-filled vs' f cs' g ps' h =
         call-goes-on refuse all (tables_of t (rows vs cs ps)) pick picks mesh (verdict s) e ∙

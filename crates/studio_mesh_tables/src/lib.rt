@@ -10,7 +10,8 @@ use studio_mesh_asked::{Asked, Lent, ask_with_room};
 use studio_mesh_find::Place;
 use studio_mesh_pairs::{fill_pair_bytes, fill_pairs};
 use studio_mesh_rows::{fill_corner_bytes, fill_corners, fill_float_bytes, fill_floats};
-use studio_rules::{Sizes, Tabled};
+use studio_rules::Sizes;
+use shared_words::Refusal;
 
 // How many vertices, faces and pairs a mesh has.
 fn sizes_of(place: Place) -> Sizes
@@ -31,7 +32,7 @@ pub fn tables(
     vertices: &mut [f32],
     corners: &mut [u16],
     mapping: &mut [f32],
-) -> Tabled
+) -> Result<Sizes, Refusal>
     ensures answer { result ≡ (tables_call in_numbers file.now mesh
         (rows vertices.old corners.old mapping.old)).answer }
     ensures filled { rows vertices.new corners.new mapping.new ≡
@@ -41,20 +42,20 @@ pub fn tables(
     let c = Lent::Numbers(corners.len());
     let p = Lent::Numbers(mapping.len());
     match ask_with_room(file, mesh, v, c, p) {
-        Asked::Refused(r) => Tabled::Refused(r),
+        Asked::Refused(r) => Err(r),
         Asked::Mesh(place) => {
             fill_floats(file, place.vertices.at, 3 * place.vertices.count, vertices);
             fill_corners(file, place.faces.at, place.faces.count, corners);
             let m = place.mapping;
             fill_pairs(file, m.at, m.count, m.pairs, mapping);
-            Tabled::Filled(sizes_of(place))
+            Ok(sizes_of(place))
         }
     }
 }
 
 // The vertices and corners as little-endian bytes: four a number of a vertex, two a corner. A part of a number at a slice's
 // end is no room.
-pub fn tables_bytes(file: &[u8], mesh: u32, vertices: &mut [u8], corners: &mut [u8]) -> Tabled
+pub fn tables_bytes(file: &[u8], mesh: u32, vertices: &mut [u8], corners: &mut [u8]) -> Result<Sizes, Refusal>
     ensures answer { result ≡ (tables_call in_bytes file.now mesh (two_rows vertices.old corners.old)).answer }
     ensures filled { two_rows vertices.new corners.new ≡
         (tables_call in_bytes file.now mesh (two_rows vertices.old corners.old)).rows }
@@ -63,28 +64,28 @@ pub fn tables_bytes(file: &[u8], mesh: u32, vertices: &mut [u8], corners: &mut [
     let v = Lent::Numbers(vertices.len() / 4);
     let c = Lent::Numbers(corners.len() / 2);
     match ask_with_room(file, mesh, v, c, Lent::Unasked) {
-        Asked::Refused(r) => Tabled::Refused(r),
+        Asked::Refused(r) => Err(r),
         Asked::Mesh(place) => {
             fill_float_bytes(file, place.vertices.at, 3 * place.vertices.count, vertices);
             fill_corner_bytes(file, place.faces.at, place.faces.count, corners);
-            Tabled::Filled(sizes_of(place))
+            Ok(sizes_of(place))
         }
     }
 }
 
 // The mapping as little-endian bytes, four a number.
-pub fn mapping_bytes(file: &[u8], mesh: u32, mapping: &mut [u8]) -> Tabled
+pub fn mapping_bytes(file: &[u8], mesh: u32, mapping: &mut [u8]) -> Result<Sizes, Refusal>
     ensures answer { result ≡ (tables_call mapping_in_bytes file.now mesh (mapping_row mapping.old)).answer }
     ensures filled { mapping_row mapping.new ≡ (tables_call mapping_in_bytes file.now mesh (mapping_row mapping.old)).rows }
     ensures within { SizesWithin result }
 {
     let p = Lent::Numbers(mapping.len() / 4);
     match ask_with_room(file, mesh, Lent::Unasked, Lent::Unasked, p) {
-        Asked::Refused(r) => Tabled::Refused(r),
+        Asked::Refused(r) => Err(r),
         Asked::Mesh(place) => {
             let m = place.mapping;
             fill_pair_bytes(file, m.at, m.count, m.pairs, mapping);
-            Tabled::Filled(sizes_of(place))
+            Ok(sizes_of(place))
         }
     }
 }

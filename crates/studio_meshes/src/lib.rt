@@ -24,7 +24,6 @@ use shared_words::Refusal;
 use studio_box_row::put_box;
 use studio_child::next_child;
 use studio_mesh_find::{Elements, Object, Place, find_objects, object_at, place_of};
-use studio_rules::{Checked, Counted};
 
 // How many elements there are and where they begin, at a position; answers the position behind the two numbers.
 fn put_elements(elements: Elements, at: usize, row: &mut [u8]) -> usize
@@ -138,8 +137,8 @@ fn ask(file: &[u8], room: usize) -> Asked
     ensures { AskedIs file.now room result }
 {
     match studio_check::check(file) {
-        Checked::Refused(r) => Asked::Refused(r),
-        Checked::Accepted(_) => {
+        Err(r) => Asked::Refused(r),
+        Ok(_) => {
             let objects = find_objects(file);
             let count = count_meshes(file, objects.from, objects.stop);
             if room < count {
@@ -156,30 +155,30 @@ fn ask(file: &[u8], room: usize) -> Asked
 
 // The meshes of a figure, in file order, eight numbers each, four bytes a number. Answers how many there are, or the refusal; a
 // refusal leaves the row as it was.
-pub fn meshes_bytes(file: &[u8], row: &mut [u8]) -> Counted
+pub fn meshes_bytes(file: &[u8], row: &mut [u8]) -> Result<usize, Refusal>
     ensures answer { result ≡ (meshes_call mesh_bytes file.now row.old).answer }
     ensures filled { row.new ≡ (meshes_call mesh_bytes file.now row.old).rows }
 {
     match ask(file, row.len() / 32) {
-        Asked::Refused(r) => Counted::Refused(r),
+        Asked::Refused(r) => Err(r),
         Asked::Meshes { from, stop, count } => {
             fill(file, from, stop, Wanted::Numbers, row);
-            Counted::Filled(count)
+            Ok(count)
         }
     }
 }
 
 // The boxes of the meshes of a figure and their centres, in file order, nine floats each; nine zeros for a mesh without vertices.
 // Answers how many meshes there are, or the refusal; a refusal leaves the row as it was.
-pub fn boxes_bytes(file: &[u8], row: &mut [u8]) -> Counted
+pub fn boxes_bytes(file: &[u8], row: &mut [u8]) -> Result<usize, Refusal>
     ensures answer { result ≡ (boxes_call box_bytes file.now row.old).answer }
     ensures filled { row.new ≡ (boxes_call box_bytes file.now row.old).rows }
 {
     match ask(file, row.len() / 36) {
-        Asked::Refused(r) => Counted::Refused(r),
+        Asked::Refused(r) => Err(r),
         Asked::Meshes { from, stop, count } => {
             fill(file, from, stop, Wanted::Boxes, row);
-            Counted::Filled(count)
+            Ok(count)
         }
     }
 }

@@ -1,4 +1,5 @@
 -- Each of all boxes is the box of its mesh.
+use Rattle.std.specs.Prelude.{Ok}
 use mathlib.Core.Path.{◌≡◌, refl, sym, ap, ◌∙◌}
 use mathlib.Core.Bool.{Bool, true, false, cond}
 use mathlib.Core.List.{List, [], ◌∷◌, ◌++◌, append_assoc}
@@ -15,7 +16,6 @@ use Rattle.shared_words.specs.declared.Refusal.{Refusal}
 use Rattle.shared_words.specs.declared.Refusal.TheVariants.{Empty}
 use Rattle.shared_words.proofs.Bytes.{length-packed, packed_append}
 use Rattle.studio_rules.specs.declared.Boxed.{Boxed}
-use Rattle.studio_rules.specs.declared.Counted.{Counted}
 use Rattle.studio_rules.specs.Layout.{Run}
 use Rattle.studio_rules.specs.Walk.{verdict}
 use Rattle.studio_rules.specs.Gives.{Mesh, meshes}
@@ -77,7 +77,7 @@ nth (m ∷ ms) behind (suc i) l = later m ms behind i (nth ms behind i (omega ar
 -- ---- the calls
 
 -- a filled row, by the verdict on the file
-by : (v : Answer Run) (row : List ℕ) (n : ℕ) → (all_of meshes box_bytes row v).answer ≡ Counted.Filled n →
+by : (v : Answer Run) (row : List ℕ) (n : ℕ) → (all_of meshes box_bytes row v).answer ≡ Ok n →
     (kids : Run) × (v ≡ accepted kids) × (n ≡ length (meshes kids)) × ((all_of meshes box_bytes row v).rows ≡ filled (box_bytes.encode (meshes kids)) row)
 by (refused r) row n e = absurd (let z : ◌≡◌ {A = ℕ} 0 1 = cc in omega arith)
 by (accepted kids) row n e = go (leb (length (meshes kids)) (box_bytes.room (length row))) refl

@@ -1,6 +1,7 @@
 -- The boxes of all meshes of a figure in one call, nine floats each: what it answers and leaves in the lent row, for every file and
 -- every row.
-use Rattle.std.specs.Prelude.{ℕ, ◌/◌, List, [], ◌∷◌, ◌++◌, map, replicate}
+use Rattle.shared_words.specs.declared.Refusal.{Refusal}
+use Rattle.std.specs.Prelude.{ℕ, ◌/◌, List, [], ◌∷◌, ◌++◌, map, replicate, Result}
 use Rattle.std.specs.Float.{binary32}
 use Rattle.std.specs.Float.Ieee.{to_bits}
 use Rattle.shared_words.specs.Bytes.{packed}
@@ -9,7 +10,6 @@ use Rattle.shared_words.specs.Encodings.{Encoding}
 use Rattle.studio_rules.specs.declared.Boxed.{Boxed}
 use Rattle.studio_rules.specs.declared.Corner.{Corner}
 use Rattle.studio_rules.specs.declared.BoundingBox.{BoundingBox}
-use Rattle.studio_rules.specs.declared.Counted.{Counted}
 use Rattle.studio_rules.specs.Walk.{verdict}
 use Rattle.studio_rules.specs.Gives.{Mesh, meshes}
 use Rattle.studio_rules.specs.Calls.{around_of, all_of}
@@ -36,5 +36,5 @@ mesh_box m = box_numbers (around_of m)
 abbrev pub box_bytes : Encoding Mesh ℕ
 box_bytes = record { room = λ n. n / 36; encode = λ ms. packed 4 (flattened mesh_box ms) }
 
-unfoldable pub boxes_call : {A : Type 0} → Encoding Mesh A → List ℕ → List A → Effect Counted (List A)
+unfoldable pub boxes_call : {A : Type 0} → Encoding Mesh A → List ℕ → List A → Effect (Result ℕ Refusal) (List A)
 boxes_call e s row = all_of meshes e row (verdict s)

@@ -1,10 +1,9 @@
 -- What is proved of the meshes where they stand, and of their boxes.
-use Rattle.std.specs.Prelude.{◌≡◌, List, map, ℕ, ◌*◌, ◌<◌, take, drop}
+use Rattle.std.specs.Prelude.{◌≡◌, List, map, ℕ, ◌*◌, ◌<◌, take, drop, Ok}
 use Rattle.shared_words.specs.Bytes.{packed}
 use Rattle.shared_words.specs.declared.Refusal.{Refusal}
 use Rattle.shared_words.specs.declared.Refusal.TheVariants.{Empty}
 use Rattle.studio_rules.specs.declared.Boxed.{Boxed}
-use Rattle.studio_rules.specs.declared.Counted.{Counted}
 use Rattle.studio_rules.specs.Layout.{Run}
 use Rattle.studio_rules.specs.Gives.{meshes}
 use Rattle.studio_rules.specs.Calls.{box_call}
@@ -22,4 +21,4 @@ pub record BoxAt (s row : List ℕ) (i : ℕ) : Type 0 where
   pub or_empty : (r : Refusal) → box_call s i ≡ Boxed.Refused r → r ≡ Empty
 
 abbrev pub EachBox : Type 0
-EachBox = (s row : List ℕ) (n : ℕ) → (boxes_call box_bytes s row).answer ≡ Counted.Filled n → (i : ℕ) → i < n → BoxAt s row i
+EachBox = (s row : List ℕ) (n : ℕ) → (boxes_call box_bytes s row).answer ≡ Ok n → (i : ℕ) → i < n → BoxAt s row i

@@ -1,4 +1,5 @@
 -- The file itself is refused, or what stands around 3D3D is judged.
+use Rattle.std.specs.Prelude.{Result, Err}
 use mathlib.Core.Path.{◌≡◌}
 use Prim.Native.Nat.{ℕ}
 use mathlib.Core.List.{List, []}
@@ -7,7 +8,6 @@ use lib.ListN.{drop}
 use Rattle.shared_words.specs.declared.Refusal.{Refusal}
 use Rattle.shared_words.specs.Conditions.{broken, unless}
 use Rattle.studio_rules.specs.Walk.{file_conditions, length_field, ended, version_in, top}
-use Rattle.shared_words.specs.declared.Judged.{Judged}
 use Rattle.studio_marks.specs.Marks.{ShutIs}
 use Rattle.studio_walk.proofs.Chunks.{clash}
 use Rattle.studio_rescue_rules.specs.Rescue.{version_of, mend, mended}
@@ -15,7 +15,7 @@ use Rattle.studio_rescue_around.specs.declared.Outside.{Outside}
 use Rattle.studio_rescue_around.specs.Around.{outside_of}
 
 module _ (s : List ℕ) where
-  pub whole-refused : (y : Refusal) (r : Judged) → r ≡ Judged.Refused y → ShutIs (broken (file_conditions s (length_field s))) r → Outside.Beyond y ≡ outside_of s (mended s)
+  pub whole-refused : (y : Refusal) (r : Result Unit Refusal) → r ≡ Err y → ShutIs (broken (file_conditions s (length_field s))) r → Outside.Beyond y ≡ outside_of s (mended s)
   unfolding mended
   whole-refused y r e h = go (broken (file_conditions s (length_field s))) h
     where

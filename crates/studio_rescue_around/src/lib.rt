@@ -8,7 +8,7 @@ ghost use Rattle.studio_rescue_around.specs.Around.{ahead, outside_of};
 ghost use Rattle.studio_rescue_around.specs.Before.{Before};
 
 use shared_numbers::{long_at, word_at};
-use shared_words::{Judged, Refusal};
+use shared_words::Refusal;
 use studio_lookup::FIGURE;
 use studio_walk::Ran;
 
@@ -107,7 +107,7 @@ pub fn around(file: &[u8]) -> Outside
     ensures { result ≡ outside_of file.now (mended file.now) }
 {
     match studio_check::judge_file(file) {
-        Judged::Refused(r) => Outside::Beyond(r),
-        Judged::Good => judge_children(file, studio_version::version(file), scene_at(file)),
+        Err(r) => Outside::Beyond(r),
+        Ok(()) => judge_children(file, studio_version::version(file), scene_at(file)),
     }
 }

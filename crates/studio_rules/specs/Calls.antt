@@ -1,6 +1,7 @@
 -- What each call of the reader answers and leaves in the lent rows, for every file and every row. The contracts of the
 -- public functions are equations with these definitions.
-use Rattle.std.specs.Prelude.{ℕ, Bool, true, cond, List, eqb, leb, Float, length}
+use Rattle.studio_rules.specs.declared.Span.{Span}
+use Rattle.std.specs.Prelude.{ℕ, Bool, true, cond, List, eqb, leb, Float, length, Result, Ok, Err}
 use Rattle.std.proofs.Math.Option.{Option, none, some}
 use Rattle.std.proofs.Math.ListN.{get_elem?}
 use Rattle.shared_words.specs.Picked.{pick_mesh}
@@ -8,11 +9,7 @@ use Rattle.studio_rules.specs.declared.Record.{Record}
 use Rattle.shared_words.specs.declared.Refusal.{Refusal}
 use Rattle.shared_words.specs.declared.Refusal.TheVariants.{NoRoom, Empty}
 use Rattle.studio_rules.specs.declared.Counts.{Counts}
-use Rattle.studio_rules.specs.declared.Checked.{Checked}
 use Rattle.studio_rules.specs.declared.Sizes.{Sizes}
-use Rattle.studio_rules.specs.declared.Tabled.{Tabled}
-use Rattle.studio_rules.specs.declared.Counted.{Counted}
-use Rattle.studio_rules.specs.declared.Named.{Named}
 use Rattle.studio_rules.specs.declared.Boxed.{Boxed}
 use Rattle.studio_rules.specs.Layout.{Run, figure}
 use Rattle.shared_words.specs.Conditions.{Answer, refused, accepted}
@@ -32,23 +29,23 @@ counts_of kids = record {
   skipped = skipped (figure kids);
 }
 
-abbrev pub check_of : Answer Run → Checked
-check_of (refused r) = Checked.Refused r
-check_of (accepted kids) = Checked.Accepted (counts_of kids)
+abbrev pub check_of : Answer Run → Result Counts Refusal
+check_of (refused r) = Err r
+check_of (accepted kids) = Ok (counts_of kids)
 
-unfoldable pub check_call : List ℕ → Checked
+unfoldable pub check_call : List ℕ → Result Counts Refusal
 check_call s = check_of (verdict s)
 
 -- ---- the list, into a row whose room is counted in whole records
 
-abbrev pub list_of : {A : Type 0} → Encoding Record A → List A → Answer Run → Effect Checked (List A)
-list_of e row (refused r) = leaving (Checked.Refused r) row
+abbrev pub list_of : {A : Type 0} → Encoding Record A → List A → Answer Run → Effect (Result Counts Refusal) (List A)
+list_of e row (refused r) = leaving (Err r) row
 list_of e row (accepted kids) =
     cond (leb (record_count (figure kids)) (e.room (length row)))
-    (leaving (Checked.Accepted (counts_of kids)) (filled (e.encode (list kids)) row))
-    (leaving (Checked.Refused (NoRoom (record_count (figure kids)))) row)
+    (leaving (Ok (counts_of kids)) (filled (e.encode (list kids)) row))
+    (leaving (Err (NoRoom (record_count (figure kids)))) row)
 
-unfoldable pub list_call : {A : Type 0} → Encoding Record A → List ℕ → List A → Effect Checked (List A)
+unfoldable pub list_call : {A : Type 0} → Encoding Record A → List ℕ → List A → Effect (Result Counts Refusal) (List A)
 list_call e s row = list_of e row (verdict s)
 
 -- ---- one mesh
@@ -101,25 +98,25 @@ rows_with t rows m = record {
 }
 
 -- all are filled, or none: if several rows are too small, 15 speaks of the vertices first, of the mapping last
-abbrev pub tables_of : {A B C : Type 0} → Tables A B C → Rows A B C → Mesh → Effect Tabled (Rows A B C)
+abbrev pub tables_of : {A B C : Type 0} → Tables A B C → Rows A B C → Mesh → Effect (Result Sizes Refusal) (Rows A B C)
 tables_of t rows m =
     cond (fits t.vertices m.vertices rows.vertices)
     (cond (fits t.corners m.corners rows.corners)
     (cond (fits t.mapping m.mapping rows.mapping)
-    (leaving (Tabled.Filled (sizes_of m)) (rows_with t rows m))
-    (leaving (Tabled.Refused (NoRoom (length m.mapping))) rows))
-    (leaving (Tabled.Refused (NoRoom (length m.corners))) rows))
-    (leaving (Tabled.Refused (NoRoom (length m.vertices))) rows)
+    (leaving (Ok (sizes_of m)) (rows_with t rows m))
+    (leaving (Err (NoRoom (length m.mapping))) rows))
+    (leaving (Err (NoRoom (length m.corners))) rows))
+    (leaving (Err (NoRoom (length m.vertices))) rows)
 
-unfoldable pub tables_call : {A B C : Type 0} → Tables A B C → List ℕ → ℕ → Rows A B C → Effect Tabled (Rows A B C)
-tables_call t s mesh rows = of_mesh (λ r. leaving (Tabled.Refused r) rows) (tables_of t rows) mesh (verdict s)
+unfoldable pub tables_call : {A B C : Type 0} → Tables A B C → List ℕ → ℕ → Rows A B C → Effect (Result Sizes Refusal) (Rows A B C)
+tables_call t s mesh rows = of_mesh (λ r. leaving (Err r) rows) (tables_of t rows) mesh (verdict s)
 
 -- the name of the mesh's object
-abbrev pub name_of : Mesh → Named
-name_of m = Named.At record { offset = m.name_at; size = m.name_length }
+abbrev pub name_of : Mesh → Result Span Refusal
+name_of m = Ok record { offset = m.name_at; size = m.name_length }
 
-unfoldable pub name_call : List ℕ → ℕ → Named
-name_call s mesh = of_mesh Named.Refused name_of mesh (verdict s)
+unfoldable pub name_call : List ℕ → ℕ → Result Span Refusal
+name_call s mesh = of_mesh Err name_of mesh (verdict s)
 
 -- the box, and its centre
 abbrev pub around_of : Mesh → Boxed
@@ -132,13 +129,13 @@ box_call s mesh = of_mesh Boxed.Refused around_of mesh (verdict s)
 
 -- ---- all things of one kind that a figure has, into a row whose room is counted in whole things
 
-abbrev pub all_of : {X A : Type 0} → (Run → List X) → Encoding X A → List A → Answer Run → Effect Counted (List A)
-all_of things e row (refused r) = leaving (Counted.Refused r) row
+abbrev pub all_of : {X A : Type 0} → (Run → List X) → Encoding X A → List A → Answer Run → Effect (Result ℕ Refusal) (List A)
+all_of things e row (refused r) = leaving (Err r) row
 all_of things e row (accepted kids) =
     cond (leb (length (things kids)) (e.room (length row)))
-    (leaving (Counted.Filled (length (things kids))) (filled (e.encode (things kids)) row))
-    (leaving (Counted.Refused (NoRoom (length (things kids)))) row)
+    (leaving (Ok (length (things kids))) (filled (e.encode (things kids)) row))
+    (leaving (Err (NoRoom (length (things kids)))) row)
 
 -- the parts
-unfoldable pub parts_call : {A : Type 0} → Encoding Part A → List ℕ → List A → Effect Counted (List A)
+unfoldable pub parts_call : {A : Type 0} → Encoding Part A → List ℕ → List A → Effect (Result ℕ Refusal) (List A)
 parts_call e s row = all_of parts e row (verdict s)

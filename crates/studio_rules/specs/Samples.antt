@@ -1,9 +1,8 @@
 -- P1 to P12 of docs/FORMAT.md, as one list under one statement.
-use Rattle.std.specs.Prelude.{◌≡◌, ℕ, List, [], ◌∷◌, ◌++◌, length, take, drop, set, replicate}
-use Rattle.studio_rules.specs.declared.Checked.{Checked}
-use Rattle.studio_rules.specs.declared.Checked.TheVariants.{Accepted, Refused}
+use Rattle.studio_rules.specs.declared.Counts.{Counts}
+use Rattle.shared_words.specs.declared.Refusal.{Refusal}
+use Rattle.std.specs.Prelude.{◌≡◌, ℕ, List, [], ◌∷◌, ◌++◌, length, take, drop, set, replicate, Result, Ok, Err}
 use Rattle.shared_words.specs.declared.Refusal.TheVariants.{NoSuchMesh}
-use Rattle.studio_rules.specs.declared.Named.{Named}
 use Rattle.studio_rules.specs.declared.Corner.{Corner}
 use Rattle.studio_rules.specs.declared.Boxed.{Boxed}
 use Rattle.shared_words.specs.Refusals.{code_of}
@@ -20,9 +19,9 @@ pub data Shown : Type 0 where
   no : ℕ → ℕ → Shown
   yes : ℕ → ℕ → ℕ → Shown
 
-abbrev pub shown : Checked → Shown
-shown (Refused r) = no (code_of r).number (code_of r).place
-shown (Accepted c) = yes c.headers c.own c.skipped
+abbrev pub shown : Result Counts Refusal → Shown
+shown (Err r) = no (code_of r).number (code_of r).place
+shown (Ok c) = yes c.headers c.own c.skipped
 
 -- ---- the files
 
@@ -44,7 +43,7 @@ p12 = set (set (set (take 20 triangle ++ (0x23 ∷ 0x81 ∷ 10 ∷ 0 ∷ 0 ∷ 0
 
 -- ---- the answers
 
-abbrev pub answers : List Checked
+abbrev pub answers : List (Result Counts Refusal)
 answers =
     check_call [] ∷
     check_call (0x4D ∷ 0x4D ∷ 5 ∷ 0 ∷ 0 ∷ 0 ∷ []) ∷
@@ -74,7 +73,7 @@ papers =
     no 15 6 ∷
     yes 36 50 10 ∷ []
 
-abbrev pub show_all : List Checked → List Shown
+abbrev pub show_all : List (Result Counts Refusal) → List Shown
 show_all [] = []
 show_all (a ∷ rest) = shown a ∷ show_all rest
 
@@ -120,8 +119,8 @@ point x y = record { x = float x; y = float y; z = float 0 }
 pub record Samples : Type 0 where
   pub p1_to_p12 : show_all answers ≡ papers
   pub p8_list : list_in (verdict triangle) ≡ triangle_list
-  pub p8_name : name_call triangle 0 ≡ Named.At record { offset = 18; size = 1 }
-  pub p8_one_mesh : name_call triangle 7 ≡ Named.Refused (NoSuchMesh 1)
+  pub p8_name : name_call triangle 0 ≡ Ok record { offset = 18; size = 1 }
+  pub p8_one_mesh : name_call triangle 7 ≡ Err (NoSuchMesh 1)
   pub p8_box : box_call triangle 0 ≡ Boxed.Around record { low = point 0 0; high = point one one } (point 0x3F00_0000 0x3F00_0000)
   pub p8_tables : tables_in (verdict triangle) ≡ (0 ∷ 0 ∷ 0 ∷ one ∷ 0 ∷ 0 ∷ 0 ∷ one ∷ 0 ∷ [], 0 ∷ 1 ∷ 2 ∷ []) ∷ []
   pub p12-length : length p12 ≡ 96

@@ -1,28 +1,29 @@
 -- What holds of the numbers in an answer besides what they are: they fit 32 bits, and floats are numbers. (It follows from
 -- the answers' definitions; a caller that gives the numbers out needs it.)
-use Rattle.std.specs.Prelude.{◌≡◌, true, not, ◌+◌, ◌≤◌, ◌<◌, ◌^◌, T, Float}
+use Rattle.studio_rules.specs.declared.Counts.{Counts}
+use Rattle.studio_rules.specs.declared.Sizes.{Sizes}
+use Rattle.studio_rules.specs.declared.Span.{Span}
+use Rattle.shared_words.specs.declared.Refusal.{Refusal}
+use Rattle.std.specs.Prelude.{◌≡◌, true, not, ◌+◌, ◌≤◌, ◌<◌, ◌^◌, T, Float, Result, Ok, Err}
 use Rattle.std.specs.Float.{binary32}
 use Rattle.std.specs.Float.Ieee.{is_nan, to_bits}
 use Rattle.shared_words.specs.Refusals.{limit}
-use Rattle.studio_rules.specs.declared.Checked.{Checked}
-use Rattle.studio_rules.specs.declared.Named.{Named}
-use Rattle.studio_rules.specs.declared.Tabled.{Tabled}
 use Rattle.studio_rules.specs.declared.Boxed.{Boxed}
 use Rattle.studio_rules.specs.declared.Corner.{Corner}
 use Rattle.shared_words.specs.Floats.{finite}
 use Rattle.shared_words.specs.Floats.{float}
 
-abbrev pub CountsWithin : Checked → Type 0
-CountsWithin (Checked.Accepted c) = (c.headers < 2 ^ 32) × (c.own < 2 ^ 32) × (c.skipped < 2 ^ 32)
-CountsWithin (Checked.Refused r) = Unit
+abbrev pub CountsWithin : Result Counts Refusal → Type 0
+CountsWithin (Ok c) = (c.headers < 2 ^ 32) × (c.own < 2 ^ 32) × (c.skipped < 2 ^ 32)
+CountsWithin (Err r) = Unit
 
-abbrev pub NameWithin : Named → Type 0
-NameWithin (Named.At span) = span.offset + span.size ≤ limit
-NameWithin (Named.Refused r) = Unit
+abbrev pub NameWithin : Result Span Refusal → Type 0
+NameWithin (Ok span) = span.offset + span.size ≤ limit
+NameWithin (Err r) = Unit
 
-abbrev pub SizesWithin : Tabled → Type 0
-SizesWithin (Tabled.Filled n) = (n.vertices ≤ limit) × (n.faces ≤ limit) × (n.pairs ≤ limit)
-SizesWithin (Tabled.Refused r) = Unit
+abbrev pub SizesWithin : Result Sizes Refusal → Type 0
+SizesWithin (Ok n) = (n.vertices ≤ limit) × (n.faces ≤ limit) × (n.pairs ≤ limit)
+SizesWithin (Err r) = Unit
 
 -- x is a number, its bits pass the test that a coordinate in a file must pass, and they are read back as x
 pub record Number (x : Float) : Type 0 where

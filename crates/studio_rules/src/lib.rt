@@ -26,13 +26,6 @@ pub struct Counts {
     pub skipped: usize,
 }
 
-// The answer of the check and of the list.
-#[derive(Clone, Copy)]
-pub enum Checked {
-    Accepted(Counts),
-    Refused(Refusal),
-}
-
 // How many vertices and faces a mesh has, and how many pairs its mapping.
 #[derive(Clone, Copy)]
 pub struct Sizes {
@@ -41,32 +34,11 @@ pub struct Sizes {
     pub pairs: usize,
 }
 
-// The answer of a mesh's tables.
-#[derive(Clone, Copy)]
-pub enum Tabled {
-    Filled(Sizes),
-    Refused(Refusal),
-}
-
-// The answer of a call that gives out all parts, or all meshes: how many the row holds.
-#[derive(Clone, Copy)]
-pub enum Counted {
-    Filled(usize),
-    Refused(Refusal),
-}
-
 // Where a name stands in the file, and its length without the zero.
 #[derive(Clone, Copy)]
 pub struct Span {
     pub offset: usize,
     pub size: usize,
-}
-
-// The answer of a mesh's name.
-#[derive(Clone, Copy)]
-pub enum Named {
-    At(Span),
-    Refused(Refusal),
 }
 
 // A corner of a box.

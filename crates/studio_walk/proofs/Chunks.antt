@@ -1,4 +1,5 @@
 -- A chunk by what stands at its start: a fault, an unlisted chunk, a leaf; and one with children, when they have been read.
+use Rattle.std.specs.Prelude.{Ok, Err}
 use mathlib.Core.Path.{◌≡◌, refl, sym, ap, ◌∙◌, subst}
 use mathlib.Core.Bool.{Bool, true, false, cond, true≢false}
 use mathlib.Core.List.{List, []}
@@ -26,7 +27,6 @@ use Rattle.studio_rules.proofs.Fuel.{walk_nil}
 use Rattle.studio_row.specs.Packed.{row_of, slot_of}
 use Rattle.studio_row.proofs.Facts.{leaf-is}
 use Rattle.studio_own_data.specs.Bounds.{bound_of}
-use Rattle.shared_words.specs.declared.Judged.{Judged}
 use Rattle.studio_marks.specs.Marks.{noted, no_marks, Kept, ShutIs}
 use Rattle.studio_head.specs.declared.Head.{Head}
 use Rattle.studio_walk.specs.declared.Ran.{Ran}
@@ -40,11 +40,11 @@ clash z = omega arith
 
 -- ---- at its end
 
-pub closed-fault : (past n k : ℕ) (x : Option Refusal) (y : Refusal) → ShutIs x (Judged.Refused y) → Ran.Refused y ≡ closed_to past n k x
+pub closed-fault : (past n k : ℕ) (x : Option Refusal) (y : Refusal) → ShutIs x (Err y) → Ran.Refused y ≡ closed_to past n k x
 closed-fault past n k (some z) y h = cc
 closed-fault past n k none y h = absurd (clash (cc))
 
-pub closed_fine : (past n k : ℕ) (x : Option Refusal) → ShutIs x Judged.Good → Ran.Done past (n + 1) k ≡ closed_to past n k x
+pub closed_fine : (past n k : ℕ) (x : Option Refusal) → ShutIs x (Ok tt) → Ran.Done past (n + 1) k ≡ closed_to past n k x
 closed_fine past n k (some z) h = absurd (clash (cc))
 closed_fine past n k none h = refl
 

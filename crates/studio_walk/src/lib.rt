@@ -12,7 +12,7 @@ ghost use Rattle.studio_marks.specs.Marks.{RuleIs, MeshPlaced};
 ghost use Rattle.studio_head.specs.Contexts.{Room, Context};
 ghost use Rattle.studio_walk.specs.Runs.{SomeContext, ClosesBy, ClosesWith, ChunkIs, ChunkWithin, RunIs, RunWithin};
 
-use shared_words::{Judged, Refusal};
+use shared_words::Refusal;
 use studio_head::Head;
 
 // What a chunk or a run of chunks comes to: where it ends, how many records it has and how many bytes were skipped.
@@ -42,8 +42,8 @@ fn close(
     ensures counts { ClosesWith stop records skipped result }
 {
     match studio_marks::at_end(file, id, at, as_many, marks) {
-        Judged::Refused(r) => Ran::Refused(r),
-        Judged::Good => Ran::Done {
+        Err(r) => Ran::Refused(r),
+        Ok(()) => Ran::Done {
             next: stop,
             records: records + 1,
             skipped,

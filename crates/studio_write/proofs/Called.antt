@@ -1,16 +1,16 @@
 -- The call by what was judged.
+use Rattle.shared_words.specs.declared.Refusal.{Refusal}
+use Rattle.std.specs.Prelude.{Result, Ok, Err}
 use mathlib.Core.Path.{◌≡◌, refl, ap}
 use Prim.Native.Nat.{ℕ}
 use mathlib.Core.List.{List}
 use lib.Ieee.{Float}
 use lib.ListN.{length}
-use Rattle.shared_words.specs.declared.Written.{Written}
-use Rattle.shared_words.specs.declared.Written.TheVariants.{Size, Refused}
 use Rattle.studio_write_judge.specs.Judged.{judged}
 use Rattle.studio_write_bytes.specs.Bare.{bare_bytes}
 use Rattle.studio_write.specs.Write.{writing, write_call}
 
-pub called : (name : List ℕ) (vertices : List Float) (corners out : List ℕ) (w : Written) → judged name vertices corners (length out) ≡ w →
+pub called : (name : List ℕ) (vertices : List Float) (corners out : List ℕ) (w : Result ℕ Refusal) → judged name vertices corners (length out) ≡ w →
     write_call name vertices corners out ≡ writing (bare_bytes name vertices corners) out w
 unfolding write_call
 called name vertices corners out w e = ap (writing (bare_bytes name vertices corners) out) e
@@ -19,6 +19,6 @@ pub answered : (name : List ℕ) (vertices : List Float) (corners out : List ℕ
 unfolding write_call
 answered name vertices corners out = go (judged name vertices corners (length out))
   where
-    go : (w : Written) → (writing (bare_bytes name vertices corners) out w).answer ≡ w
-    go (Refused r) = refl
-    go (Size size) = refl
+    go : (w : Result ℕ Refusal) → (writing (bare_bytes name vertices corners) out w).answer ≡ w
+    go (Err r) = refl
+    go (Ok size) = refl

@@ -1,4 +1,6 @@
 -- What is written reads back: the own data of a bare figure is what the rules ask, and holds the numbers given.
+use Rattle.shared_words.specs.declared.Refusal.{Refusal}
+use Rattle.std.specs.Prelude.{Result, Ok}
 use mathlib.Core.Path.{◌≡◌, refl, sym, ap, ◌∙◌, subst}
 use Prim.Native.Nat.{ℕ, ◌+◌, ◌-◌, ◌*◌, ◌≤◌}
 use native.Mathlib.Omega.{arith}
@@ -9,7 +11,6 @@ use lib.Ieee.{Float, binary32, to_bits}
 use lib.ListN.{length, take, drop, length-append, length-map}
 use lib.Seq.{take_at}
 use borrow.Author.Tests.{ltb-true, lt-ltb, le-leb}
-use Rattle.studio_rules.specs.declared.Tabled.{Tabled}
 use Rattle.studio_rules.specs.OwnData.{count, vertex_numbers, face_corners}
 use Rattle.studio_rules.specs.Rules.{all_below, Meets}
 use Rattle.shared_words.specs.Effects.{Effect, leaving, filled}
@@ -19,8 +20,6 @@ use Rattle.shared_words.proofs.Bytes.{value-le}
 use Rattle.studio_rules.proofs.Verdict.{verdict-good}
 use Rattle.studio_write_judge.specs.Judged.{triples, judged}
 use Rattle.studio_write_bytes.specs.Bare.{name_data, vertex_data, face_data, bare, bare_bytes}
-use Rattle.shared_words.specs.declared.Written.{Written}
-use Rattle.shared_words.specs.declared.Written.TheVariants.{Size}
 use Rattle.studio_write.specs.Write.{write_call}
 use Rattle.studio_write.specs.ReadsBack.{Floats32, ReadsBack, WrittenReadsBack}
 use Rattle.studio_write_bytes.proofs.Bare.{behind, name-place, length-vertex_data, length-face_data, length-bare}
@@ -61,7 +60,7 @@ module _ (name : List ℕ) (vertices : List Float) (corners : List ℕ) (room si
 
     tables_are : (rows : Rows Float ℕ Float) → length vertices ≤ length rows.vertices → length corners ≤ length rows.corners →
         tables_of in_numbers rows (mesh (name_data name) (vertex_data vertices) (face_data corners)) ≡
-        leaving (Tabled.Filled record { vertices = triples vertices; faces = triples corners; pairs = 0 })
+        leaving (Ok record { vertices = triples vertices; faces = triples corners; pairs = 0 })
         record { vertices = filled vertices rows.vertices; corners = filled corners rows.corners; mapping = rows.mapping }
     tables_are rows v c =
         let fits : length (map (to_bits binary32) vertices) ≤ length rows.vertices = omega (arith, length-map vertices (to_bits binary32)) in
@@ -96,9 +95,9 @@ module _ (name : List ℕ) (vertices : List Float) (corners : List ℕ) (room si
 pub written-reads-back : WrittenReadsBack
 written-reads-back name vertices corners out size f e =
     let file : List ℕ = bare_bytes name vertices corners in
-    let j : judged name vertices corners (length out) ≡ Size size = sym (answered name vertices corners out) ∙ e in
+    let j : judged name vertices corners (length out) ≡ Ok size = sym (answered name vertices corners out) ∙ e in
     let r = ready name vertices corners (length out) size j in
     let long : length file ≡ size = length-bare name vertices corners r.whole-vertices ∙ sym r.size_is in
     let first : take size (write_call name vertices corners out).rows ≡ file =
-    ap (λ (w : Effect Written (List ℕ)). take size w.rows) (called name vertices corners out (Size size) j) ∙ take_at file (drop (length file) out) size long in
+    ap (λ (w : Effect (Result ℕ Refusal) (List ℕ)). take size w.rows) (called name vertices corners out (Ok size) j) ∙ take_at file (drop (length file) out) size long in
     subst (ReadsBack name vertices corners) (sym first) (reads-back name vertices corners (length out) size r f)

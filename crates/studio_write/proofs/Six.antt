@@ -1,4 +1,5 @@
 -- Six chunks, by the own data of three of them: when they obey the rules, and what the reader gets of them.
+use Rattle.std.specs.Prelude.{Ok, Err}
 use mathlib.Core.Path.{◌≡◌, refl, ap, ◌∙◌}
 use Prim.Native.Nat.{ℕ, suc, ◌+◌, ◌-◌, ◌*◌, ◌/◌, ◌≤◌}
 use native.Mathlib.Omega.{arith}
@@ -8,9 +9,6 @@ use lib.Ieee.{Float}
 use lib.ListN.{length}
 use borrow.Author.Tests.{eqb-true, eq-eqb, le-leb}
 use Rattle.shared_words.specs.declared.Refusal.TheVariants.{NoSuchMesh}
-use Rattle.studio_rules.specs.declared.Checked.{Checked}
-use Rattle.studio_rules.specs.declared.Tabled.{Tabled}
-use Rattle.studio_rules.specs.declared.Named.{Named}
 use Rattle.shared_words.specs.Lists.{every}
 use Rattle.studio_rules.specs.Table.{rows, at_most_one_ids, at_least_one_ids, under, shape, plus, limits, needs}
 use Rattle.shared_words.specs.Floats.{finite}
@@ -95,21 +93,21 @@ module _ (name vertices faces : List ℕ) where
 -- ---- the calls of the reader, of a file that is accepted with this layout
 
 module _ (s name vertices faces : List ℕ) (e : verdict s ≡ accepted (six_chunks name vertices faces)) where
-  pub name-call : name_call s 0 ≡ Named.At record { offset = 18; size = length name - 1 }
+  pub name-call : name_call s 0 ≡ Ok record { offset = 18; size = length name - 1 }
   unfolding name_call
-  name-call = ap (of_mesh Named.Refused name_of 0) e
+  name-call = ap (of_mesh Err name_of 0) e
 
-  pub no_other : (k : ℕ) → name_call s (suc k) ≡ Named.Refused (NoSuchMesh 1)
+  pub no_other : (k : ℕ) → name_call s (suc k) ≡ Err (NoSuchMesh 1)
   unfolding name_call
-  no_other k = ap (of_mesh Named.Refused name_of (suc k)) e
+  no_other k = ap (of_mesh Err name_of (suc k)) e
 
   pub tables-call : (rows : Rows Float ℕ Float) → tables_call in_numbers s 0 rows ≡ tables_of in_numbers rows (mesh name vertices faces)
   unfolding tables_call
-  tables-call rows = ap (of_mesh (λ r. leaving (Tabled.Refused r) rows) (tables_of in_numbers rows) 0) e
+  tables-call rows = ap (of_mesh (λ r. leaving (Err r) rows) (tables_of in_numbers rows) 0) e
 
   pub list-call : (k n f : ℕ) → length name ≡ 1 + k → length vertices ≡ 2 + 12 * n → length faces ≡ 2 + 8 * f → (row : List ℕ) → 6 * record_numbers ≤ length row →
       list_call flat_records s row ≡
-      leaving (Checked.Accepted record { records = 6; headers = 36; own = 5 + k + 12 * n + 8 * f; skipped = 0 }) (filled (six_records k n f) row)
+      leaving (Ok record { records = 6; headers = 36; own = 5 + k + 12 * n + 8 * f; skipped = 0 }) (filled (six_records k n f) row)
   unfolding list_call
   list-call k n f a b c row room =
       let own : owned (figure (six_chunks name vertices faces)) ≡ 5 + k + 12 * n + 8 * f = omega arith in

@@ -1,5 +1,7 @@
 -- Writing again what was read: own data that obeys the rules, with flag words 0, is the own data of the name, floats and
 -- corners in it, so that the layout is that of a bare figure.
+use Rattle.shared_words.specs.declared.Refusal.{Refusal}
+use Rattle.std.specs.Prelude.{Result, Ok, Err}
 use mathlib.Core.Path.{◌≡◌, refl, sym, ap, ◌∙◌, subst}
 use Prim.Native.Nat.{ℕ, ◌+◌, ◌-◌, ◌*◌, ◌%◌, ◌≤◌, ◌<◌}
 use native.Mathlib.Omega.{arith}
@@ -15,9 +17,7 @@ use Rattle.shared_words.proofs.Numbers.{length-numbers, front, packed-numbers}
 use Rattle.studio_rules.proofs.Corners.{length-corners}
 use Rattle.shared_words.specs.declared.Refusal.TheVariants.{NoRoom}
 use Rattle.studio_rules.specs.declared.Sizes.{Sizes}
-use Rattle.studio_rules.specs.declared.Tabled.{Tabled}
 use Rattle.studio_rules.specs.declared.Span.{Span}
-use Rattle.studio_rules.specs.declared.Named.{Named}
 use Rattle.shared_words.specs.Bytes.{le, Bytes}
 use Rattle.shared_words.specs.Lists.{every}
 use Rattle.shared_words.specs.Floats.{finite}
@@ -34,7 +34,6 @@ use Rattle.shared_words.proofs.Bools.{both}
 use Rattle.shared_words.proofs.Bytes.{bytes_drop, word_small, bytes-parts}
 use Rattle.shared_words.proofs.Conditions.{Met}
 use Rattle.studio_rules.proofs.Verdict.{accepted_exactly}
-use Rattle.shared_words.specs.declared.Written.TheVariants.{Size}
 use Rattle.studio_write_judge.specs.Judged.{triples, is_whole_row, figure_size, write_conditions, judged}
 use Rattle.studio_write_bytes.specs.Bare.{name_data, vertex_data, face_data, six_chunks, bare}
 use Rattle.studio_write.specs.Write.{write_call}
@@ -94,23 +93,23 @@ own_bytes name vertices faces b =
 -- ---- what the reader's calls fill
 
 module _ (rows : Rows Float ℕ Float) (m : Mesh) where
-  abbrev done : Effect Tabled (Rows Float ℕ Float)
-  done = leaving (Tabled.Filled (sizes_of m)) (rows_with in_numbers rows m)
+  abbrev done : Effect (Result Sizes Refusal) (Rows Float ℕ Float)
+  done = leaving (Ok (sizes_of m)) (rows_with in_numbers rows m)
 
-  abbrev no_room : ℕ → Effect Tabled (Rows Float ℕ Float)
-  no_room n = leaving (Tabled.Refused (NoRoom n)) rows
+  abbrev no_room : ℕ → Effect (Result Sizes Refusal) (Rows Float ℕ Float)
+  no_room n = leaving (Err (NoRoom n)) rows
 
-  filled-rows : (sizes : Sizes) → (tables_of in_numbers rows m).answer ≡ Tabled.Filled sizes → tables_of in_numbers rows m ≡ done
+  filled-rows : (sizes : Sizes) → (tables_of in_numbers rows m).answer ≡ Ok sizes → tables_of in_numbers rows m ≡ done
   filled-rows sizes e = go (leb (length m.vertices) (length rows.vertices)) (leb (length m.corners) (length rows.corners)) (leb (length m.mapping) (length rows.mapping)) e
     where
-      go : (v c p : Bool) → (cond v (cond c (cond p done (no_room (length m.mapping))) (no_room (length m.corners))) (no_room (length m.vertices))).answer ≡ Tabled.Filled sizes →
+      go : (v c p : Bool) → (cond v (cond c (cond p done (no_room (length m.mapping))) (no_room (length m.corners))) (no_room (length m.vertices))).answer ≡ Ok sizes →
           cond v (cond c (cond p done (no_room (length m.mapping))) (no_room (length m.corners))) (no_room (length m.vertices)) ≡ done
       go true true true e = refl
       go true true false e = let z : ◌≡◌ {A = ℕ} 0 1 = cc in absurd (omega arith)
       go true false p e = let z : ◌≡◌ {A = ℕ} 0 1 = cc in absurd (omega arith)
       go false c p e = let z : ◌≡◌ {A = ℕ} 0 1 = cc in absurd (omega arith)
 
-same-sizes : {x y : Sizes} → Tabled.Filled x ≡ Tabled.Filled y → y ≡ x
+same-sizes : {x y : Sizes} → ◌≡◌ {A = Result Sizes Refusal} (Ok x) (Ok y) → y ≡ x
 same-sizes e = cc
 
 front-name : (own name rest : List ℕ) → own ≡ name_data name → take (length own - 1) (own ++ rest) ≡ name
@@ -120,18 +119,18 @@ front-name own name rest e =
 
 module _ (s name vertices faces : List ℕ) (e : verdict s ≡ accepted (six_chunks name vertices faces)) where
   read_name : bytes (figure (six_chunks name vertices faces)) ≡ s → (short : List ℕ) → name ≡ name_data short →
-      (span : Span) → name_call s 0 ≡ Named.At span → take span.size (drop span.offset s) ≡ short
+      (span : Span) → name_call s 0 ≡ Ok span → take span.size (drop span.offset s) ≡ short
   read_name is short n span at =
       let q : span ≡ record { offset = 18; size = length name - 1 } = cc (name-call s name vertices faces e) in
       rw q (ap (λ (l : List ℕ). take (length name - 1) (drop 18 l)) (sym is) ∙ ap (take (length name - 1)) (name-place name vertices faces) ∙ front-name name short (behind name vertices faces) n)
 
-  read-tables : (rows : Rows Float ℕ Float) (sizes : Sizes) → (tables_call in_numbers s 0 rows).answer ≡ Tabled.Filled sizes →
+  read-tables : (rows : Rows Float ℕ Float) (sizes : Sizes) → (tables_call in_numbers s 0 rows).answer ≡ Ok sizes →
       (take (3 * sizes.vertices) (tables_call in_numbers s 0 rows).rows.vertices ≡ floats vertices) × (take (3 * sizes.faces) (tables_call in_numbers s 0 rows).rows.corners ≡ face_corners faces)
   read-tables rows sizes f =
       let m = mesh name vertices faces in
       let t = tables-call s name vertices faces e rows in
-      let d : tables_call in_numbers s 0 rows ≡ done rows m = t ∙ filled-rows rows m sizes (ap (λ (w : Effect Tabled (Rows Float ℕ Float)). w.answer) (sym t) ∙ f) in
-      let q : sizes ≡ sizes_of m = same-sizes (ap (λ (w : Effect Tabled (Rows Float ℕ Float)). w.answer) (sym d) ∙ f) in (
+      let d : tables_call in_numbers s 0 rows ≡ done rows m = t ∙ filled-rows rows m sizes (ap (λ (w : Effect (Result Sizes Refusal) (Rows Float ℕ Float)). w.answer) (sym t) ∙ f) in
+      let q : sizes ≡ sizes_of m = same-sizes (ap (λ (w : Effect (Result Sizes Refusal) (Rows Float ℕ Float)). w.answer) (sym d) ∙ f) in (
         rw (d, q) (take_at (floats vertices) _ (3 * count vertices) (length-floats vertices)),
         rw (d, q) (take_at (face_corners faces) _ (3 * count faces) (length-corners (count faces) (drop 2 faces))),
       )
@@ -175,14 +174,14 @@ module _ (name vertices faces : List ℕ) (x : Exact name vertices faces) (bv : 
   )
 
   file-again : (s out : List ℕ) → bytes (figure (six_chunks name vertices faces)) ≡ s → length s ≤ limit → length s ≤ length out →
-      write_call short (floats vertices) (face_corners faces) out ≡ leaving (Size (length s)) (filled s out)
+      write_call short (floats vertices) (face_corners faces) out ≡ leaving (Ok (length s)) (filled s out)
   file-again s out e l h =
       let same : bytes (figure (bare short (floats vertices) (face_corners faces))) ≡ s = ap (λ (t : Run). bytes (figure t)) same_layout ∙ e in
       let size : figure_size short (floats vertices) (face_corners faces) ≡ length s =
       sym (length-bare short (floats vertices) (face_corners faces) (omega (arith, length-floats vertices))) ∙ ap length same in
-      let j : Size (length s) ≡ judged short (floats vertices) (face_corners faces) (length out) =
-      ap Size (sym size) ∙ sized short (floats vertices) (face_corners faces) (length out) (met-again (length out) (omega arith) (omega arith)) in
-      called short (floats vertices) (face_corners faces) out (Size (length s)) (sym j) ∙ ap (λ (t : List ℕ). leaving (Size (length s)) (filled t out)) same
+      let j : Ok (length s) ≡ judged short (floats vertices) (face_corners faces) (length out) =
+      ap Ok (sym size) ∙ sized short (floats vertices) (face_corners faces) (length out) (met-again (length out) (omega arith) (omega arith)) in
+      called short (floats vertices) (face_corners faces) out (Ok (length s)) (sym j) ∙ ap (λ (t : List ℕ). leaving (Ok (length s)) (filled t out)) same
 
 pub writes_again : WritesAgain
 writes_again s b name vertices faces e z name' vertices' corners' r out h =

@@ -1,11 +1,8 @@
 -- What is written reads back: the reader's own calls give the name, the floats and the corners that were written.
-use Rattle.std.specs.Prelude.{◌≡◌, ℕ, suc, ◌+◌, ◌*◌, ◌≤◌, true, List, [], ◌∷◌, Float, length, take, drop}
+use Rattle.std.specs.Prelude.{◌≡◌, ℕ, suc, ◌+◌, ◌*◌, ◌≤◌, true, List, [], ◌∷◌, Float, length, take, drop, Ok, Err}
 use Rattle.std.specs.Float.{binary32}
 use Rattle.std.specs.Float.Ieee.{fits}
 use Rattle.shared_words.specs.declared.Refusal.TheVariants.{NoSuchMesh}
-use Rattle.studio_rules.specs.declared.Checked.{Checked}
-use Rattle.studio_rules.specs.declared.Tabled.{Tabled}
-use Rattle.studio_rules.specs.declared.Named.{Named}
 use Rattle.shared_words.specs.Lists.{every}
 use Rattle.studio_rules.specs.Rules.{Meets}
 use Rattle.shared_words.specs.Conditions.{accepted}
@@ -14,7 +11,6 @@ use Rattle.studio_rules.specs.Gives.{record_numbers}
 use Rattle.studio_rules.specs.Encodings.{flat_records}
 use Rattle.shared_words.specs.Effects.{leaving, filled}
 use Rattle.studio_rules.specs.Calls.{list_call, Rows, in_numbers, tables_call, name_call}
-use Rattle.shared_words.specs.declared.Written.TheVariants.{Size}
 use Rattle.studio_write_judge.specs.Judged.{triples, figure_size}
 use Rattle.studio_write_bytes.specs.Bare.{bare, bare_bytes}
 use Rattle.studio_write.specs.Write.{write_call}
@@ -42,20 +38,20 @@ pub record ReadsBack (name : List ℕ) (vertices : List Float) (corners s : List
   -- its list is the six records, and nothing is skipped
   pub list : (row : List ℕ) → 6 * record_numbers ≤ length row →
       list_call flat_records s row ≡
-      leaving (Checked.Accepted record { records = 6; headers = 36; own = 5 + length name + 12 * triples vertices + 8 * triples corners; skipped = 0 })
+      leaving (Ok record { records = 6; headers = 36; own = 5 + length name + 12 * triples vertices + 8 * triples corners; skipped = 0 })
       (filled (six_records (length name) (triples vertices) (triples corners)) row)
   -- it has one mesh, number 0
-  pub one-mesh : (k : ℕ) → name_call s (suc k) ≡ Named.Refused (NoSuchMesh 1)
+  pub one-mesh : (k : ℕ) → name_call s (suc k) ≡ Err (NoSuchMesh 1)
   -- the mesh's name, and what stands there
-  pub name-at : name_call s 0 ≡ Named.At record { offset = 18; size = length name }
+  pub name-at : name_call s 0 ≡ Ok record { offset = 18; size = length name }
   pub name-is : take (length name) (drop 18 s) ≡ name
   -- the mesh's tables, bit for bit
   pub tables : (rows : Rows Float ℕ Float) → length vertices ≤ length rows.vertices → length corners ≤ length rows.corners →
       tables_call in_numbers s 0 rows ≡
-      leaving (Tabled.Filled record { vertices = triples vertices; faces = triples corners; pairs = 0 })
+      leaving (Ok record { vertices = triples vertices; faces = triples corners; pairs = 0 })
       record { vertices = filled vertices rows.vertices; corners = filled corners rows.corners; mapping = rows.mapping }
 
 -- WHAT IS WRITTEN READS BACK: for every name, rows and buffer that are not refused, the first `size` bytes of the buffer
 abbrev pub WrittenReadsBack : Type 0
 WrittenReadsBack = (name : List ℕ) (vertices : List Float) (corners out : List ℕ) (size : ℕ) → Floats32 vertices →
-    (write_call name vertices corners out).answer ≡ Size size → ReadsBack name vertices corners (take size (write_call name vertices corners out).rows)
+    (write_call name vertices corners out).answer ≡ Ok size → ReadsBack name vertices corners (take size (write_call name vertices corners out).rows)

@@ -1,12 +1,11 @@
 -- Worked cases of the writer, as one list under one statement: the triangle of docs/FORMAT.md, and of several faults which is
 -- answered.
-use Rattle.std.specs.Prelude.{◌≡◌, ℕ, List, [], ◌∷◌, ◌++◌, map, replicate}
+use Rattle.shared_words.specs.declared.Refusal.{Refusal}
+use Rattle.std.specs.Prelude.{◌≡◌, ℕ, List, [], ◌∷◌, ◌++◌, map, replicate, Result, Ok, Err}
 use Rattle.shared_words.specs.Refusals.{number_of, place_of}
 use Rattle.shared_words.specs.Floats.{float}
 use Rattle.shared_words.specs.Effects.{leaving}
 use Rattle.studio_rules.specs.Samples.{triangle, one}
-use Rattle.shared_words.specs.declared.Written.{Written}
-use Rattle.shared_words.specs.declared.Written.TheVariants.{Size, Refused}
 use Rattle.studio_write.specs.Write.{write_call}
 
 -- an answer as the paper writes it: a refusal's number and place, or the size
@@ -14,9 +13,9 @@ pub data Shown : Type 0 where
   no : ℕ → ℕ → Shown
   size : ℕ → Shown
 
-abbrev pub shown : Written → Shown
-shown (Refused r) = no (number_of r) (place_of r)
-shown (Size n) = size n
+abbrev pub shown : Result ℕ Refusal → Shown
+shown (Err r) = no (number_of r) (place_of r)
+shown (Ok n) = size n
 
 -- a call: a name, floats by their bits, corners, and how many bytes the buffer has
 pub record Case : Type 0 where
@@ -68,4 +67,4 @@ answered c = shown (write_call c.name (map float c.vertices) c.corners (replicat
 pub record Samples : Type 0 where
   pub answers : map answered cases ≡ map (λ c. c.answer) cases
   -- the triangle, into a buffer of three bytes more
-  pub written : write_call (0x41 ∷ []) (map float points) (0 ∷ 1 ∷ 2 ∷ []) (replicate 89 7) ≡ leaving (Size 86) (triangle ++ (7 ∷ 7 ∷ 7 ∷ []))
+  pub written : write_call (0x41 ∷ []) (map float points) (0 ∷ 1 ∷ 2 ∷ []) (replicate 89 7) ≡ leaving (Ok 86) (triangle ++ (7 ∷ 7 ∷ 7 ∷ []))

@@ -1,11 +1,9 @@
 -- Writing again what was read: of every accepted file of just the six chunks, in their order and with flag words 0, it
 -- gives the same file.
-use Rattle.std.specs.Prelude.{◌≡◌, ℕ, zero, suc, ◌*◌, ◌≤◌, true, List, [], ◌∷◌, map, eqb, Float, length, take, drop}
+use Rattle.std.specs.Prelude.{◌≡◌, ℕ, zero, suc, ◌*◌, ◌≤◌, true, List, [], ◌∷◌, map, eqb, Float, length, take, drop, Ok}
 use Rattle.studio_rules.specs.declared.Record.{Record}
 use Rattle.studio_rules.specs.declared.Sizes.{Sizes}
-use Rattle.studio_rules.specs.declared.Tabled.{Tabled}
 use Rattle.studio_rules.specs.declared.Span.{Span}
-use Rattle.studio_rules.specs.declared.Named.{Named}
 use Rattle.shared_words.specs.Bytes.{value, Bytes}
 use Rattle.shared_words.specs.Lists.{every}
 use Rattle.studio_rules.specs.OwnData.{count}
@@ -15,7 +13,6 @@ use Rattle.studio_rules.specs.Walk.{verdict}
 use Rattle.studio_rules.specs.Gives.{list, skipped}
 use Rattle.shared_words.specs.Effects.{leaving, filled}
 use Rattle.studio_rules.specs.Calls.{Rows, in_numbers, tables_call, name_call}
-use Rattle.shared_words.specs.declared.Written.TheVariants.{Size}
 use Rattle.studio_write_bytes.specs.Bare.{six_chunks}
 use Rattle.studio_write.specs.Write.{write_call}
 
@@ -38,11 +35,11 @@ face_flags own = flags (count own) (drop 2 own)
 -- what it filled of the lent ones.
 pub record WereRead (s name : List ℕ) (vertices : List Float) (corners : List ℕ) : Type 0 where
   pub span : Span
-  pub name-at : name_call s 0 ≡ Named.At span
+  pub name-at : name_call s 0 ≡ Ok span
   pub name-is : name ≡ take span.size (drop span.offset s)
   pub rows : Rows Float ℕ Float
   pub sizes : Sizes
-  pub rows-filled : (tables_call in_numbers s 0 rows).answer ≡ Tabled.Filled sizes
+  pub rows-filled : (tables_call in_numbers s 0 rows).answer ≡ Ok sizes
   pub vertices_are : vertices ≡ take (3 * sizes.vertices) (tables_call in_numbers s 0 rows).rows.vertices
   pub corners_are : corners ≡ take (3 * sizes.faces) (tables_call in_numbers s 0 rows).rows.corners
 
@@ -51,4 +48,4 @@ abbrev pub WritesAgain : Type 0
 WritesAgain = (s : List ℕ) → Bytes s → (name_own vertex_own face_own : List ℕ) → verdict s ≡ accepted (six_chunks name_own vertex_own face_own) →
     every (λ flag. eqb flag 0) (face_flags face_own) ≡ true →
     (name : List ℕ) (vertices : List Float) (corners : List ℕ) → WereRead s name vertices corners →
-    (out : List ℕ) → length s ≤ length out → write_call name vertices corners out ≡ leaving (Size (length s)) (filled s out)
+    (out : List ℕ) → length s ≤ length out → write_call name vertices corners out ≡ leaving (Ok (length s)) (filled s out)

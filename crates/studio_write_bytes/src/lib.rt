@@ -8,7 +8,6 @@ ghost use Rattle.shared_words.specs.Lists.{every};
 ghost use Rattle.shared_words.specs.Bytes.{packed};
 ghost use Rattle.studio_rules.specs.Layout.{end, known, header, bytes};
 ghost use Rattle.shared_numbers.specs.Put.{Put};
-ghost use Rattle.shared_words.specs.declared.Written.{Written};
 ghost use Rattle.studio_write_judge.specs.Judged.{triples, finite_float, judged};
 ghost use Rattle.studio_write_bytes.specs.Bare.{face_words, name_data, vertex_data, face_data, bare_bytes};
 
@@ -112,7 +111,7 @@ pub fn put_figure(
     size: usize,
     out: &mut [u8],
 ) -> usize
-    requires { judged name.now vertices.now corners.now (length out.old) ≡ Written.Size size }
+    requires { judged name.now vertices.now corners.now (length out.old) ≡ Ok size }
     ensures { Put out.old 0 (bare_bytes name.now vertices.now corners.now) out.new result }
 {
     let scene = put_header(0x4D4D, size, 0, out);

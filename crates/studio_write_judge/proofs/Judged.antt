@@ -1,5 +1,6 @@
 -- The judgement by its conditions: what the first broken one makes of it, and that it gives a size exactly where none is
 -- broken.
+use Rattle.std.specs.Prelude.{Ok, Err}
 use mathlib.Core.Path.{◌≡◌, refl, sym, ap, ◌∙◌}
 use Prim.Native.Nat.{ℕ, zero, suc, ◌%◌, ◌≤◌}
 use native.Mathlib.Omega.{arith}
@@ -17,7 +18,6 @@ use Rattle.shared_words.specs.Conditions.{Condition, must, broken}
 use Rattle.shared_words.specs.Refusals.{limit}
 use Rattle.shared_words.proofs.Bools.{and_parts}
 use Rattle.shared_words.proofs.Conditions.{Met, met, unbroken}
-use Rattle.shared_words.specs.declared.Written.TheVariants.{Size, Refused}
 use Rattle.studio_write_judge.specs.Judged.{triples, not_zero, is_whole_row, finite_float, figure_size, write_conditions, answer_of, judged}
 
 -- the first k hold, and the next does not
@@ -44,11 +44,11 @@ module _ (name : List ℕ) (vertices : List Float) (corners : List ℕ) (room : 
   conditions = write_conditions name vertices corners room
 
   pub refused-at : (k : ℕ) {b : Bool} {r : Refusal} {rest : List Condition} → Met (take k conditions) → drop k conditions ≡ must b r ∷ rest → b ≡ false →
-      Refused r ≡ judged name vertices corners room
+      Err r ≡ judged name vertices corners room
   unfolding judged
   refused-at k m e f = sym (ap (answer_of (figure_size name vertices corners)) (broken-at k conditions m e f))
 
-  pub sized : Met conditions → Size (figure_size name vertices corners) ≡ judged name vertices corners room
+  pub sized : Met conditions → Ok (figure_size name vertices corners) ≡ judged name vertices corners room
   unfolding judged
   sized m = sym (ap (answer_of (figure_size name vertices corners)) (unbroken conditions m))
 
@@ -66,11 +66,11 @@ module _ (name : List ℕ) (vertices : List Float) (corners : List ℕ) (room : 
     pub within-limit : size ≤ limit
     pub within-room : size ≤ room
 
-  pub ready : (size : ℕ) → judged name vertices corners room ≡ Size size → Ready size
+  pub ready : (size : ℕ) → judged name vertices corners room ≡ Ok size → Ready size
   unfolding judged
   ready size e = go (broken conditions) refl e
     where
-      go : (o : Option Refusal) → broken conditions ≡ o → answer_of (figure_size name vertices corners) o ≡ Size size → Ready size
+      go : (o : Option Refusal) → broken conditions ≡ o → answer_of (figure_size name vertices corners) o ≡ Ok size → Ready size
       go none b e =
           let m = met conditions b in
           let v = whole_row (length vertices) m.1.1.0 in

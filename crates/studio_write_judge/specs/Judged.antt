@@ -1,6 +1,6 @@
 -- What the writer judges before it writes, for every name, rows and room: docs/FORMAT.md, "What the writer
 -- writes". The contract of `judge` is an equation with `judged`.
-use Rattle.std.specs.Prelude.{ℕ, ◌+◌, ◌*◌, ◌/◌, ◌%◌, Bool, true, false, not, ◌&&◌, List, [], ◌∷◌, eqb, ltb, leb, Float, length}
+use Rattle.std.specs.Prelude.{ℕ, ◌+◌, ◌*◌, ◌/◌, ◌%◌, Bool, true, false, not, ◌&&◌, List, [], ◌∷◌, eqb, ltb, leb, Float, length, Result, Ok, Err}
 use Rattle.std.proofs.Math.Option.{Option, none, some}
 use Rattle.std.specs.Float.{nan, inf, fin}
 use Rattle.shared_words.specs.declared.Refusal.{Refusal}
@@ -8,8 +8,6 @@ use Rattle.shared_words.specs.declared.Refusal.TheVariants.{TooLong, Name, Numbe
 use Rattle.shared_words.specs.Lists.{every, first_fault}
 use Rattle.shared_words.specs.Labels.{fits_label, label_fault}
 use Rattle.shared_words.specs.Conditions.{Condition, must, broken}
-use Rattle.shared_words.specs.declared.Written.{Written}
-use Rattle.shared_words.specs.declared.Written.TheVariants.{Size, Refused}
 use Rattle.shared_words.specs.Refusals.{limit}
 
 -- how many vertices, or faces, a row has: three numbers to each
@@ -59,10 +57,10 @@ write_conditions name vertices corners room =
 
 -- ---- the judgement
 
-abbrev pub answer_of : ℕ → Option Refusal → Written
-answer_of size (some r) = Refused r
-answer_of size none = Size size
+abbrev pub answer_of : ℕ → Option Refusal → Result ℕ Refusal
+answer_of size (some r) = Err r
+answer_of size none = Ok size
 
 -- what is answered, where the buffer has `room` bytes: the first fault, or the size
-unfoldable pub judged : List ℕ → List Float → List ℕ → ℕ → Written
+unfoldable pub judged : List ℕ → List Float → List ℕ → ℕ → Result ℕ Refusal
 judged name vertices corners room = answer_of (figure_size name vertices corners) (broken (write_conditions name vertices corners room))

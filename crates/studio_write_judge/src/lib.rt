@@ -6,7 +6,7 @@ ghost use Rattle.shared_words.specs.Lists.{every, first_fault};
 ghost use Rattle.shared_words.specs.Labels.{label_fault};
 ghost use Rattle.studio_write_judge.specs.Judged.{not_zero, is_whole_row, finite_float, judged};
 
-use shared_words::{Refusal, Written};
+use shared_words::Refusal;
 
 // The longest file, and the longest row: three numbers for each of 65,535 vertices or faces.
 const LIMIT: usize = 1048576;
@@ -108,36 +108,36 @@ pub fn first_not_below(n: usize, corners: &[u16]) -> usize
 }
 
 // The answer for a buffer of `room` bytes: the first fault in the papers' order, or the size.
-pub fn judge(name: &[u8], vertices: &[f32], corners: &[u16], room: usize) -> Written
+pub fn judge(name: &[u8], vertices: &[f32], corners: &[u16], room: usize) -> Result<usize, Refusal>
     ensures { result ≡ judged name.now vertices.now corners.now room }
 {
     let zero = first_zero(name);
     if zero < name.len() {
-        return Written::Refused(Refusal::Name(zero));
+        return Err(Refusal::Name(zero));
     }
     let taken = label_size(name);
     if taken < name.len() {
-        return Written::Refused(Refusal::Text(taken));
+        return Err(Refusal::Text(taken));
     }
     if !whole_row(vertices.len()) {
-        return Written::Refused(Refusal::Count(vertices.len()));
+        return Err(Refusal::Count(vertices.len()));
     }
     if !whole_row(corners.len()) {
-        return Written::Refused(Refusal::Count(corners.len()));
+        return Err(Refusal::Count(corners.len()));
     }
     if !all_finite(vertices) {
-        return Written::Refused(Refusal::Number(first_not_finite(vertices)));
+        return Err(Refusal::Number(first_not_finite(vertices)));
     }
     let n = vertices.len() / 3;
     if !all_below(n as u16, corners) {
-        return Written::Refused(Refusal::Index(first_not_below(n, corners)));
+        return Err(Refusal::Index(first_not_below(n, corners)));
     }
     let size = 41 + name.len() + 12 * n + 8 * (corners.len() / 3);
     if LIMIT < size {
-        return Written::Refused(Refusal::TooLong);
+        return Err(Refusal::TooLong);
     }
     if room < size {
-        return Written::Refused(Refusal::NoRoom(size));
+        return Err(Refusal::NoRoom(size));
     }
-    Written::Size(size)
+    Ok(size)
 }

@@ -1,10 +1,11 @@
 -- The byte counts of a file add to its length, which is within the limit: so each fits 32 bits.
+use Rattle.shared_words.specs.declared.Refusal.{Refusal}
+use Rattle.std.specs.Prelude.{Result, Ok, Err}
 use mathlib.Core.Path.{◌≡◌, refl, ap}
 use mathlib.Core.List.{List}
 use Prim.Native.Nat.{ℕ}
 use native.Mathlib.Omega.{arith}
 use Rattle.studio_rules.specs.declared.Counts.{Counts}
-use Rattle.studio_rules.specs.declared.Checked.{Checked}
 use Rattle.shared_words.specs.Bytes.{Bytes}
 use Rattle.studio_rules.specs.Calls.{check_call}
 use Rattle.studio_rules.proofs.Theorems.{counts-add}
@@ -14,9 +15,9 @@ use Rattle.studio_rules.specs.Within.{CountsWithin}
 pub counts-within : (s : List ℕ) → Bytes s → CountsWithin (check_call s)
 counts-within s b = go (check_call s) refl
   where
-    go : (x : Checked) → check_call s ≡ x → CountsWithin x
-    go (Checked.Refused r) e = tt
-    go (Checked.Accepted c) e =
+    go : (x : Result Counts Refusal) → check_call s ≡ x → CountsWithin x
+    go (Err r) e = tt
+    go (Ok c) e =
         let a = accepted-by s c e in
         let m = meets-by b a in
         let n = counts-add s a.kids m in

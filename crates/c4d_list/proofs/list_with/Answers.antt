@@ -1,19 +1,20 @@
 -- A refused file stays refused; the objects of an accepted one are put where there is room.
+use Rattle.shared_words.specs.declared.Refusal.{Refusal}
+use Rattle.std.specs.Prelude.{Result}
 use mathlib.Core.Path.{sym, ap, subst}
 use mathlib.Core.List.{List}
 use Prim.Native.Nat.{ℕ}
 use Rattle.shared_words.specs.Effects.{Effect}
-use Rattle.c4d_rules.specs.declared.Found.{Found}
 use Rattle.c4d_rules.specs.Calls.{Rows}
 use Rattle.c4d_chunks.specs.declared.Figure.{Figure}
 use Rattle.c4d_check.specs.Reads.{Judged, Reads}
 use Rattle.c4d_list.proofs.Calls.{list-refused, few-objects, few_materials, both-filled, fillable}
 use Rattle.c4d_list.proofs.list_with.Goals as goal
 
-abbrev answer : Effect Found (Rows ℕ ℕ) → Found
+abbrev answer : Effect (Result ℕ Refusal) (Rows ℕ ℕ) → Result ℕ Refusal
 answer e = e.answer
 
-abbrev left : Effect Found (Rows ℕ ℕ) → Rows ℕ ℕ
+abbrev left : Effect (Result ℕ Refusal) (Rows ℕ ℕ) → Rows ℕ ℕ
 left e = e.rows
 
 pub returns-then-objects-n : goal.returns-then-objects-n

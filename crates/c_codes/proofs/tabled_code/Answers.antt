@@ -7,16 +7,16 @@ use Rattle.c_codes.proofs.tabled_code.Goals as goal
 
 pub overflow_mul-result : goal.overflow_mul-result
 overflow_mul-result c =
-    let z = subst SizesWithin c.in-Filled.is c.requires in
+    let z = subst SizesWithin c.in-Ok.is c.requires in
     omega arith
 
 pub overflow_add-result : goal.overflow_add-result
 overflow_add-result c =
-    let z = subst SizesWithin c.in-Filled.is c.requires in
+    let z = subst SizesWithin c.in-Ok.is c.requires in
     omega arith
 
-pub returns-in-Filled : goal.returns-in-Filled
-returns-in-Filled c = ap sizes_or (sym c.in-Filled.is)
+pub returns-in-Ok : goal.returns-in-Ok
+returns-in-Ok c = ap sizes_or (sym c.in-Ok.is)
 
-pub returns-in-Refused : goal.returns-in-Refused
-returns-in-Refused c = c.refusal_code.ensures ∙ ap sizes_or (sym c.in-Refused.is)
+pub returns-in-Err : goal.returns-in-Err
+returns-in-Err c = c.refusal_code.ensures ∙ ap sizes_or (sym c.in-Err.is)

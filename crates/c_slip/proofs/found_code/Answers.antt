@@ -3,5 +3,5 @@ use mathlib.Core.Path.{sym, ap, ◌∙◌}
 use Rattle.c_slip.specs.Codes.{entries_or}
 use Rattle.c_slip.proofs.found_code.Goals as goal
 
-pub returns-in-Refused : goal.returns-in-Refused
-returns-in-Refused c = c.refusal_code.ensures ∙ ap entries_or (sym c.in-Refused.is)
+pub returns-in-Err : goal.returns-in-Err
+returns-in-Err c = c.refusal_code.ensures ∙ ap entries_or (sym c.in-Err.is)

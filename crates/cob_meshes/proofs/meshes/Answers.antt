@@ -5,19 +5,19 @@ use Rattle.cob_meshes.proofs.Calls.{meshes-refused, no_room, some-room, all-fill
 use Rattle.cob_meshes.proofs.meshes.Goals as goal
 
 pub count_meshes-n-requires : goal.count_meshes-n-requires
-count_meshes-n-requires c = readable c.args.file.now c.check.ensures c.in-Count.is
+count_meshes-n-requires c = readable c.args.file.now c.check.ensures c.in-Ok.is
 
 pub returns-then-row-n : goal.returns-then-row-n
-returns-then-row-n c = let both = no_room _ _ (readable c.args.file.now c.check.ensures c.in-Count.is) c.count_meshes-n.ensures c.if-row-n.true in record { answer = both.0; row = both.1 }
+returns-then-row-n c = let both = no_room _ _ (readable c.args.file.now c.check.ensures c.in-Ok.is) c.count_meshes-n.ensures c.if-row-n.true in record { answer = both.0; row = both.1 }
 
 pub fill-requires : goal.fill-requires
 fill-requires c =
     let x = c.args in
-    some-room x.file.now x.row.now (readable c.args.file.now c.check.ensures c.in-Count.is) c.count_meshes-n.ensures (omega (arith, c.if-row-n.false))
+    some-room x.file.now x.row.now (readable c.args.file.now c.check.ensures c.in-Ok.is) c.count_meshes-n.ensures (omega (arith, c.if-row-n.false))
 
-pub returns-in-Refused : goal.returns-in-Refused
-returns-in-Refused c = let both = meshes-refused _ _ c.check.ensures c.in-Refused.is in record { answer = both.0; row = both.1 }
+pub returns-in-Err : goal.returns-in-Err
+returns-in-Err c = let both = meshes-refused _ _ c.check.ensures c.in-Err.is in record { answer = both.0; row = both.1 }
 
 pub returns-else-row-n : goal.returns-else-row-n
 returns-else-row-n c =
-    let x = c.args in let both = all-filled x.file.now x.row.now (readable c.args.file.now c.check.ensures c.in-Count.is) c.count_meshes-n.ensures (omega (arith, c.if-row-n.false)) c.fill.ensures in record { answer = both.0; row = both.1 }
+    let x = c.args in let both = all-filled x.file.now x.row.now (readable c.args.file.now c.check.ensures c.in-Ok.is) c.count_meshes-n.ensures (omega (arith, c.if-row-n.false)) c.fill.ensures in record { answer = both.0; row = both.1 }

@@ -8,17 +8,17 @@ use Rattle.listing_text.proofs.put_listing.Goals as goal
 pub put_chunks-requires : goal.put_chunks-requires
 put_chunks-requires c =
     let list = c.list.ensures in
-    let shown = accepted-shown _ refl c.args.file.now _ c.in-Accepted.counts (sym list.answer ∙ c.in-Accepted.is) list.filled in
+    let shown = accepted-shown _ refl c.args.file.now _ c.in-Ok.counts (sym list.answer ∙ c.in-Ok.is) list.filled in
     (omega arith, omega arith)
 
-pub returns-in-Refused-clause-text : goal.returns-in-Refused-clause-text
-returns-in-Refused-clause-text c =
-    rw (refused-shown _ refl c.args.file.now c.in-Refused.r (sym c.list.ensures.answer ∙ c.in-Refused.is)) c.put_refusal.ensures.text
+pub returns-in-Err-clause-text : goal.returns-in-Err-clause-text
+returns-in-Err-clause-text c =
+    rw (refused-shown _ refl c.args.file.now c.in-Err.r (sym c.list.ensures.answer ∙ c.in-Err.is)) c.put_refusal.ensures.text
 
-pub returns-in-Accepted : goal.returns-in-Accepted
-returns-in-Accepted c =
+pub returns-in-Ok : goal.returns-in-Ok
+returns-in-Ok c =
     let list = c.list.ensures in
-    let shown = accepted-shown _ refl c.args.file.now _ c.in-Accepted.counts (sym list.answer ∙ c.in-Accepted.is) list.filled in record {
+    let shown = accepted-shown _ refl c.args.file.now _ c.in-Ok.counts (sym list.answer ∙ c.in-Ok.is) list.filled in record {
       text = rw shown.is (put_then (omega arith) c.put_counts-first.ensures.text c.put_chunks.ensures.text);
       within = omega arith;
     }

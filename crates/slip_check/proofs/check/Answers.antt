@@ -1,4 +1,5 @@
 -- The parts of the verdict, one after another.
+use Rattle.std.specs.Prelude.{Ok, Err}
 use mathlib.Core.Path.{◌≡◌, sym, ap, ◌∙◌, subst}
 use Prim.Native.Nat.{ℕ, ◌≤◌}
 use native.Mathlib.Omega.{arith}
@@ -6,13 +7,12 @@ use lib.ListN.{length-replicate}
 use Rattle.shared_words.specs.declared.Refusal.{Refusal}
 use Rattle.shared_words.specs.declared.Refusal.TheVariants.{Slip}
 use Rattle.shared_name_tree.proofs.Row.{holds-none}
-use Rattle.slip_rules.specs.declared.Found.{Found}
 use Rattle.slip_check.specs.declared.Walked.{Walked}
 use Rattle.slip_check.specs.Entries.{Whole, walked_as}
 use Rattle.slip_check.proofs.Head.{verdict_off, verdict-bad, verdict-good, head_few}
 use Rattle.slip_check.proofs.check.Goals as goal
 
-never : (r : Refusal) (n : ℕ) → Found.Refused r ≡ Found.Entries n → ⊥
+never : (r : Refusal) (n : ℕ) → Err r ≡ Ok n → ⊥
 never r n e = let z : ◌≡◌ {A = ℕ} 0 1 = cc in omega arith
 
 pub returns-then-not-is_headed : goal.returns-then-not-is_headed

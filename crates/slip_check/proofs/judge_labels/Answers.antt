@@ -1,3 +1,4 @@
+use Rattle.std.specs.Prelude.{Result, Ok, Err}
 use mathlib.Core.Path.{◌≡◌, ◌∙◌}
 use Prim.Native.Nat.{ℕ, ◌≤◌}
 use native.Mathlib.Omega.{arith}
@@ -5,7 +6,6 @@ use mathlib.Core.List.{List}
 use lib.ListN.{length}
 use Rattle.shared_words.specs.declared.Refusal.{Refusal}
 use Rattle.shared_words.specs.declared.Refusal.TheVariants.{Text}
-use Rattle.slip_rules.specs.declared.Found.{Found}
 use Rattle.slip_check.specs.Entries.{next_at}
 use Rattle.slip_check.proofs.Names.{whole-first}
 use Rattle.slip_check.proofs.Labels.{label_is, on-start, on_unfit, on_fit, on-end}
@@ -18,10 +18,10 @@ use Rattle.slip_check.proofs.judge_labels.Goals as goal
 abbrev Lts-In-loop-left : Type 0
 Lts-In-loop-left = lts.In-loop tie.the-claims reads.Pre reads.Post goal.the-invariant-loop-left goal.the-decreases-loop-left
 
-never : (r : Refusal) (n : ℕ) → Found.Refused r ≡ Found.Entries n → ⊥
+never : (r : Refusal) (n : ℕ) → ◌≡◌ {A = Result ℕ Refusal} (Err r) (Ok n) → ⊥
 never r n e = let z : ◌≡◌ {A = ℕ} 0 1 = cc in omega arith
 
-same : (n k : ℕ) → Found.Entries n ≡ Found.Entries k → k ≡ n
+same : (n k : ℕ) → ◌≡◌ {A = Result ℕ Refusal} (Ok n) (Ok k) → k ≡ n
 same n k e = cc
 
 -- the entry at o is whole

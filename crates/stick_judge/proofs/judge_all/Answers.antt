@@ -15,24 +15,24 @@ judge_items-requires c =
     let f = c.fill_digests.ensures in
     (record { whole = x.requires.0; few = x.requires.1; room = omega (arith, x.requires.1, f.1); digested = f.0 }, omega arith, no-marks 64_064, x.requires.2)
 
-pub returns-in-Refused : goal.returns-in-Refused
-returns-in-Refused c =
+pub returns-in-Err : goal.returns-in-Err
+returns-in-Err c =
     let filled = c in
     let a = filled.args in
     let es = manifest a.slip.now (entries_in a.entries a.slip.now 7) in
     let ts = items_in a.names.now a.items.now in
     let j = c.judge_items in
     let k = j.ensures.judges (no-marks 64_064) in
-    sym (item_refused es ts j.result k.is c.in-Refused.r c.in-Refused.is)
+    sym (item_refused es ts j.result k.is c.in-Err.r c.in-Err.is)
 
-pub returns-in-Good : goal.returns-in-Good
-returns-in-Good c =
+pub returns-in-Ok : goal.returns-in-Ok
+returns-in-Ok c =
     let filled = c in
     let a = filled.args in
     let es = manifest a.slip.now (entries_in a.entries a.slip.now 7) in
     let ts = items_in a.names.now a.items.now in
     let j = c.judge_items in
     let k = j.ensures.judges (no-marks 64_064) in
-    let q = c.in-Good.is in
+    let q = c.in-Ok.is in
     c.judge_rest.ensures es (matched_by es [] (tail ts)) (length_expected a.slip.now a.entries) (k.marks q) ∙
     sym (items_good es ts j.result k.is q)

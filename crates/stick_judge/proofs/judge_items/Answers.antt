@@ -16,17 +16,17 @@ loop-i-init c =
 pub judge_item-requires : goal.judge_item-requires
 judge_item-requires c = let x = c in (x.requires.0, omega arith, omega (arith, x.requires.1, c.loop-i.invariant.long))
 
-pub shape_of-matched-in-Refused : goal.shape_of-matched-in-Refused
-shape_of-matched-in-Refused c = c.judge_item.ensures.long ∙ c.loop-i.invariant.long
+pub shape_of-matched-in-Err : goal.shape_of-matched-in-Err
+shape_of-matched-in-Err c = c.judge_item.ensures.long ∙ c.loop-i.invariant.long
 
-pub returns-in-Refused : goal.returns-in-Refused
-returns-in-Refused c =
+pub returns-in-Err : goal.returns-in-Err
+returns-in-Err c =
     let x = c in
     let a = x.args in
     let l = c.loop-i in
     let n = length a.items.now / 56 in
     let es = manifest a.slip.now (entries_in a.entries a.slip.now 7) in
-    going_bad es a.names.now a.items.now a.matched.now n l.matched l.i l.invariant (omega arith) c.judge_item.result _ c.judge_item.ensures c.in-Refused.r c.in-Refused.is
+    going_bad es a.names.now a.items.now a.matched.now n l.matched l.i l.invariant (omega arith) c.judge_item.result _ c.judge_item.ensures c.in-Err.r c.in-Err.is
 
 pub loop-i-preserved : goal.loop-i-preserved
 loop-i-preserved c =
@@ -35,7 +35,7 @@ loop-i-preserved c =
     let l = c.loop-i in
     let n = length a.items.now / 56 in
     let es = manifest a.slip.now (entries_in a.entries a.slip.now 7) in
-    going_on es a.names.now a.items.now a.matched.now n l.matched l.i l.invariant (omega arith) c.judge_item.result _ c.judge_item.ensures c.in-Good.is
+    going_on es a.names.now a.items.now a.matched.now n l.matched l.i l.invariant (omega arith) c.judge_item.result _ c.judge_item.ensures c.in-Ok.is
 
 pub shape_of-matched : goal.shape_of-matched
 shape_of-matched c = c.loop-i.invariant.long

@@ -16,15 +16,15 @@ returns-then-not-has_figure c =
     let ts = items_in a.names.now a.items.now in
     let j = c.judge_entries in
     let w = sym c.is_whole.ensures ∙ c.if-not-is_whole.false in
-    rest-no-figure a.n ts a.matched.now w j.result j.ensures c.in-Good.is (sym c.has_figure.ensures ∙ c.if-not-has_figure.true)
+    rest-no-figure a.n ts a.matched.now w j.result j.ensures c.in-Ok.is (sym c.has_figure.ensures ∙ c.if-not-has_figure.true)
 
-pub returns-in-Refused : goal.returns-in-Refused
-returns-in-Refused c =
+pub returns-in-Err : goal.returns-in-Err
+returns-in-Err c =
     let a = c.args in
     let ts = items_in a.names.now a.items.now in
     let j = c.judge_entries in
     let w = sym c.is_whole.ensures ∙ c.if-not-is_whole.false in
-    rest_absent a.n ts a.matched.now w j.result j.ensures c.in-Refused.r c.in-Refused.is
+    rest_absent a.n ts a.matched.now w j.result j.ensures c.in-Err.r c.in-Err.is
 
 pub returns-else-not-has_figure : goal.returns-else-not-has_figure
 returns-else-not-has_figure c =
@@ -32,4 +32,4 @@ returns-else-not-has_figure c =
     let ts = items_in a.names.now a.items.now in
     let j = c.judge_entries in
     let w = sym c.is_whole.ensures ∙ c.if-not-is_whole.false in
-    rest-good a.n ts a.matched.now w j.result j.ensures c.in-Good.is (sym c.has_figure.ensures ∙ c.if-not-has_figure.false)
+    rest-good a.n ts a.matched.now w j.result j.ensures c.in-Ok.is (sym c.has_figure.ensures ∙ c.if-not-has_figure.false)

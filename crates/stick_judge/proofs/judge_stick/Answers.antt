@@ -23,14 +23,14 @@ judge_root-requires c = omega (arith, c.if-items-ne0.false, c.if-items-eq0.false
 pub judge_all-requires : goal.judge_all-requires
 judge_all-requires c = let x = c in (x.requires.0, x.requires.1, omega (arith, c.if-items-ne0.false, c.if-items-eq0.false))
 
-pub returns-in-Refused : goal.returns-in-Refused
-returns-in-Refused c =
+pub returns-in-Err : goal.returns-in-Err
+returns-in-Err c =
     let a = c.args in
     let es = entries_in a.entries a.slip.now 7 in
-    sym (root-refused a.slip.now es a.names.now a.items.now c.if-items-ne0.false c.judge_root.result c.judge_root.ensures c.in-Refused.r c.in-Refused.is)
+    sym (root-refused a.slip.now es a.names.now a.items.now c.if-items-ne0.false c.judge_root.result c.judge_root.ensures c.in-Err.r c.in-Err.is)
 
-pub returns-in-Good : goal.returns-in-Good
-returns-in-Good c =
+pub returns-in-Ok : goal.returns-in-Ok
+returns-in-Ok c =
     let a = c.args in
     let es = entries_in a.entries a.slip.now 7 in
-    c.judge_all.ensures ∙ sym (root-good a.slip.now es a.names.now a.items.now c.if-items-ne0.false c.judge_root.result c.judge_root.ensures c.in-Good.is)
+    c.judge_all.ensures ∙ sym (root-good a.slip.now es a.names.now a.items.now c.if-items-ne0.false c.judge_root.result c.judge_root.ensures c.in-Ok.is)

@@ -7,17 +7,17 @@ pub check_figure-requires : goal.check_figure-requires
 check_figure-requires c =
     let x = c in
     let w = c.judge_file in
-    file-bounds x.args.file.now (file-is_fine x.args.file.now w.result c.in-Good.is w.ensures)
+    file-bounds x.args.file.now (file-is_fine x.args.file.now w.result c.in-Ok.is w.ensures)
 
-pub returns-in-Refused : goal.returns-in-Refused
-returns-in-Refused c =
+pub returns-in-Err : goal.returns-in-Err
+returns-in-Err c =
     let x = c in
     let w = c.judge_file in
-    let g = c.in-Refused in
+    let g = c.in-Err in
     file-refused x.args.file.now g.r w.result g.is w.ensures
 
-pub returns-in-Good : goal.returns-in-Good
-returns-in-Good c =
+pub returns-in-Ok : goal.returns-in-Ok
+returns-in-Ok c =
     let x = c in
     let w = c.judge_file in
-    c.check_figure.ensures ∙ file-read x.args.file.now (file-is_fine x.args.file.now w.result c.in-Good.is w.ensures)
+    c.check_figure.ensures ∙ file-read x.args.file.now (file-is_fine x.args.file.now w.result c.in-Ok.is w.ensures)

@@ -34,19 +34,19 @@ returns-in-Refused c =
     let g = c.in-Refused in
     figure-refused s b c.requires.0 c.requires.1 r.new.marks g.r (top-run s _ figure-row _ rule r.result r.new.marks r.ensures.is g.is)
 
-pub returns-in-Refused-at_end : goal.returns-in-Refused-at_end
-returns-in-Refused-at_end c =
+pub returns-in-Err : goal.returns-in-Err
+returns-in-Err c =
     let s = c.args.file.now in
     let b = bytes-all s (λ i. omega (arith, c.type_inv.file i)) in
     let rule : RuleIs (told s) (leb 3 c.version-version.result) = ap (leb 3) (sym c.version-version.ensures) in
     let r = c.run in
     let h = c.in-Done in
     let e = c.at_end in
-    let g = c.in-Refused-at_end in
+    let g = c.in-Err in
     figure_shut s b c.requires.0 c.requires.1 r.new.marks h.next h.records h.skipped (top-run s _ figure-row _ rule r.result r.new.marks r.ensures.is h.is) _ rule e.result e.ensures g.r g.is
 
-pub returns-in-Good : goal.returns-in-Good
-returns-in-Good c =
+pub returns-in-Ok : goal.returns-in-Ok
+returns-in-Ok c =
     let s = c.args.file.now in
     let b = bytes-all s (λ i. omega (arith, c.type_inv.file i)) in
     let rule : RuleIs (told s) (leb 3 c.version-version.result) = ap (leb 3) (sym c.version-version.ensures) in
@@ -54,4 +54,4 @@ returns-in-Good c =
     let h = c.in-Done in
     let e = c.at_end in
     figure-accepted s b c.requires.0 c.requires.1 r.new.marks h.next h.records h.skipped (top-run s _ figure-row _ rule r.result r.new.marks r.ensures.is h.is) _ rule e.result e.ensures
-    c.in-Good.is c.counts.result c.counts.ensures
+    c.in-Ok.is c.counts.result c.counts.ensures

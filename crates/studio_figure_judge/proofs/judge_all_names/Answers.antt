@@ -6,44 +6,44 @@ use Rattle.studio_figure_rows.proofs.Answers.{front-refused, front-passed}
 use Rattle.studio_figure_judge.specs.Judged.{text_asked, same_asked, material_asked}
 use Rattle.studio_figure_judge.proofs.judge_all_names.Goals as goal
 
-pub returns-in-Refused : goal.returns-in-Refused
-returns-in-Refused c =
+pub returns-in-Err : goal.returns-in-Err
+returns-in-Err c =
     let a = c.args in
     let zeros = text_asked false a.names.now a.objects.now a.materials.now in
     let texts = text_asked true a.names.now a.objects.now a.materials.now in
     let sames = same_asked a.names.now a.objects.now a.materials.now in
     let last = material_asked a.names.now a.objects.now a.materials.now a.groups.now in
-    front-refused zeros (texts ++ (sames ++ last)) _ c.in-Refused.ensures
+    front-refused zeros (texts ++ (sames ++ last)) _ c.in-Err.ensures
 
-pub returns-in-Refused-judge_text : goal.returns-in-Refused-judge_text
-returns-in-Refused-judge_text c =
+pub returns-in-Err-judge_text : goal.returns-in-Err-judge_text
+returns-in-Err-judge_text c =
     let a = c.args in
     let zeros = text_asked false a.names.now a.objects.now a.materials.now in
     let texts = text_asked true a.names.now a.objects.now a.materials.now in
     let sames = same_asked a.names.now a.objects.now a.materials.now in
     let last = material_asked a.names.now a.objects.now a.materials.now a.groups.now in
-    front-refused texts (sames ++ last) _ c.in-Refused-judge_text.ensures ∙
-    front-passed zeros (texts ++ (sames ++ last)) c.in-Good.ensures
+    front-refused texts (sames ++ last) _ c.in-Err-judge_text.ensures ∙
+    front-passed zeros (texts ++ (sames ++ last)) c.in-Ok.ensures
 
-pub returns-in-Refused-judge_same : goal.returns-in-Refused-judge_same
-returns-in-Refused-judge_same c =
+pub returns-in-Err-judge_same : goal.returns-in-Err-judge_same
+returns-in-Err-judge_same c =
     let a = c.args in
     let zeros = text_asked false a.names.now a.objects.now a.materials.now in
     let texts = text_asked true a.names.now a.objects.now a.materials.now in
     let sames = same_asked a.names.now a.objects.now a.materials.now in
     let last = material_asked a.names.now a.objects.now a.materials.now a.groups.now in
-    front-refused sames last _ c.in-Refused-judge_same.ensures ∙
-    front-passed texts (sames ++ last) c.in-Good-judge_text.ensures ∙
-    front-passed zeros (texts ++ (sames ++ last)) c.in-Good.ensures
+    front-refused sames last _ c.in-Err-judge_same.ensures ∙
+    front-passed texts (sames ++ last) c.in-Ok-judge_text.ensures ∙
+    front-passed zeros (texts ++ (sames ++ last)) c.in-Ok.ensures
 
-pub returns-in-Good-judge_same : goal.returns-in-Good-judge_same
-returns-in-Good-judge_same c =
+pub returns-in-Ok-judge_same : goal.returns-in-Ok-judge_same
+returns-in-Ok-judge_same c =
     let a = c.args in
     let zeros = text_asked false a.names.now a.objects.now a.materials.now in
     let texts = text_asked true a.names.now a.objects.now a.materials.now in
     let sames = same_asked a.names.now a.objects.now a.materials.now in
     let last = material_asked a.names.now a.objects.now a.materials.now a.groups.now in
     c.judge_materials.ensures ∙
-    front-passed sames last c.in-Good-judge_same.ensures ∙
-    front-passed texts (sames ++ last) c.in-Good-judge_text.ensures ∙
-    front-passed zeros (texts ++ (sames ++ last)) c.in-Good.ensures
+    front-passed sames last c.in-Ok-judge_same.ensures ∙
+    front-passed texts (sames ++ last) c.in-Ok-judge_text.ensures ∙
+    front-passed zeros (texts ++ (sames ++ last)) c.in-Ok.ensures

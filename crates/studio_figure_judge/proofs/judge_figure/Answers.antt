@@ -19,14 +19,14 @@ pub judge_all_names-requires : goal.judge_all_names-requires
 judge_all_names-requires c =
     let a = c.args in
     let r = flat a.names.now a.objects.now a.vertices.now a.corners.now a.smoothing.now a.groups.now a.faces.now a.materials.now a.colours.now in
-    let f = fits_told r c.in-Good.ensures in
+    let f = fits_told r c.in-Ok.ensures in
     omega (arith, f.names)
 
 pub judge_all_objects-requires : goal.judge_all_objects-requires
 judge_all_objects-requires c =
     let a = c.args in
     let r = flat a.names.now a.objects.now a.vertices.now a.corners.now a.smoothing.now a.groups.now a.faces.now a.materials.now a.colours.now in
-    let f = fits_told r c.in-Good.ensures in
+    let f = fits_told r c.in-Ok.ensures in
     record {
       objects_in_bounds = (omega (arith, f.vertices), omega (arith, f.corners));
       objects_in_bounds_2 = (omega (arith, f.groups), omega (arith, faces-inside r f));
@@ -36,32 +36,32 @@ pub judge_size-requires : goal.judge_size-requires
 judge_size-requires c =
     let a = c.args in
     let r = flat a.names.now a.objects.now a.vertices.now a.corners.now a.smoothing.now a.groups.now a.faces.now a.materials.now a.colours.now in
-    let f = fits_told r c.in-Good.ensures in
+    let f = fits_told r c.in-Ok.ensures in
     (omega (arith, f.groups), omega (arith, f.names))
 
-pub returns-in-Refused : goal.returns-in-Refused
-returns-in-Refused c =
+pub returns-in-Err : goal.returns-in-Err
+returns-in-Err c =
     let a = c.args in
     let r = flat a.names.now a.objects.now a.vertices.now a.corners.now a.smoothing.now a.groups.now a.faces.now a.materials.now a.colours.now in
-    misfits r a.room _ c.in-Refused.ensures
+    misfits r a.room _ c.in-Err.ensures
 
-pub returns-in-Refused-judge_all_names : goal.returns-in-Refused-judge_all_names
-returns-in-Refused-judge_all_names c =
+pub returns-in-Err-judge_all_names : goal.returns-in-Err-judge_all_names
+returns-in-Err-judge_all_names c =
     let a = c.args in
     let r = flat a.names.now a.objects.now a.vertices.now a.corners.now a.smoothing.now a.groups.now a.faces.now a.materials.now a.colours.now in
     let b = floats-known a.vertices.now c.type_inv.vertices in
-    names-refused r a.room b c.in-Good.ensures _ c.in-Refused-judge_all_names.ensures
+    names-refused r a.room b c.in-Ok.ensures _ c.in-Err-judge_all_names.ensures
 
-pub returns-in-Refused-judge_all_objects : goal.returns-in-Refused-judge_all_objects
-returns-in-Refused-judge_all_objects c =
+pub returns-in-Err-judge_all_objects : goal.returns-in-Err-judge_all_objects
+returns-in-Err-judge_all_objects c =
     let a = c.args in
     let r = flat a.names.now a.objects.now a.vertices.now a.corners.now a.smoothing.now a.groups.now a.faces.now a.materials.now a.colours.now in
     let b = floats-known a.vertices.now c.type_inv.vertices in
-    objects-refused r a.room b c.in-Good.ensures c.in-Good-judge_all_names.ensures _ c.in-Refused-judge_all_objects.ensures
+    objects-refused r a.room b c.in-Ok.ensures c.in-Ok-judge_all_names.ensures _ c.in-Err-judge_all_objects.ensures
 
-pub returns-in-Good-judge_all_objects : goal.returns-in-Good-judge_all_objects
-returns-in-Good-judge_all_objects c =
+pub returns-in-Ok-judge_all_objects : goal.returns-in-Ok-judge_all_objects
+returns-in-Ok-judge_all_objects c =
     let a = c.args in
     let r = flat a.names.now a.objects.now a.vertices.now a.corners.now a.smoothing.now a.groups.now a.faces.now a.materials.now a.colours.now in
     let b = floats-known a.vertices.now c.type_inv.vertices in
-    c.judge_size.ensures ∙ sized r a.room b c.in-Good.ensures c.in-Good-judge_all_names.ensures c.in-Good-judge_all_objects.ensures
+    c.judge_size.ensures ∙ sized r a.room b c.in-Ok.ensures c.in-Ok-judge_all_names.ensures c.in-Ok-judge_all_objects.ensures

@@ -23,24 +23,24 @@ Lts-After-sum-first = lts.After-sum tie.the-claims reads.Pre reads.Post
 begins : (c : Lts-After-sum-first) → c.sum-first.result ≡ materials_at c.args.objects.now
 begins c = let k = capped-under _ _ _ _ c.sum-first.ensures (omega arith) in omega arith
 
-pub judge_differ-requires-in-Good : goal.judge_differ-requires-in-Good
-judge_differ-requires-in-Good c =
+pub judge_differ-requires-in-Ok : goal.judge_differ-requires-in-Ok
+judge_differ-requires-in-Ok c =
     let e = begins c.before in
     (omega arith, omega arith, omega arith)
 
-pub returns-in-Refused : goal.returns-in-Refused
-returns-in-Refused c =
+pub returns-in-Err : goal.returns-in-Err
+returns-in-Err c =
     let c3 = c in
     let x = c in
     let a = x.args in
-    front-refused (differ [] (object_names a.names.now a.objects.now)) (differ [] (material_names a.names.now a.objects.now a.materials.now)) _ (sym c.in-Refused.is ∙ c3.judge_differ.ensures)
+    front-refused (differ [] (object_names a.names.now a.objects.now)) (differ [] (material_names a.names.now a.objects.now a.materials.now)) _ (sym c.in-Err.is ∙ c3.judge_differ.ensures)
 
-pub returns-in-Good : goal.returns-in-Good
-returns-in-Good c =
+pub returns-in-Ok : goal.returns-in-Ok
+returns-in-Ok c =
     let c2 = c in
     let c4 = c in
     let x = c in
     let a = x.args in
     let e = ap (λ (k : ℕ). answered (differ [] (names_in 1 a.materials.now a.names.now k (length a.materials.now)))) (begins c.before.before) in
-    c.judge_differ-in-Good.ensures ∙ e ∙
-    front-passed (differ [] (object_names a.names.now a.objects.now)) (differ [] (material_names a.names.now a.objects.now a.materials.now)) (sym c2.in-Good.is ∙ c4.judge_differ.ensures)
+    c.judge_differ-in-Ok.ensures ∙ e ∙
+    front-passed (differ [] (object_names a.names.now a.objects.now)) (differ [] (material_names a.names.now a.objects.now a.materials.now)) (sym c2.in-Ok.is ∙ c4.judge_differ.ensures)

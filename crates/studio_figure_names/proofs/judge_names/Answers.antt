@@ -29,12 +29,12 @@ slice_bounds-judge_name-end c =
     let a = c.args in
     omega (arith, c.number.ensures.0, sum_inside a.width 0 a.row.now c.loop-i.i a.n (omega arith))
 
-pub returns-in-Refused : goal.returns-in-Refused
-returns-in-Refused c =
+pub returns-in-Err : goal.returns-in-Err
+returns-in-Err c =
     let l = c.loop-i in
     let a = c.args in
     let e = ap (λ (name : List ℕ). answered (name_asked a.text name)) (part-is a.names.now l.at c.number.result _ _ l.invariant.1 c.number.ensures.0) in
-    left_out (name_asked a.text) (name_at a.width a.row.now a.names.now a.from) a.n l.i (omega arith) l.invariant.2 _ (sym c.in-Refused.is ∙ c.judge_name.ensures ∙ e)
+    left_out (name_asked a.text) (name_at a.width a.row.now a.names.now a.from) a.n l.i (omega arith) l.invariant.2 _ (sym c.in-Err.is ∙ c.judge_name.ensures ∙ e)
 
 pub loop-i-preserved : goal.loop-i-preserved
 loop-i-preserved c =
@@ -43,7 +43,7 @@ loop-i-preserved c =
     let e = ap (λ (name : List ℕ). answered (name_asked a.text name)) (part-is a.names.now l.at c.number.result _ _ l.invariant.1 c.number.ensures.0) in (
       omega arith,
       omega (arith, l.invariant.1, c.number.ensures.0, sum-next a.width 0 a.row.now l.i),
-      left-on (name_asked a.text) (name_at a.width a.row.now a.names.now a.from) a.n l.i (omega arith) l.invariant.2 (sym c.in-Good.is ∙ c.judge_name.ensures ∙ e),
+      left-on (name_asked a.text) (name_at a.width a.row.now a.names.now a.from) a.n l.i (omega arith) l.invariant.2 (sym c.in-Ok.is ∙ c.judge_name.ensures ∙ e),
     )
 
 pub returns : goal.returns

@@ -16,11 +16,11 @@ judge_object_counts-requires c =
     let a = c.args in
     (omega arith, c.loop-i.invariant.1, omega (arith, c.loop-i.invariant.1, sum_inside 5 4 a.objects.now c.loop-i.i a.n (omega arith)))
 
-pub returns-in-Refused : goal.returns-in-Refused
-returns-in-Refused c =
+pub returns-in-Err : goal.returns-in-Err
+returns-in-Err c =
     let l = c.loop-i in
     let a = c.args in
-    left_out (counts a.objects.now a.groups.now) (λ (k : ℕ). k) a.n l.i (omega arith) l.invariant.2 _ (sym c.in-Refused.is ∙ c.judge_object_counts.ensures)
+    left_out (counts a.objects.now a.groups.now) (λ (k : ℕ). k) a.n l.i (omega arith) l.invariant.2 _ (sym c.in-Err.is ∙ c.judge_object_counts.ensures)
 
 pub number-group-requires : goal.number-group-requires
 number-group-requires c = (omega arith, omega arith)
@@ -36,7 +36,7 @@ loop-i-preserved c =
     let a = c.args in (
       omega arith,
       omega (arith, l.invariant.1, c.number-group.ensures.0, sum-next 5 4 a.objects.now l.i),
-      left-on (counts a.objects.now a.groups.now) (λ (k : ℕ). k) a.n l.i (omega arith) l.invariant.2 (sym c.in-Good.is ∙ c.judge_object_counts.ensures),
+      left-on (counts a.objects.now a.groups.now) (λ (k : ℕ). k) a.n l.i (omega arith) l.invariant.2 (sym c.in-Ok.is ∙ c.judge_object_counts.ensures),
     )
 
 pub returns : goal.returns

@@ -32,12 +32,12 @@ slice_bounds-judge_finite-end c =
     let a = c.args in
     omega (arith, c.loop-i.invariant.1, c.number.ensures.0, sum_inside 5 1 a.objects.now c.loop-i.i a.n (omega arith))
 
-pub returns-in-Refused : goal.returns-in-Refused
-returns-in-Refused c =
+pub returns-in-Err : goal.returns-in-Err
+returns-in-Err c =
     let l = c.loop-i in
     let a = c.args in
     let e = ap (λ (row : List Float). answered (all_finite row)) (part-is a.vertices.now l.at c.number.result _ _ l.invariant.1 c.number.ensures.0) in
-    left_out (floats a.objects.now a.vertices.now) (λ (k : ℕ). k) a.n l.i (omega arith) l.invariant.2 _ (sym c.in-Refused.is ∙ c.judge_finite.ensures ∙ e)
+    left_out (floats a.objects.now a.vertices.now) (λ (k : ℕ). k) a.n l.i (omega arith) l.invariant.2 _ (sym c.in-Err.is ∙ c.judge_finite.ensures ∙ e)
 
 pub loop-i-preserved : goal.loop-i-preserved
 loop-i-preserved c =
@@ -46,7 +46,7 @@ loop-i-preserved c =
     let e = ap (λ (row : List Float). answered (all_finite row)) (part-is a.vertices.now l.at c.number.result _ _ l.invariant.1 c.number.ensures.0) in (
       omega arith,
       omega (arith, l.invariant.1, c.number.ensures.0, sum-next 5 1 a.objects.now l.i),
-      left-on (floats a.objects.now a.vertices.now) (λ (k : ℕ). k) a.n l.i (omega arith) l.invariant.2 (sym c.in-Good.is ∙ c.judge_finite.ensures ∙ e),
+      left-on (floats a.objects.now a.vertices.now) (λ (k : ℕ). k) a.n l.i (omega arith) l.invariant.2 (sym c.in-Ok.is ∙ c.judge_finite.ensures ∙ e),
     )
 
 pub returns : goal.returns

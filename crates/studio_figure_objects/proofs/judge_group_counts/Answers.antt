@@ -1,3 +1,4 @@
+use Rattle.std.specs.Prelude.{Err}
 use mathlib.Core.Path.{ap, ◌∙◌}
 use Prim.Native.Nat.{ℕ, ◌+◌, ◌-◌}
 use native.Mathlib.Omega.{arith}
@@ -5,7 +6,6 @@ use mathlib.Core.List.{[]}
 use lib.Dec.{leb}
 use borrow.Author.Tests.{le-leb, lt-leb}
 use Rattle.shared_words.specs.declared.Refusal.TheVariants.{Count}
-use Rattle.shared_words.specs.declared.Judged.TheVariants.{Refused}
 use Rattle.studio_figure_rows.specs.Rows.{entry}
 use Rattle.studio_figure_rows.proofs.Answers.{left-all, none-broken, here, later, left-on, left_out, left-none}
 use Rattle.studio_figure_objects.specs.Asked.{from, group_count}
@@ -24,7 +24,7 @@ returns-then-faces-gt65535 c =
     let l = c.loop-i in
     let a = c.args in
     let k = entry 2 1 a.groups.now (a.first + l.i) in
-    ap (λ (x : ℕ). Refused (Count x)) c.number-faces.ensures.0 ∙
+    ap (λ (x : ℕ). Err (Count x)) c.number-faces.ensures.0 ∙
     left_out (group_count a.groups.now) (from a.first) a.n l.i (omega arith) l.invariant.1 (Count k)
     (here (leb k 65535) (Count k) [] (lt-leb k 65535 (omega (arith, c.number-faces.ensures.0))))
 

@@ -32,12 +32,12 @@ slice_bounds-judge_below-end c =
     let a = c.args in
     omega (arith, c.loop-i.invariant.1, c.number.ensures.0, sum_inside 2 1 a.groups.now (a.first + c.loop-i.i) (a.first + a.n) (omega arith))
 
-pub returns-in-Refused : goal.returns-in-Refused
-returns-in-Refused c =
+pub returns-in-Err : goal.returns-in-Err
+returns-in-Err c =
     let l = c.loop-i in
     let a = c.args in
     let e = ap (λ (row : List ℕ). answered (all_below a.f row)) (part-is a.faces.now l.at c.number.result _ _ l.invariant.1 c.number.ensures.0) in
-    left_out (group_index a.groups.now a.faces.now a.f) (from a.first) a.n l.i (omega arith) l.invariant.2 _ (sym c.in-Refused.is ∙ c.judge_below.ensures ∙ e)
+    left_out (group_index a.groups.now a.faces.now a.f) (from a.first) a.n l.i (omega arith) l.invariant.2 _ (sym c.in-Err.is ∙ c.judge_below.ensures ∙ e)
 
 pub loop-i-preserved : goal.loop-i-preserved
 loop-i-preserved c =
@@ -47,7 +47,7 @@ loop-i-preserved c =
     let z : a.first + (l.i + 1) ≡ a.first + l.i + 1 = omega arith in (
       omega arith,
       rw z (omega (arith, l.invariant.1, c.number.ensures.0, sum-next 2 1 a.groups.now (a.first + l.i))),
-      left-on (group_index a.groups.now a.faces.now a.f) (from a.first) a.n l.i (omega arith) l.invariant.2 (sym c.in-Good.is ∙ c.judge_below.ensures ∙ e),
+      left-on (group_index a.groups.now a.faces.now a.f) (from a.first) a.n l.i (omega arith) l.invariant.2 (sym c.in-Ok.is ∙ c.judge_below.ensures ∙ e),
     )
 
 pub returns : goal.returns

@@ -20,11 +20,11 @@ judge_object_indices-requires c =
     let t = sum_inside 5 2 a.objects.now l.i a.n (omega arith) in
     let u = sum-up 2 1 a.groups.now (l.group + entry 5 4 a.objects.now l.i) (sum_to 5 4 a.objects.now a.n) (omega (arith, l.invariant.2)) in record { i_in_bounds = (omega arith, l.invariant.1, omega (arith, l.invariant.1)); group_value = (l.invariant.2, omega (arith, l.invariant.2)); face_value = (l.invariant.3, omega arith) }
 
-pub returns-in-Refused : goal.returns-in-Refused
-returns-in-Refused c =
+pub returns-in-Err : goal.returns-in-Err
+returns-in-Err c =
     let l = c.loop-i in
     let a = c.args in
-    left_out (indices a.objects.now a.corners.now a.groups.now a.faces.now) (λ (k : ℕ). k) a.n l.i (omega arith) l.invariant.4 _ (sym c.in-Refused.is ∙ c.judge_object_indices.ensures)
+    left_out (indices a.objects.now a.corners.now a.groups.now a.faces.now) (λ (k : ℕ). k) a.n l.i (omega arith) l.invariant.4 _ (sym c.in-Err.is ∙ c.judge_object_indices.ensures)
 
 pub number-at-requires : goal.number-at-requires
 number-at-requires c = (omega arith, omega arith)
@@ -67,7 +67,7 @@ loop-i-preserved c =
       omega (arith, l.invariant.1, c.number-at.ensures.0, sum-next 5 2 a.objects.now l.i),
       omega (arith, l.invariant.2, c.number.ensures.0, sum-next 5 4 a.objects.now l.i),
       omega (arith, l.invariant.3),
-      left-on (indices a.objects.now a.corners.now a.groups.now a.faces.now) (λ (k : ℕ). k) a.n l.i (omega arith) l.invariant.4 (sym c.in-Good.is ∙ c.judge_object_indices.ensures),
+      left-on (indices a.objects.now a.corners.now a.groups.now a.faces.now) (λ (k : ℕ). k) a.n l.i (omega arith) l.invariant.4 (sym c.in-Ok.is ∙ c.judge_object_indices.ensures),
     )
 
 pub returns : goal.returns

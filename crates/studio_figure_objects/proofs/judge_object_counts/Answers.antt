@@ -1,10 +1,10 @@
 -- `studio_figure_objects::judge_object_counts` meets its contract: its tests are the conditions in their order.
+use Rattle.std.specs.Prelude.{Err}
 use mathlib.Core.Path.{◌≡◌, sym, ap, ◌∙◌}
 use Prim.Native.Nat.{ℕ, ◌/◌}
 use native.Mathlib.Omega.{arith}
 use mathlib.Core.List.{List, ◌∷◌}
 use Rattle.shared_words.specs.declared.Refusal.TheVariants.{Count}
-use Rattle.shared_words.specs.declared.Judged.TheVariants.{Refused}
 use Rattle.shared_words.specs.Conditions.{Condition, must, answered}
 use Rattle.studio_write_judge.specs.Judged.{is_whole_row}
 use Rattle.studio_figure_rules.specs.Judged.{none_or_each}
@@ -55,7 +55,7 @@ pub returns-then-not-whole_row : goal.returns-then-not-whole_row
 returns-then-not-whole_row c =
     let c2 = c in
     let c5 = c in
-    ap (λ (x : ℕ). Refused (Count x)) c2.number-floats.ensures.0 ∙
+    ap (λ (x : ℕ). Err (Count x)) c2.number-floats.ensures.0 ∙
     here _ _ (second c5.args.objects.now c5.args.groups.now c5.args.i) (ap is_whole_row (sym c2.number-floats.ensures.0) ∙ sym c.whole_row.ensures ∙ c.if-not-whole_row.true)
 
 pub returns-then-not-whole_row-2 : goal.returns-then-not-whole_row-2
@@ -63,7 +63,7 @@ returns-then-not-whole_row-2 c =
     let c2 = c in
     let c3 = c.before.before.before.before in
     let c8 = c in
-    ap (λ (x : ℕ). Refused (Count x)) c2.number-corners.ensures.0 ∙
+    ap (λ (x : ℕ). Err (Count x)) c2.number-corners.ensures.0 ∙
     here _ _ (third c8.args.objects.now c8.args.groups.now c8.args.i) (ap is_whole_row (sym c2.number-corners.ensures.0) ∙ sym c.whole_row-2.ensures ∙ c.if-not-whole_row-2.true) ∙ past-1 c3
 
 pub returns-then-not-none_or_each : goal.returns-then-not-none_or_each
@@ -76,7 +76,7 @@ returns-then-not-none_or_each c =
     let w = c2.number-words.ensures.0 in
     let k = c5.number-corners.ensures.0 in
     let e : none_or_each (entry 5 3 c11.args.objects.now c11.args.i) (entry 5 2 c11.args.objects.now c11.args.i / 3) ≡ none_or_each c2.number-words.result (c5.number-corners.result / 3) = rw (w, k) in
-    ap (λ (x : ℕ). Refused (Count x)) w ∙
+    ap (λ (x : ℕ). Err (Count x)) w ∙
     here _ _ (last c11.args.objects.now c11.args.groups.now c11.args.i) (e ∙ sym c.none_or_each.ensures ∙ c.if-not-none_or_each.true) ∙ past-2 c3 ∙ past-1 c6
 
 pub judge_group_counts-requires : goal.judge_group_counts-requires

@@ -29,27 +29,27 @@ groups_are objects groups faces i f g n a b c = rw (a, b, c)
 pub judge_group_indices-requires : goal.judge_group_indices-requires
 judge_group_indices-requires c =
     let a = c.args in
-    let e : sum_to 2 1 a.groups.now (a.group + c.number-in-Good.result) ≡ sum_to 2 1 a.groups.now (a.group + entry 5 4 a.objects.now a.i) = ap (λ (k : ℕ). sum_to 2 1 a.groups.now (a.group + k)) c.number-in-Good.ensures.0 in
-    (omega (arith, c.number-in-Good.ensures.0), c.requires.face_value.0, omega (arith, e))
+    let e : sum_to 2 1 a.groups.now (a.group + c.number-in-Ok.result) ≡ sum_to 2 1 a.groups.now (a.group + entry 5 4 a.objects.now a.i) = ap (λ (k : ℕ). sum_to 2 1 a.groups.now (a.group + k)) c.number-in-Ok.ensures.0 in
+    (omega (arith, c.number-in-Ok.ensures.0), c.requires.face_value.0, omega (arith, e))
 
-pub returns-in-Refused : goal.returns-in-Refused
-returns-in-Refused c =
+pub returns-in-Err : goal.returns-in-Err
+returns-in-Err c =
     let c3 = c in
     let c5 = c in
     let c6 = c in
     let x = c in
     let a = x.args in
     front-refused (first a.objects.now a.corners.now a.groups.now a.faces.now a.i) (second a.objects.now a.corners.now a.groups.now a.faces.now a.i) _
-    (sym c.in-Refused.is ∙ c3.judge_below.ensures ∙ corners_are a.objects.now a.corners.now a.i c5.number.result a.at c6.number-count.result c5.number.ensures.0 x.requires.i_in_bounds.1 c6.number-count.ensures.0)
+    (sym c.in-Err.is ∙ c3.judge_below.ensures ∙ corners_are a.objects.now a.corners.now a.i c5.number.result a.at c6.number-count.result c5.number.ensures.0 x.requires.i_in_bounds.1 c6.number-count.ensures.0)
 
-pub returns-in-Good : goal.returns-in-Good
-returns-in-Good c =
+pub returns-in-Ok : goal.returns-in-Ok
+returns-in-Ok c =
     let c2 = c in
     let c4 = c in
     let c6 = c in
     let c7 = c in
     let x = c in
     let a = x.args in
-    c.judge_group_indices.ensures ∙ groups_are a.objects.now a.groups.now a.faces.now a.i c7.number-count.result a.group c.number-in-Good.result c7.number-count.ensures.0 x.requires.group_value.0 c.number-in-Good.ensures.0 ∙
+    c.judge_group_indices.ensures ∙ groups_are a.objects.now a.groups.now a.faces.now a.i c7.number-count.result a.group c.number-in-Ok.result c7.number-count.ensures.0 x.requires.group_value.0 c.number-in-Ok.ensures.0 ∙
     front-passed (first a.objects.now a.corners.now a.groups.now a.faces.now a.i) (second a.objects.now a.corners.now a.groups.now a.faces.now a.i)
-    (sym c2.in-Good.is ∙ c4.judge_below.ensures ∙ corners_are a.objects.now a.corners.now a.i c6.number.result a.at c7.number-count.result c6.number.ensures.0 x.requires.i_in_bounds.1 c7.number-count.ensures.0)
+    (sym c2.in-Ok.is ∙ c4.judge_below.ensures ∙ corners_are a.objects.now a.corners.now a.i c6.number.result a.at c7.number-count.result c6.number.ensures.0 x.requires.i_in_bounds.1 c7.number-count.ensures.0)

@@ -12,14 +12,14 @@ use Rattle.studio_list.proofs.list_rows.Goals as goal
 pub returns-then-room-counts : goal.returns-then-room-counts
 returns-then-room-counts c =
     let x = c.args in
-    let g = c.in-Accepted in
+    let g = c.in-Ok in
     let a = accepted-by x.file.now g.counts (sym c.check.ensures ∙ g.is) in
     rows-no-room a (lent x.records.now x.bytes.now) c.if-room-counts.true
 
 pub list_run-requires : goal.list_run-requires
 list_run-requires c =
     let x = c in
-    let g = c.in-Accepted in
+    let g = c.in-Ok in
     let a = accepted-by x.args.file.now g.counts (sym c.check.ensures ∙ g.is) in
     let b = bytes-all x.args.file.now (λ i. omega (arith, c.type_inv.file i)) in (
       omega arith,
@@ -28,16 +28,16 @@ list_run-requires c =
       c.slots-slots.ensures,
     )
 
-pub returns-in-Refused : goal.returns-in-Refused
-returns-in-Refused c =
+pub returns-in-Err : goal.returns-in-Err
+returns-in-Err c =
     let x = c.args in
-    let g = c.in-Refused in
+    let g = c.in-Err in
     rows-refused x.file.now x.room (lent x.records.now x.bytes.now) g.r (sym c.check.ensures ∙ g.is)
 
 pub returns-else-room-counts : goal.returns-else-room-counts
 returns-else-room-counts c =
     let x = c.args in
-    let g = c.in-Accepted in
+    let g = c.in-Ok in
     let a = accepted-by x.file.now g.counts (sym c.check.ensures ∙ g.is) in
     let b = bytes-all x.file.now (λ i. omega (arith, c.type_inv.file i)) in
     rows-filled a (lent x.records.now x.bytes.now) c.if-room-counts.false (c.list_run.ensures in_file (figure a.kids) (whole-laid a b))

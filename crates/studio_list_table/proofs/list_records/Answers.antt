@@ -1,4 +1,7 @@
 -- Each turn stores one record more of those that the list has left in the row.
+use Rattle.studio_rules.specs.declared.Counts.{Counts}
+use Rattle.shared_words.specs.declared.Refusal.{Refusal}
+use Rattle.std.specs.Prelude.{Result}
 use mathlib.Core.Path.{◌≡◌, refl, ap, ◌∙◌}
 use mathlib.Core.List.{List}
 use Prim.Native.Nat.{ℕ, ◌+◌, ◌*◌, ◌-◌, ◌≤◌, ◌<◌}
@@ -6,7 +9,6 @@ use native.Mathlib.Omega.{arith}
 use lib.ListN.{length, set, length-set}
 use Rattle.shared_words.specs.Effects.{Effect, filled}
 use Rattle.studio_rules.specs.declared.Record.{Record}
-use Rattle.studio_rules.specs.declared.Checked.{Checked}
 use Rattle.studio_list_table.proofs.Outcome.{outcome, one_more, all_there}
 use Rattle.studio_list_table.proofs.list_records.Goals as goal
 
@@ -39,5 +41,5 @@ returns c =
     record {
       answer = o.answers;
       table = i.invariant.stands o ∙ rw e (all_there o);
-      row = ap (λ (x : Effect Checked (List ℕ)). x.rows) c.list_beside-listed.ensures;
+      row = ap (λ (x : Effect (Result Counts Refusal) (List ℕ)). x.rows) c.list_beside-listed.ensures;
     }

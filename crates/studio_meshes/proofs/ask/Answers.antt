@@ -1,4 +1,6 @@
 -- The check's answer, and then the meshes that are counted.
+use Rattle.shared_words.specs.declared.Refusal.{Refusal}
+use Rattle.std.specs.Prelude.{Result, Ok}
 use mathlib.Core.Path.{◌≡◌, sym, ap, ◌∙◌}
 use mathlib.Core.List.{List}
 use mathlib.Core.Logic.{inr}
@@ -7,7 +9,6 @@ use native.Mathlib.Omega.{arith}
 use Rattle.shared_words.specs.declared.Refusal.TheVariants.{NoRoom}
 use Rattle.shared_words.proofs.Bytes.{bytes-all}
 use Rattle.studio_rules.specs.Calls.{check_call}
-use Rattle.studio_rules.specs.declared.Checked.{Checked}
 use Rattle.studio_rules.specs.declared.Counts.{Counts}
 use Rattle.studio_check.proofs.Accepted.{Accepted, accepted-by, meets-by}
 use Rattle.studio_meshes_rules.specs.Standing.{standing}
@@ -15,36 +16,36 @@ use Rattle.studio_counted.proofs.All.{file-refused}
 use Rattle.studio_meshes.proofs.ask.Goals as goal
 
 -- the file is accepted: its layout
-layout : (s : List ℕ) {x : Checked} {counts : Counts} → x ≡ check_call s → x ≡ Checked.Accepted counts → Accepted s counts
+layout : (s : List ℕ) {x : Result Counts Refusal} {counts : Counts} → x ≡ check_call s → x ≡ Ok counts → Accepted s counts
 layout s e f = accepted-by s _ (sym e ∙ f)
 
 pub find_objects-objects-requires : goal.find_objects-objects-requires
 find_objects-objects-requires c =
     let s = c.args.file.now in
-    let a = layout s c.check.ensures c.in-Accepted.is in
+    let a = layout s c.check.ensures c.in-Ok.is in
     (a.kids, meets-by (bytes-all s (λ i. omega (arith, c.type_inv.file i))) a)
 
 pub count_meshes-count-requires : goal.count_meshes-count-requires
 count_meshes-count-requires c =
     let s = c.args.file.now in
-    let a = layout s c.check.ensures c.in-Accepted.is in
+    let a = layout s c.check.ensures c.in-Ok.is in
     (a.kids, c.find_objects-objects.ensures a.kids (meets-by (bytes-all s (λ i. omega (arith, c.type_inv.file i))) a))
 
 pub returns-then-room-count : goal.returns-then-room-count
 returns-then-room-count c =
     let s = c.args.file.now in
-    let a = layout s c.check.ensures c.in-Accepted.is in
+    let a = layout s c.check.ensures c.in-Ok.is in
     let q = c.find_objects-objects.ensures a.kids (meets-by (bytes-all s (λ i. omega (arith, c.type_inv.file i))) a) in
     let n = c.count_meshes-count.ensures a.kids q in
     inr (a.kids, a.verdict-is, omega (arith, n, c.if-room-count.true), ap NoRoom n)
 
-pub returns-in-Refused : goal.returns-in-Refused
-returns-in-Refused c = file-refused standing c.args.file.now c.args.room (sym c.check.ensures ∙ c.in-Refused.is)
+pub returns-in-Err : goal.returns-in-Err
+returns-in-Err c = file-refused standing c.args.file.now c.args.room (sym c.check.ensures ∙ c.in-Err.is)
 
 pub returns-else-room-count : goal.returns-else-room-count
 returns-else-room-count c =
     let s = c.args.file.now in
-    let a = layout s c.check.ensures c.in-Accepted.is in
+    let a = layout s c.check.ensures c.in-Ok.is in
     let q = c.find_objects-objects.ensures a.kids (meets-by (bytes-all s (λ i. omega (arith, c.type_inv.file i))) a) in
     let n = c.count_meshes-count.ensures a.kids q in
     (a.kids, a.verdict-is, n, (q, omega (arith, n, c.if-room-count.false)))

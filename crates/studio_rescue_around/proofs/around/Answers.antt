@@ -8,23 +8,23 @@ pub scene_at-requires : goal.scene_at-requires
 scene_at-requires c =
     let s = c.args.file.now in
     let w = c.judge_file in
-    (file-bounds s (file-is_fine s w.result c.in-Good.is w.ensures)).0
+    (file-bounds s (file-is_fine s w.result c.in-Ok.is w.ensures)).0
 
 pub judge_children-requires : goal.judge_children-requires
 judge_children-requires c =
     let s = c.args.file.now in
     let w = c.judge_file in
-    let b = file-bounds s (file-is_fine s w.result c.in-Good.is w.ensures) in
+    let b = file-bounds s (file-is_fine s w.result c.in-Ok.is w.ensures) in
     (b.0, b.1, c.scene_at.ensures)
 
-pub returns-in-Refused : goal.returns-in-Refused
-returns-in-Refused c =
+pub returns-in-Err : goal.returns-in-Err
+returns-in-Err c =
     let w = c.judge_file in
-    let g = c.in-Refused in
+    let g = c.in-Err in
     whole-refused c.args.file.now g.r w.result g.is w.ensures
 
-pub returns-in-Good : goal.returns-in-Good
-returns-in-Good c =
+pub returns-in-Ok : goal.returns-in-Ok
+returns-in-Ok c =
     let s = c.args.file.now in
     let w = c.judge_file in
-    c.judge_children.ensures ∙ whole-read s c.version.result c.version.ensures (file-is_fine s w.result c.in-Good.is w.ensures)
+    c.judge_children.ensures ∙ whole-read s c.version.result c.version.ensures (file-is_fine s w.result c.in-Ok.is w.ensures)

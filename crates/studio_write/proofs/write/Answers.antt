@@ -1,12 +1,12 @@
 -- `studio_write::write` meets its contract: the judgement, and the figure where it gives a size.
+use Rattle.shared_words.specs.declared.Refusal.{Refusal}
+use Rattle.std.specs.Prelude.{Result, Ok}
 use mathlib.Core.Path.{◌≡◌, sym, ap, ◌∙◌}
 use Prim.Native.Nat.{ℕ}
 use native.Mathlib.Omega.{arith}
 use mathlib.Core.List.{List}
 use lib.ListN.{length}
 use Rattle.shared_words.specs.Effects.{Effect}
-use Rattle.shared_words.specs.declared.Written.{Written}
-use Rattle.shared_words.specs.declared.Written.TheVariants.{Size}
 use Rattle.studio_write_bytes.proofs.Bare.{length-bare}
 use Rattle.studio_write_judge.proofs.Judged.{ready}
 use Rattle.studio_write.proofs.Called.{called}
@@ -14,19 +14,19 @@ use Rattle.shared_numbers.proofs.Put.{put_front}
 use Rattle.studio_write.proofs.write.Goals as goal
 
 pub put_figure-end-requires : goal.put_figure-end-requires
-put_figure-end-requires c = sym c.judge.ensures ∙ c.in-Size.is
+put_figure-end-requires c = sym c.judge.ensures ∙ c.in-Ok.is
 
-pub returns-in-Refused : goal.returns-in-Refused
-returns-in-Refused c =
+pub returns-in-Err : goal.returns-in-Err
+returns-in-Err c =
     let a = c.args in
-    let e = called a.name.now a.vertices.now a.corners.now a.out.now _ (sym c.judge.ensures ∙ c.in-Refused.is) in record { answer = sym (ap (λ (w : Effect Written (List ℕ)). w.answer) e); out = sym (ap (λ (w : Effect Written (List ℕ)). w.rows) e) }
+    let e = called a.name.now a.vertices.now a.corners.now a.out.now _ (sym c.judge.ensures ∙ c.in-Err.is) in record { answer = sym (ap (λ (w : Effect (Result ℕ Refusal) (List ℕ)). w.answer) e); out = sym (ap (λ (w : Effect (Result ℕ Refusal) (List ℕ)). w.rows) e) }
 
-pub returns-in-Size : goal.returns-in-Size
-returns-in-Size c =
+pub returns-in-Ok : goal.returns-in-Ok
+returns-in-Ok c =
     let a = c.args in
-    let j = sym c.judge.ensures ∙ c.in-Size.is in
+    let j = sym c.judge.ensures ∙ c.in-Ok.is in
     let e = called a.name.now a.vertices.now a.corners.now a.out.now _ j in
     let r = ready a.name.now a.vertices.now a.corners.now (length a.out.now) _ j in
     let put = c.put_figure-end in
     let long = length-bare a.name.now a.vertices.now a.corners.now r.whole-vertices in
-    let end : put.result ≡ c.in-Size.size = omega (arith, put.ensures.ends, r.size_is) in record { answer = ap Size end ∙ sym (ap (λ (w : Effect Written (List ℕ)). w.answer) e); out = put_front put.ensures ∙ sym (ap (λ (w : Effect Written (List ℕ)). w.rows) e) }
+    let end : put.result ≡ c.in-Ok.size = omega (arith, put.ensures.ends, r.size_is) in record { answer = ap Ok end ∙ sym (ap (λ (w : Effect (Result ℕ Refusal) (List ℕ)). w.answer) e); out = put_front put.ensures ∙ sym (ap (λ (w : Effect (Result ℕ Refusal) (List ℕ)). w.rows) e) }

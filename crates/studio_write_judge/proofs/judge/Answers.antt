@@ -1,5 +1,6 @@
 -- `studio_write_judge::judge` meets its contract: its tests are the conditions in their order, so that each way past a test shows one
 -- more of them.
+use Rattle.std.specs.Prelude.{Err}
 use mathlib.Core.Path.{refl, sym, ap, ◌∙◌}
 use Prim.Native.Nat.{ℕ, ◌≤◌, ◌<◌, ◌/◌}
 use native.Mathlib.Omega.{arith}
@@ -9,7 +10,6 @@ use borrow.Author.Tests.{le-leb, lt-leb}
 use Rattle.shared_words.specs.declared.Refusal.TheVariants.{Name, Number, Index, Text}
 use Rattle.shared_words.specs.Conditions.{Condition}
 use Rattle.shared_words.proofs.Conditions.{Met}
-use Rattle.shared_words.specs.declared.Written.TheVariants.{Refused}
 use Rattle.studio_write_judge.specs.Judged.{not_zero, write_conditions}
 use Rattle.shared_words.proofs.FirstFault.{every-good, some-bad}
 use Rattle.shared_words.proofs.Labels.{label_fits, label_unfit, label_within}
@@ -107,12 +107,12 @@ short c =
 pub returns-then-zero-name : goal.returns-then-zero-name
 returns-then-zero-name c =
     let a = c.args in
-    ap (λ (p : ℕ). Refused (Name p)) c.first_zero-zero.ensures ∙
+    ap (λ (p : ℕ). Err (Name p)) c.first_zero-zero.ensures ∙
     refused-at a.name.now a.vertices.now a.corners.now a.room 0 tt refl (some-bad not_zero _ (omega arith))
 
 pub returns-then-taken-name : goal.returns-then-taken-name
 returns-then-taken-name c =
-    ap (λ (p : ℕ). Refused (Text p)) c.label_size-taken.ensures ∙
+    ap (λ (p : ℕ). Err (Text p)) c.label_size-taken.ensures ∙
     refused-at _ _ _ _ 1 (held-1 c.before.before.before) refl (label_unfit _ (omega arith))
 
 pub returns-then-not-whole_row : goal.returns-then-not-whole_row
@@ -123,7 +123,7 @@ returns-then-not-whole_row-2 c = refused-at _ _ _ _ 3 (held-3 c.before.before.be
 
 pub returns-then-not-all_finite : goal.returns-then-not-all_finite
 returns-then-not-all_finite c =
-    ap (λ (p : ℕ). Refused (Number p)) c.first_not_finite.ensures ∙
+    ap (λ (p : ℕ). Err (Number p)) c.first_not_finite.ensures ∙
     refused-at _ _ _ _ 4 (held-4 c.before.before.before.before) refl (sym c.all_finite.ensures ∙ c.if-not-all_finite.true)
 
 pub overflow_cast-n : goal.overflow_cast-n
@@ -135,7 +135,7 @@ overflow_cast-n c =
 
 pub returns-then-not-all_below : goal.returns-then-not-all_below
 returns-then-not-all_below c =
-    ap (λ (p : ℕ). Refused (Index p)) c.first_not_below.ensures ∙
+    ap (λ (p : ℕ). Err (Index p)) c.first_not_below.ensures ∙
     refused-at _ _ _ _ 5 (held-5 c.before.before.before.before) refl (sym c.all_below.ensures ∙ c.if-not-all_below.true)
 
 pub overflow_add-size-2 : goal.overflow_add-size-2
