@@ -13,10 +13,6 @@ fn reason(text: &str) -> &str {
     }
 }
 
-fn end_line(rt: &impl Print) -> io::Result<()> {
-    println!(rt)
-}
-
 // A line to standard error: what failed, and why.
 fn fail<R: Eprint + Alloc>(rt: &R, what: &str, error: io::Error) -> io::Result<()> {
     let text = error.to_string(rt.alloc())?;
@@ -35,43 +31,39 @@ fn show<R: Files + Print + Eprint + Alloc>(rt: &R, name: &str) -> io::Result<()>
     let input = listing_input::read(&mut file, &mut buffer);
     drop(file);
     let n = listing_text::answer(&buffer, input, &mut text);
-    print!(rt; "{name}")?;
-    end_line(rt)?;
+    println!(rt; "{name}")?;
     rt.write_all(&text[..n])
 }
 
 // Refusals 2 to 14.
-fn refusals<R: Files + Print + Eprint + Alloc>(rt: &R) -> io::Result<()> {
-    show(rt, "empty")?;
-    show(rt, "letters")?;
-    show(rt, "trailing")?;
-    show(rt, "short")?;
-    show(rt, "overrun")?;
-    show(rt, "stray")?;
-    show(rt, "misplaced")?;
-    show(rt, "twice")?;
-    show(rt, "name")?;
-    show(rt, "length")?;
-    show(rt, "number")?;
-    show(rt, "index")?;
-    show(rt, "count")?;
-    show(rt, "missing")
-}
+const REFUSALS: [&str; 14] = [
+    "empty",
+    "letters",
+    "trailing",
+    "short",
+    "overrun",
+    "stray",
+    "misplaced",
+    "twice",
+    "name",
+    "length",
+    "number",
+    "index",
+    "count",
+    "missing",
+];
 
 // 65,536 bytes, accepted, and with one stray byte at the end; 65,537 bytes; 1,025 records, and 1,024.
-fn limits<R: Files + Print + Eprint + Alloc>(rt: &R) -> io::Result<()> {
-    show(rt, "full")?;
-    show(rt, "full-stray")?;
-    show(rt, "longer")?;
-    show(rt, "many")?;
-    show(rt, "most")
-}
+const LIMITS: [&str; 5] = ["full", "full-stray", "longer", "many", "most"];
 
 // Then a private chunk; identifiers of every kind of digit; and a folder, which opens and cannot be read.
+const OTHERS: [&str; 3] = ["private", "mixed", "."];
+
 fn main(rt: HostRuntime) -> io::Result<()> {
-    refusals(&rt)?;
-    limits(&rt)?;
-    show(&rt, "private")?;
-    show(&rt, "mixed")?;
-    show(&rt, ".")
+    for names in [&REFUSALS[..], &LIMITS[..], &OTHERS[..]] {
+        for name in names {
+            show(&rt, name)?;
+        }
+    }
+    Ok(())
 }

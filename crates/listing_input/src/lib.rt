@@ -6,10 +6,9 @@ ghost use Rattle.listing_input.specs.Within.{Within};
 
 use std::io::Read;
 
-// What was read: a whole input of so many bytes; the start of a longer one; or a read failed.
+// Why an input was not read whole: it is longer than the buffer, or a read failed.
 #[derive(Clone, Copy)]
-pub enum Input {
-    Whole(usize),
+pub enum Unread {
     Longer,
     Failed,
 }
@@ -28,16 +27,16 @@ fn read_full<R: Read>(reader: &mut R, buffer: &mut [u8]) -> usize
     n
 }
 
-// Reads an input until it ends or the buffer is full, and then asks for one byte more, which tells an end from a failure.
+// Reads an input until it ends or the buffer is full, and answers its size; it then asks for one byte more, which tells an end from a failure.
 // No contract can say which bytes a file gives, nor which answer is given; the bytes of a whole input are in the buffer.
-pub fn read<R: Read>(reader: &mut R, buffer: &mut [u8]) -> Input
+pub fn read<R: Read>(reader: &mut R, buffer: &mut [u8]) -> Result<usize, Unread>
     ensures { Within buffer.new result }
 {
     let n = read_full(reader, buffer);
     let mut next = [0u8; 1];
     match reader.read(&mut next) {
-        Ok(0) => Input::Whole(n),
-        Ok(_) if n == buffer.len() => Input::Longer,
-        _ => Input::Failed,
+        Ok(0) => Ok(n),
+        Ok(_) if n == buffer.len() => Err(Unread::Longer),
+        _ => Err(Unread::Failed),
     }
 }

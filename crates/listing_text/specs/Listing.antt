@@ -1,13 +1,13 @@
 -- What the listing program prints, for every file that its buffer holds.
-use Rattle.std.specs.Prelude.{ℕ, cond, List, [], ◌++◌, leb, length, take}
+use Rattle.std.specs.Prelude.{ℕ, cond, List, [], ◌++◌, leb, length, take, Result, Ok, Err}
 use Rattle.shared_words.specs.declared.Refusal.TheVariants.{TooLong, NoRoom}
 use Rattle.studio_rules.specs.Layout.{Run, figure}
 use Rattle.shared_words.specs.Conditions.{Answer, refused, accepted}
 use Rattle.studio_rules.specs.Walk.{verdict}
 use Rattle.studio_rules.specs.Gives.{record_count, list}
 use Rattle.studio_rules.specs.Calls.{counts_of}
-use Rattle.listing_input.specs.declared.Input.{Input}
-use Rattle.listing_input.specs.declared.Input.TheVariants.{Whole, Longer, Failed}
+use Rattle.listing_input.specs.declared.Unread.{Unread}
+use Rattle.listing_input.specs.declared.Unread.TheVariants.{Longer, Failed}
 use Rattle.listing_text.specs.Lines.{refusal_line, counts_line, lines}
 
 -- the program has 1,024 records
@@ -24,7 +24,7 @@ listing s = listing_of (length s) (verdict s)
 
 -- WHAT IS PRINTED of an input whose first bytes stand in the buffer. Of one that could not be read nothing is printed;
 -- the papers leave that free.
-abbrev pub printed : List ℕ → Input → List ℕ
-printed buffer (Whole size) = listing (take size buffer)
-printed buffer Longer = refusal_line TooLong
-printed buffer Failed = []
+abbrev pub printed : List ℕ → Result ℕ Unread → List ℕ
+printed buffer (Ok size) = listing (take size buffer)
+printed buffer (Err Longer) = refusal_line TooLong
+printed buffer (Err Failed) = []

@@ -9,7 +9,7 @@ ghost use Rattle.listing_text.specs.Lines.{field, refusal_line, counts_line, chu
 ghost use Rattle.listing_input.specs.Within.{Within};
 ghost use Rattle.listing_text.specs.Listing.{listing, printed};
 
-use listing_input::Input;
+use listing_input::Unread;
 use listing_printing::{put_decimal, put_four_digits, put_text};
 use shared_numbers::put_byte;
 use shared_words::Refusal;
@@ -80,11 +80,9 @@ fn put_chunks(row: &[u32], n: usize, at: usize, out: &mut [u8]) -> usize
     ensures within { result ≤ at + 68 * n }
 {
     let mut next = at;
-    let mut i = 0usize;
-    while i < n {
+    for i in 0..n {
         let j = RECORD_NUMBERS * i;
         next = put_chunk(row[j + 3], row[j], row[j + 1], row[j + 2], next, out);
-        i += 1;
     }
     next
 }
@@ -107,15 +105,15 @@ fn put_listing(file: &[u8], out: &mut [u8; ROOM]) -> usize
 }
 
 // What is printed of an input, of which the buffer has the front: put at the front of out. Answers how many bytes it has.
-pub fn answer(buffer: &[u8], input: Input, out: &mut [u8; ROOM]) -> usize
+pub fn answer(buffer: &[u8], input: Result<usize, Unread>, out: &mut [u8; ROOM]) -> usize
     requires { Within buffer.now input }
     ensures text { Put out.old 0 (printed buffer.now input) out.new result }
     ensures within { result ≤ length out.new }
     ensures taken { result ≡ length (take result out.new) }
 {
     match input {
-        Input::Whole(size) => put_listing(&buffer[..size], out),
-        Input::Longer => put_refusal(Refusal::TooLong, 0, out),
-        Input::Failed => 0,
+        Ok(size) => put_listing(&buffer[..size], out),
+        Err(Unread::Longer) => put_refusal(Refusal::TooLong, 0, out),
+        Err(Unread::Failed) => 0,
     }
 }

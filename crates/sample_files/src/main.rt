@@ -11,36 +11,26 @@ use studio_rules::Counts;
 // The bytes of the longest file that is read.
 const LONGEST: usize = 1048576;
 
-fn end_line(rt: &impl Print) -> io::Result<()> {
-    println!(rt)
-}
-
-fn print_field(rt: &impl Print, label: &str, n: usize) -> io::Result<()> {
-    print!(rt; "{label}{n}")
-}
-
-fn print_refusal(rt: &impl Print, r: Refusal) -> io::Result<()> {
-    let number = shared_refusals::number(r);
-    print!(rt; " refused {number}")?;
-    print_field(rt, " ", shared_refusals::place(r))
-}
-
 // The sample's name, and the refusal or the three byte counts.
 fn print_answer(rt: &impl Print, name: &str, answer: Result<Counts, Refusal>) -> io::Result<()> {
-    print!(rt; "{name}")?;
     match answer {
-        Err(r) => print_refusal(rt, r),
+        Err(r) => {
+            let number = shared_refusals::number(r);
+            let place = shared_refusals::place(r);
+            print!(rt; "{name} refused {number} {place}")
+        }
         Ok(counts) => {
-            print_field(rt, " accepted ", counts.headers)?;
-            print_field(rt, " ", counts.own)?;
-            print_field(rt, " ", counts.skipped)
+            let headers = counts.headers;
+            let own = counts.own;
+            let skipped = counts.skipped;
+            print!(rt; "{name} accepted {headers} {own} {skipped}")
         }
     }
 }
 
 fn show(rt: &impl Print, name: &str, answer: Result<Counts, Refusal>) -> io::Result<()> {
     print_answer(rt, name, answer)?;
-    end_line(rt)
+    println!(rt)
 }
 
 // P1 to P7: no mesh.
@@ -110,10 +100,6 @@ fn triangle_samples(rt: &impl Print) -> io::Result<()> {
     show(rt, "P10", studio_check::check(&p10))
 }
 
-fn wide(n: u32) -> usize {
-    n as usize
-}
-
 // P11 and P12: the list. A row of 41 numbers holds five records and a part of a sixth; the offset of the fourth record is
 // number 22.
 fn list_samples(rt: &impl Print) -> io::Result<()> {
@@ -123,29 +109,22 @@ fn list_samples(rt: &impl Print) -> io::Result<()> {
     let p12 = triangle_and_private();
     let mut row = [0u32; 42];
     print_answer(rt, "P12", studio_list::list(&p12, &mut row))?;
-    print_field(rt, " mesh at ", wide(row[22]))?;
-    end_line(rt)
+    let at = row[22];
+    println!(rt; " mesh at {at}")
 }
 
 fn put_header(file: &mut [u8; LONGEST], at: usize, header: &[u8; 6])
     requires { at + 6 ≤ 1048576 }
 {
-    file[at] = header[0];
-    file[at + 1] = header[1];
-    file[at + 2] = header[2];
-    file[at + 3] = header[3];
-    file[at + 4] = header[4];
-    file[at + 5] = header[5];
+    file[at..at + 6].copy_from_slice(header);
 }
 
 // The longest figure allowed: 4D4D, in it 3D3D, in it 174,759 chunks that are a header only and a chunk 8123 of ten bytes.
 fn fill_figure(file: &mut [u8; LONGEST], child: &[u8; 6]) {
     put_header(file, 0, b"\x4D\x4D\x00\x00\x10\x00");
     put_header(file, 6, b"\x3D\x3D\xFA\xFF\x0F\x00");
-    let mut at = 12usize;
-    while at < 1048566 {
-        put_header(file, at, child);
-        at += 6;
+    for i in 0..174759 {
+        put_header(file, 12 + 6 * i, child);
     }
     put_header(file, 1048566, b"\x23\x81\x0A\x00\x00\x00");
 }
@@ -154,11 +133,11 @@ fn fill_figure(file: &mut [u8; LONGEST], child: &[u8; 6]) {
 fn show_counts(rt: &impl Print, name: &str, file: &[u8; LONGEST]) -> io::Result<()> {
     let answer = studio_check::check(file);
     print_answer(rt, name, answer)?;
-    match answer {
-        Ok(counts) => print_field(rt, " records ", counts.records)?,
-        Err(_) => (),
+    if let Ok(counts) = answer {
+        let records = counts.records;
+        print!(rt; " records {records}")?;
     }
-    end_line(rt)
+    println!(rt)
 }
 
 fn show_long(rt: &impl Print, name: &str, child: &[u8; 6]) -> io::Result<()> {

@@ -6,27 +6,11 @@ ghost use Rattle.std.specs.Prelude.{◌≡◌, length};
 use shared_words::Refusal;
 use std::io;
 
-// The upper-case digit of a number below 16.
-fn digit(n: u8) -> u8 {
-    if n < 10 { 48 + n } else { 55 + n % 16 }
-}
-
-fn print_byte(rt: &impl Print, b: u8) -> io::Result<()> {
-    let text = [digit(b / 16), digit(b % 16)];
-    rt.write_all(&text)
-}
-
-fn end_line(rt: &impl Print) -> io::Result<()> {
-    println!(rt)
-}
-
 fn print_line(rt: &impl Print, bytes: &[u8]) -> io::Result<()> {
-    let mut i = 0usize;
-    while i < bytes.len() {
-        print_byte(rt, bytes[i])?;
-        i += 1;
+    for b in bytes {
+        print!(rt; "{b:02X}")?;
     }
-    end_line(rt)
+    println!(rt)
 }
 
 // The six chunks, with the three vertices on lines of their own.
@@ -51,11 +35,10 @@ fn print_refusal(rt: &impl Print, r: Refusal) -> io::Result<()> {
 }
 
 fn main(rt: HostRuntime) -> io::Result<()> {
-    let name = [0x41u8];
     let vertices = [0.0f32, 0.0, 0.0, 1.0, 0.0, 0.0, 0.0, 1.0, 0.0];
     let corners = [0u16, 1, 2];
     let mut out = [0u8; 86];
-    match studio_write::write(&name, &vertices, &corners, &mut out) {
+    match studio_write::write(b"A", &vertices, &corners, &mut out) {
         Ok(_) => print_triangle(&rt, &out),
         Err(r) => print_refusal(&rt, r),
     }
