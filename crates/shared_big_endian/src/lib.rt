@@ -1,4 +1,5 @@
-// Big-endian numbers in a slice, read and written, and single bytes.
+// Big-endian numbers in a slice, read and written, and single bytes. (Each is one call of the library: a function over both sizes
+// would need a trait for its conversions, and be longer than the two.)
 #![tactic(auto)]
 
 ghost use Rattle.std.specs.Prelude.{◌≡◌, ◌+◌, ◌<◌, ◌≤◌, length, get_or};
@@ -19,7 +20,7 @@ pub fn word_at(s: &[u8], at: usize) -> usize
     requires { at + 2 ≤ length s.now }
     ensures { Number 2 s.now at result }
 {
-    256 * byte_at(s, at) + byte_at(s, at + 1)
+    u16::from_be_bytes([s[at], s[at + 1]]) as usize
 }
 
 // The 4-byte number at a position, the highest byte first.
@@ -27,10 +28,7 @@ pub fn long_at(s: &[u8], at: usize) -> usize
     requires { at + 4 ≤ length s.now }
     ensures { Number 4 s.now at result }
 {
-    16777216 * byte_at(s, at)
-        + 65536 * byte_at(s, at + 1)
-        + 256 * byte_at(s, at + 2)
-        + byte_at(s, at + 3)
+    u32::from_be_bytes([s[at], s[at + 1], s[at + 2], s[at + 3]]) as usize
 }
 
 // ---- written
@@ -40,8 +38,7 @@ pub fn put_word(v: u16, at: usize, out: &mut [u8]) -> usize
     requires { at + 2 ≤ length out.old }
     ensures { Put out.old at (be 2 v) out.new result }
 {
-    out[at] = (v / 256) as u8;
-    out[at + 1] = (v % 256) as u8;
+    out[at..at + 2].copy_from_slice(&v.to_be_bytes());
     at + 2
 }
 
@@ -50,6 +47,6 @@ pub fn put_long(v: u32, at: usize, out: &mut [u8]) -> usize
     requires { at + 4 ≤ length out.old }
     ensures { Put out.old at (be 4 v) out.new result }
 {
-    let low = put_word((v / 65536) as u16, at, out);
-    put_word((v % 65536) as u16, low, out)
+    out[at..at + 4].copy_from_slice(&v.to_be_bytes());
+    at + 4
 }

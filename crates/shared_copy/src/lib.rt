@@ -9,12 +9,6 @@ pub fn put_part(s: &[u8], from: usize, n: usize, at: usize, out: &mut [u8]) -> u
     requires { (from + n ≤ length s.now) × (at + n ≤ length out.old) }
     ensures { Put out.old at (take n (drop from s.now)) out.new result }
 {
-    let mut next = at;
-    let mut i = 0usize;
-    while i < n {
-        out[next] = s[from + i];
-        next += 1;
-        i += 1;
-    }
-    next
+    out[at..at + n].copy_from_slice(&s[from..from + n]);
+    at + n
 }

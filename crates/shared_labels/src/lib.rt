@@ -21,17 +21,16 @@ fn all_printable(s: &[u8], at: usize) -> bool
     ensures { result ≡ true → AllPrintable s.now at 16 }
 {
     let mut good = true;
-    let mut i = 0usize;
-    while i < 16 {
+    for i in 0..16 {
         if !is_printable(s[at + i]) {
             good = false;
         }
-        i += 1;
     }
     good
 }
 
 // A position up to which all bytes are printable, sixteen at a time: what is left up to the first bad one is short.
+// (No `for`: where the loop stops is the answer, and a count of blocks would have to be made a position again.)
 fn skip_blocks(s: &[u8], at: usize, end: usize) -> usize
     requires { (at ≤ end) × (end ≤ length s.now) }
     ensures { FitsOn s.now at result end }
@@ -67,14 +66,13 @@ pub fn printable_size(s: &[u8], at: usize, end: usize) -> usize
     requires { (at ≤ end) × (end ≤ length s.now) }
     ensures { result ≡ first_fault printable (slice at end s.now) }
 {
-    let mut i = skip_eights(s, skip_blocks(s, at, end), end);
-    while i < end {
+    let start = skip_eights(s, skip_blocks(s, at, end), end);
+    for i in start..end {
         if !is_printable(s[i]) {
             return i - at;
         }
-        i += 1;
     }
-    i - at
+    end - at
 }
 
 // How many of the bytes from at to end a label takes: as many as there are just where they fit it. No more than 63 are looked

@@ -1,11 +1,9 @@
 -- A set of names as a digital search tree in a row of four numbers a node: where its name begins in a slice, how long that is, and the two
 -- links. The names are those of the first `count` nodes.
-use Rattle.std.specs.Prelude.{◌≡◌, Bool, true, false, not, ◌||◌, cond, List, [], ◌∷◌, ℕ, zero, suc, ◌+◌, ◌*◌, ◌/◌, ◌%◌, ◌<◌, ◌≤◌, get_or, length, take, drop, eqb, ltb}
+use Rattle.std.specs.Prelude.{◌≡◌, Bool, true, false, not, ◌||◌, cond, List, [], ◌∷◌, ℕ, zero, suc, ◌+◌, ◌*◌, ◌/◌, ◌%◌, ◌<◌, ◌≤◌, get_or, length, take, drop, eqb, ltb, Option, Some, None}
 use Rattle.shared_words.specs.Lists.{same}
 use Rattle.shared_tree.specs.Tree.{Way, Tree, Searchable}
 use Rattle.shared_name_tree.specs.declared.Turn.{Turn}
-use Rattle.shared_name_tree.specs.declared.Spot.{Spot}
-use Rattle.shared_name_tree.specs.declared.Spot.TheVariants.{Found, Free}
 
 -- the name of node k
 abbrev pub name_of : List ℕ → List ℕ → ℕ → List ℕ
@@ -67,9 +65,10 @@ pub record Open (names nodes : List ℕ) (count : ℕ) (x : List ℕ) (place : �
   pub a_link : (k : ℕ) → (place ≡ 4 * k → ⊥) × (place ≡ 4 * k + 1 → ⊥)
   pub grows : (nodes' : List ℕ) → Put names nodes count x place nodes' → Searchable way (tree_in names nodes') (count + 1)
 
-abbrev pub Landed : List ℕ → List ℕ → ℕ → List ℕ → Spot → Type 0
-Landed names nodes count x Found = held (name_of names nodes) count x ≡ true
-Landed names nodes count x (Free place) = Open names nodes count x place
+-- where the search for x ended: at x, or at a free link
+abbrev pub Landed : List ℕ → List ℕ → ℕ → List ℕ → Option ℕ → Type 0
+Landed names nodes count x None = held (name_of names nodes) count x ≡ true
+Landed names nodes count x (Some place) = Open names nodes count x place
 
 -- x is added to the names unless it is there
 pub record Grown (names nodes : List ℕ) (count : ℕ) (x : List ℕ) (added : Bool) (nodes' : List ℕ) : Type 0 where

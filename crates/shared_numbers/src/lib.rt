@@ -1,4 +1,5 @@
-// Bytes and little-endian numbers in a slice, read and written, 32-bit floats read, and the test of a float's exponent.
+// Bytes and little-endian numbers in a slice, read and written, 32-bit floats read, and the test of a float's exponent. (A number
+// of each size is one call of the library: a function over both would need a trait for its conversions, and be longer than the two.)
 #![tactic(auto)]
 
 ghost use Rattle.std.specs.Prelude.{◌≡◌, true, [], ◌∷◌, ◌+◌, ◌<◌, ◌≤◌, length, get_or};
@@ -8,19 +9,12 @@ ghost use Rattle.shared_words.specs.Floats.{float};
 ghost use Rattle.shared_numbers.specs.Numbers.{Word, Long, long_at};
 ghost use Rattle.shared_numbers.specs.Put.{Put};
 
-fn byte_at(s: &[u8], at: usize) -> u32
-    requires { at < length s.now }
-    ensures { (result ≡ get_or s.now at 0) × (result < 256) }
-{
-    s[at] as u32
-}
-
 // The 2-byte number at a position.
 pub fn word_at(s: &[u8], at: usize) -> u32
     requires { at + 2 ≤ length s.now }
     ensures { Word s.now at result }
 {
-    byte_at(s, at) + 256 * byte_at(s, at + 1)
+    u16::from_le_bytes([s[at], s[at + 1]]) as u32
 }
 
 // The 4-byte number at a position.
@@ -28,10 +22,7 @@ pub fn long_at(s: &[u8], at: usize) -> u32
     requires { at + 4 ≤ length s.now }
     ensures { Long s.now at result }
 {
-    byte_at(s, at)
-        + 256 * byte_at(s, at + 1)
-        + 65536 * byte_at(s, at + 2)
-        + 16777216 * byte_at(s, at + 3)
+    u32::from_le_bytes([s[at], s[at + 1], s[at + 2], s[at + 3]])
 }
 
 // A 32-bit float, from its highest bit down, in the format's own words (IEEE 754, binary32), in the definition (`exponent`,
@@ -84,8 +75,7 @@ pub fn put_word(v: u16, at: usize, out: &mut [u8]) -> usize
     requires { at + 2 ≤ length out.old }
     ensures { Put out.old at (le 2 v) out.new result }
 {
-    out[at] = (v % 256) as u8;
-    out[at + 1] = (v / 256) as u8;
+    out[at..at + 2].copy_from_slice(&v.to_le_bytes());
     at + 2
 }
 
@@ -94,6 +84,6 @@ pub fn put_long(v: u32, at: usize, out: &mut [u8]) -> usize
     requires { at + 4 ≤ length out.old }
     ensures { Put out.old at (le 4 v) out.new result }
 {
-    let high = put_word((v % 65536) as u16, at, out);
-    put_word((v / 65536) as u16, high, out)
+    out[at..at + 4].copy_from_slice(&v.to_le_bytes());
+    at + 4
 }

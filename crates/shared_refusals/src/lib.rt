@@ -1,4 +1,4 @@
-// A refusal by the table: its number and its place.
+// A refusal by the table: its number and its place. (They are no `From` and no methods: the type stands in a crate below.)
 #![tactic(auto)]
 
 ghost use Rattle.std.specs.Prelude.{◌≡◌};
@@ -51,47 +51,41 @@ pub fn number(r: Refusal) -> u32
     }
 }
 
-// Its place.
+// Its place: the number that a case holds, and 0 for one that holds none.
 pub fn place(r: Refusal) -> usize
     ensures { result ≡ place_of r }
 {
     match r {
-        Refusal::Trailing(p) => p,
-        Refusal::Short(p) => p,
-        Refusal::Overrun(p) => p,
-        Refusal::Stray(p) => p,
-        Refusal::Misplaced(p) => p,
-        Refusal::Twice(p) => p,
-        Refusal::Name(p) => p,
-        Refusal::Length(p) => p,
-        Refusal::Number(p) => p,
-        Refusal::Index(p) => p,
-        Refusal::Count(p) => p,
-        Refusal::Missing(p) => p,
-        Refusal::NoRoom(p) => p,
-        Refusal::NoSuchMesh(p) => p,
-        Refusal::Slip(p) => p,
-        Refusal::Differs(p) => p,
-        Refusal::Owner(p) => p,
-        Refusal::Size(p) => p,
-        Refusal::Father(p) => p,
-        Refusal::Text(p) => p,
-        Refusal::Order(p) => p,
-        Refusal::Combination(p) => p,
-        Refusal::Material(p) => p,
-        Refusal::SameName(p) => p,
-        Refusal::NoMaterial(p) => p,
-        Refusal::Unchecked(p) => p,
-        Refusal::BadFigure(p) => p,
-        Refusal::Unexpected(p) => p,
-        Refusal::Absent(p) => p,
-        Refusal::Changed(p) => p,
-        Refusal::TooLong => 0,
-        Refusal::NotAFigure => 0,
-        Refusal::Empty => 0,
-        Refusal::Header => 0,
-        Refusal::Form => 0,
-        Refusal::Incomplete => 0,
-        Refusal::NoFigure => 0,
+        Refusal::Short(p)
+        | Refusal::Trailing(p)
+        | Refusal::Overrun(p)
+        | Refusal::Stray(p)
+        | Refusal::Misplaced(p)
+        | Refusal::Twice(p)
+        | Refusal::Name(p)
+        | Refusal::Length(p)
+        | Refusal::Number(p)
+        | Refusal::Index(p)
+        | Refusal::Count(p)
+        | Refusal::Missing(p)
+        | Refusal::NoRoom(p)
+        | Refusal::NoSuchMesh(p)
+        | Refusal::Slip(p)
+        | Refusal::Differs(p)
+        | Refusal::Owner(p)
+        | Refusal::Size(p)
+        | Refusal::Father(p)
+        | Refusal::Text(p)
+        | Refusal::Order(p)
+        | Refusal::Combination(p)
+        | Refusal::Material(p)
+        | Refusal::SameName(p)
+        | Refusal::NoMaterial(p)
+        | Refusal::Unchecked(p)
+        | Refusal::BadFigure(p)
+        | Refusal::Unexpected(p)
+        | Refusal::Absent(p)
+        | Refusal::Changed(p) => p,
+        _ => 0,
     }
 }

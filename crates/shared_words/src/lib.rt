@@ -44,4 +44,3 @@ pub enum Refusal {
     NoFigure,
     Changed(usize),
 }
-

@@ -7,4 +7,4 @@ pub returns : goal.returns
 returns c =
     let a = c.args in
     let w = word_is a.s.now a.at (omega arith) in
-    record { is = omega arith; small = omega arith }
+    record { is = omega (arith, c.from_be_bytes.ensures, w); small = omega arith }

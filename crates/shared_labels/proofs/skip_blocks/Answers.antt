@@ -1,13 +1,6 @@
-use Prim.Native.Nat.{◌-◌}
 use native.Mathlib.Omega.{arith}
 use Rattle.shared_labels.proofs.Faults.{fault_past}
 use Rattle.shared_labels.proofs.skip_blocks.Goals as goal
-
-pub loop-i-init : goal.loop-i-init
-loop-i-init c = record { from = omega arith; to = omega arith; on = omega arith }
-
-pub returns-then-not-all_printable : goal.returns-then-not-all_printable
-returns-then-not-all_printable c = c.loop-i.invariant
 
 pub loop-i-preserved : goal.loop-i-preserved
 loop-i-preserved c =
@@ -16,6 +9,3 @@ loop-i-preserved c =
     let r = fault_past x.args.s.now 16 l.i x.args.end (c.all_printable.ensures c.if-not-all_printable.false) (omega arith) x.requires.1 in
     let h = l.invariant in
     record { from = omega arith; to = omega arith; on = omega (arith, h.on, r) }
-
-pub returns : goal.returns
-returns c = c.loop-i.invariant

@@ -6,4 +6,4 @@ use Rattle.shared_numbers.proofs.long_at.Goals as goal
 pub returns : goal.returns
 returns c =
     let a = c.args in
-    record { is = omega (arith, long-bytes a.s.now a.at (omega arith)); small = omega arith }
+    record { is = omega (arith, c.from_le_bytes.ensures, long-bytes a.s.now a.at (omega arith)); small = omega arith }
