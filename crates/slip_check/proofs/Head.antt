@@ -6,6 +6,7 @@ use mathlib.Core.List.{List, [], ◌∷◌}
 use lib.Dec.{eqb, leb}
 use lib.ListN.{length, drop, get_or}
 use borrow.Author.Tests.{leb-true, lt-leb, le-leb, ne_eqb, eq-eqb}
+use Rattle.shared_words.specs.declared.Refusal.{Refusal}
 use Rattle.shared_words.specs.declared.Refusal.TheVariants.{Slip}
 use Rattle.shared_words.specs.Bytes.{be_at}
 use Rattle.shared_words.specs.Conditions.{refused, accepted}
@@ -35,8 +36,8 @@ module _ (s : List ℕ) where
       leb-true (be_at 5 2 s) most_entries (and_parts (leb (be_at 5 2 s) most_entries) true count).0
 
   module _ (n : ℕ) (e : head_good s ≡ true) (q : n ≡ be_at 5 2 s) where
-    pub verdict-bad : (place : ℕ) → walk n [] 7 (drop 7 s) ≡ refused (Slip place) → verdict s ≡ refused (Slip place)
-    verdict-bad place w = verdict-on e ∙ rw (← q, w)
+    pub verdict-bad : (r : Refusal) → walk n [] 7 (drop 7 s) ≡ refused r → verdict s ≡ refused r
+    verdict-bad r w = verdict-on e ∙ rw (← q, w)
 
     pub verdict-good : walk n [] 7 (drop 7 s) ≡ accepted (entries_in n s 7) → verdict s ≡ labelled (accepted (entries_in n s 7))
     verdict-good w = verdict-on e ∙ rw (← q, w)

@@ -51,6 +51,10 @@ pub on-start : (s : List ℕ) (count : ℕ) → Whole count s 7 → On s count c
 on-start s count w = record { whole = w; goes = refl }
 
 module _ (s : List ℕ) (count left o : ℕ) (i : On s count left o) where
+  -- the entry at o is whole
+  pub here : 0 < left → next_at s o ≤ length s
+  here l = whole-first s o left l i.whole
+
   pub on_unfit : 0 < left → is_labelled (entry_in s o) ≡ false → labelled (accepted (entries_in count s 7)) ≡ refused (Text o)
   on_unfit l e = ap (λ (r : Option Refusal). unless r (accepted (entries_in count s 7))) (i.goes ∙ unfit_here s o left l e)
 

@@ -1,6 +1,6 @@
 -- The entries of a slip by their offsets, as the code steps over them; and what its functions promise.
 use Rattle.shared_words.specs.declared.Refusal.{Refusal}
-use Rattle.std.specs.Prelude.{◌≡◌, ℕ, zero, suc, ◌+◌, ◌≤◌, Bool, true, List, [], ◌∷◌, eqb, leb, length, drop, get_or, Result, Ok, Err}
+use Rattle.std.specs.Prelude.{◌≡◌, ℕ, zero, suc, ◌+◌, ◌≤◌, Bool, true, List, [], ◌∷◌, eqb, leb, length, drop, get_or, IfOk, OnOk, Result, Ok, Err}
 use Rattle.shared_words.specs.declared.Refusal.TheVariants.{Slip}
 use Rattle.shared_words.specs.Bytes.{be_at}
 use Rattle.shared_words.specs.Conditions.{refused, accepted}
@@ -9,7 +9,6 @@ use Rattle.slip_rules.specs.Rules.{is_named, sums_proper, not_twice, most_entrie
 use Rattle.slip_rules.specs.Conditions.{all_of}
 use Rattle.slip_rules.specs.Walk.{Entries, entry_at, walk, labelled, verdict}
 use Rattle.slip_seen.specs.Seen.{Seen}
-use Rattle.slip_check.specs.declared.Walked.{Walked}
 
 -- the entry at an offset, and the offset behind it
 abbrev pub entry_in : List ℕ → ℕ → Entry
@@ -54,13 +53,13 @@ pub record GoodEntry (s nodes : List ℕ) (n at : ℕ) (r : Bool) (nodes' : List
   pub seen : r ≡ true → Seen s nodes' (n + 1) (names_in (n + 1) s 7)
   pub room : length nodes' ≡ length nodes
 
-abbrev pub walked_as : Walked → List ℕ → ℕ → Entries
-walked_as (Walked.Bad place) s n = refused (Slip place)
-walked_as Walked.Good s n = accepted (entries_in n s 7)
+abbrev pub walked_as : Result Unit Refusal → List ℕ → ℕ → Entries
+walked_as (Err r) s n = refused r
+walked_as (Ok _) s n = accepted (entries_in n s 7)
 
-pub record Walks (s : List ℕ) (n : ℕ) (r : Walked) : Type 0 where
+pub record Walks (s : List ℕ) (n : ℕ) (r : Result Unit Refusal) : Type 0 where
   pub is : walk n [] 7 (drop 7 s) ≡ walked_as r s n
-  pub whole : r ≡ Walked.Good → Whole n s 7
+  pub whole : OnOk r (Whole n s 7)
 
 -- the conditions of the first seven bytes, as one test
 unfoldable pub head_good : List ℕ → Bool
@@ -74,9 +73,9 @@ answer_as (Ok n) s = accepted (entries_in n s 7)
 -- of n entries that were read, by their names
 pub record Labels (s : List ℕ) (n : ℕ) (r : Result ℕ Refusal) : Type 0 where
   pub is : labelled (accepted (entries_in n s 7)) ≡ answer_as r s
-  pub count : (k : ℕ) → r ≡ Ok k → k ≡ n
+  pub count : IfOk r (λ k. k ≡ n)
 
 pub record Checks (s : List ℕ) (r : Result ℕ Refusal) : Type 0 where
   pub is : verdict s ≡ answer_as r s
-  pub whole : (n : ℕ) → r ≡ Ok n → Whole n s 7
-  pub few : (n : ℕ) → r ≡ Ok n → n ≤ most_entries
+  pub whole : IfOk r (λ n. Whole n s 7)
+  pub few : IfOk r (λ n. n ≤ most_entries)

@@ -11,13 +11,6 @@ use shared_labels::fits_label;
 use shared_name_tree::add;
 use shared_words::Refusal;
 
-// What the walk over the entries answers: the place of refusal 18, or that there is none.
-#[derive(Clone, Copy)]
-enum Walked {
-    Bad(usize),
-    Good,
-}
-
 // Whether the entry behind the first n is whole and meets the rules of refusal 18. Its name is then among those that were met.
 fn is_good(s: &[u8], n: usize, at: usize, nodes: &mut [u32]) -> bool
     requires { Reached s.now n at × Seen s.now nodes.old n (names_in n s.now 7) × (4 * n + 4 ≤ length nodes.old) × (n < 1000) }
@@ -45,23 +38,21 @@ fn is_good(s: &[u8], n: usize, at: usize, nodes: &mut [u32]) -> bool
 }
 
 // The walk over the entries.
-fn walk_entries(s: &[u8], count: usize, nodes: &mut [u32]) -> Walked
+fn walk_entries(s: &[u8], count: usize, nodes: &mut [u32]) -> Result<(), Refusal>
     requires { (7 ≤ length s.now) × (count ≤ 1000) × Holds s.now nodes.old 0 × (4 * count ≤ length nodes.old) }
     ensures { Walks s.now count result }
 {
-    let mut n = 0usize;
     let mut at = 7usize;
-    while n < count {
+    for n in 0..count {
         if !is_good(s, n, at, nodes) {
-            return Walked::Bad(at);
+            return Err(Refusal::Slip(at));
         }
         at += 7 + byte_at(s, at);
-        n += 1;
     }
     if at < s.len() {
-        return Walked::Bad(at);
+        return Err(Refusal::Slip(at));
     }
-    Walked::Good
+    Ok(())
 }
 
 // The names of the entries, which are whole: where the first stands that does not fit the label, or how many there are.
@@ -69,15 +60,13 @@ fn judge_labels(s: &[u8], count: usize) -> Result<usize, Refusal>
     requires { Whole count s.now 7 }
     ensures { Labels s.now count result }
 {
-    let mut left = count;
     let mut o = 7usize;
-    while 0 < left {
+    for _ in 0..count {
         let len = byte_at(s, o);
         if !fits_label(s, o + 1, o + 1 + len) {
             return Err(Refusal::Text(o));
         }
         o += 7 + len;
-        left -= 1;
     }
     Ok(count)
 }
@@ -109,8 +98,6 @@ pub fn check(s: &[u8]) -> Result<usize, Refusal>
     }
     let count = word_at(s, 5);
     let mut nodes = [0u32; 4000];
-    match walk_entries(s, count, &mut nodes) {
-        Walked::Bad(place) => Err(Refusal::Slip(place)),
-        Walked::Good => judge_labels(s, count),
-    }
+    walk_entries(s, count, &mut nodes)?;
+    judge_labels(s, count)
 }

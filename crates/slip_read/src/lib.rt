@@ -33,13 +33,11 @@ fn fill(s: &[u8], count: usize, row: &mut [u8])
     requires { Whole count s.now 7 × (count ≤ most_entries) × (16 * count ≤ length row.old) }
     ensures { row.new ≡ sets row.old 0 (byte_row.encode (all_numbers 7 (entries_in count s.now 7))) }
 {
-    let mut left = count;
     let mut o = 7usize;
     let mut at = 0usize;
-    while 0 < left {
+    for _ in 0..count {
         at = put_entry(s, o, at, row);
         o += 7 + byte_at(s, o);
-        left -= 1;
     }
 }
 
@@ -49,14 +47,10 @@ pub fn read(slip: &[u8], row: &mut [u8]) -> Result<usize, Refusal>
     ensures answer { result ≡ (slip_read_call byte_row slip.now row.old).answer }
     ensures row { row.new ≡ (slip_read_call byte_row slip.now row.old).rows }
 {
-    match check(slip) {
-        Err(r) => Err(r),
-        Ok(n) => {
-            if row.len() / 16 < n {
-                return Err(Refusal::NoRoom(n));
-            }
-            fill(slip, n, row);
-            Ok(n)
-        }
+    let n = check(slip)?;
+    if row.len() / 16 < n {
+        return Err(Refusal::NoRoom(n));
     }
+    fill(slip, n, row);
+    Ok(n)
 }

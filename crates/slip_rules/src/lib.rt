@@ -12,4 +12,3 @@ pub struct Numbers {
     pub file: u32,
     pub sums: u32,
 }
-

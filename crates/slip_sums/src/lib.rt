@@ -34,14 +34,12 @@ fn block_totals(s: &[u8]) -> Totals
     let mut first = 0u16;
     let mut high = 0u16;
     let mut low = 0u16;
-    let mut i = 0usize;
-    while i < 128 {
+    for i in 0..128usize {
         let b = s[i] as u16;
         let counted = b * ((128 - i) as u16);
         first += b;
         high += counted / 256;
         low += counted % 256;
-        i += 1;
     }
     Totals {
         first: first as u64,
@@ -56,11 +54,9 @@ fn rest_totals(s: &[u8]) -> Totals
 {
     let mut first = 0u64;
     let mut second = 0u64;
-    let mut i = 0usize;
-    while i < s.len() {
-        first += s[i] as u64;
+    for b in s {
+        first += *b as u64;
         second += first;
-        i += 1;
     }
     Totals { first, second }
 }
@@ -71,16 +67,16 @@ pub fn sums(file: &[u8]) -> Sum
 {
     let mut first = 0u64;
     let mut second = 0u64;
-    let mut at = 0usize;
-    while 128 <= file.len() - at {
-        let end = at + 128;
-        let block = block_totals(&file[at..end]);
+    let blocks = file.len() / 128;
+    for k in 0..blocks {
+        let at = 128 * k;
+        let block = block_totals(&file[at..at + 128]);
         second = (second + 128 * first + block.second) % 255;
         first = (first + block.first) % 255;
-        at = end;
     }
-    let left = (file.len() - at) as u64;
-    let rest = rest_totals(&file[at..]);
+    let end = 128 * blocks;
+    let left = (file.len() - end) as u64;
+    let rest = rest_totals(&file[end..]);
     Sum {
         len: file.len() as u64,
         first: (first + rest.first) % 255,

@@ -12,9 +12,9 @@ ghost use Rattle.slip_write.specs.Ready.{Fitting, Ready};
 use shared_big_endian::{put_long, put_word};
 use shared_copy::put_part;
 use shared_numbers::put_byte;
+use shared_words::Refusal;
 use slip_rules::Numbers;
 use slip_write_judge::{judge, row};
-use shared_words::Refusal;
 
 // One entry.
 fn put_entry(names: &[u8], it: Numbers, at: usize, out: &mut [u8]) -> usize
@@ -36,10 +36,8 @@ fn put_entries(names: &[u8], entries: &[u8], at: usize, out: &mut [u8]) -> usize
 {
     let n = entries.len() / 16;
     let mut next = at;
-    let mut i = 0usize;
-    while i < n {
+    for i in 0..n {
         next = put_entry(names, row(entries, i), next, out);
-        i += 1;
     }
     next
 }
@@ -61,11 +59,7 @@ pub fn write(names: &[u8], entries: &[u8], out: &mut [u8]) -> Result<usize, Refu
     ensures answer { result ≡ (slip_write_call names.now (given_bytes entries.now) out.old).answer }
     ensures out { out.new ≡ (slip_write_call names.now (given_bytes entries.now) out.old).rows }
 {
-    match judge(names, entries, out.len()) {
-        Err(r) => Err(r),
-        Ok(size) => {
-            put_slip(names, entries, size, out);
-            Ok(size)
-        }
-    }
+    let size = judge(names, entries, out.len())?;
+    put_slip(names, entries, size, out);
+    Ok(size)
 }

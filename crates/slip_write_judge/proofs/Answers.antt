@@ -8,6 +8,7 @@ use mathlib.Core.List.{List, [], ◌∷◌}
 use lib.Dec.{leb}
 use lib.ListN.{length, drop}
 use borrow.Author.Tests.{eq-eqb, ne_eqb, le-leb, lt-leb}
+use Rattle.shared_words.specs.declared.Refusal.{Refusal}
 use Rattle.shared_words.specs.declared.Refusal.TheVariants.{Slip, NoRoom, Text}
 use Rattle.shared_words.specs.Lists.{first_fault}
 use Rattle.shared_words.specs.Conditions.{Condition, must, broken}
@@ -17,7 +18,6 @@ use Rattle.slip_rules.specs.Rules.{is_labelled}
 use Rattle.slip_rules.specs.Conditions.{label_conditions}
 use Rattle.slip_rules.specs.Calls.{entries_from, rows_in, given_bytes, one_on}
 use Rattle.slip_rules.proofs.Given.{length-entries}
-use Rattle.slip_write_judge.specs.declared.Judged.{Judged}
 use Rattle.slip_write_judge.specs.Rows.{rows_from}
 use Rattle.slip_write_judge.specs.Judged.{size_unless, judged, AllGood, JudgesRows}
 use Rattle.slip_write_judge.proofs.Judging.{given-rows}
@@ -28,9 +28,9 @@ length-rows zero s = refl
 length-rows (suc k) s = ap suc (length-rows k (drop 16 s))
 
 module _ (names s : List ℕ) (room : ℕ) where
-  pub judged-bad : (i : ℕ) → JudgesRows names s (Judged.Bad i) → judged names (given_bytes s) room ≡ Err (Slip i)
+  pub judged-bad : (r : Refusal) → JudgesRows names s (Err r) → judged names (given_bytes s) room ≡ Err r
   unfolding judged
-  judged-bad i h = ap (size_unless (length (bytes (entries_from names (given_bytes s).rows)))) (h _)
+  judged-bad r h = ap (size_unless (length (bytes (entries_from names (given_bytes s).rows)))) (h _)
 
   abbrev entries : List Entry
   entries = entries_from names (given_bytes s).rows

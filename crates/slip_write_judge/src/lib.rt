@@ -17,13 +17,6 @@ use shared_numbers::long_at;
 use shared_words::Refusal;
 use slip_rules::Numbers;
 
-// What the judgement of the rows alone answers: the number of the first bad one, or the size of the slip.
-#[derive(Clone, Copy)]
-enum Judged {
-    Bad(usize),
-    Good(usize),
-}
-
 // The row of number i.
 pub fn row(entries: &[u8], i: usize) -> Numbers
     requires { 16 * i + 16 ≤ length entries.now }
@@ -66,22 +59,20 @@ fn is_good(names: &[u8], entries: &[u8], i: usize, nodes: &mut [u32]) -> bool
     add(names, nodes, i, it.name as usize, it.len as usize)
 }
 
-// The judgement of the rows.
-fn judge_rows(names: &[u8], entries: &[u8], nodes: &mut [u32]) -> Judged
+// The judgement of the rows alone: the size of the slip, or the refusal of the first bad one.
+fn judge_rows(names: &[u8], entries: &[u8], nodes: &mut [u32]) -> Result<usize, Refusal>
     requires { Holds names.now nodes.old 0 × (4000 ≤ length nodes.old) }
     ensures { JudgesRows names.now entries.now result }
 {
     let n = entries.len() / 16;
     let mut size = 7usize;
-    let mut i = 0usize;
-    while i < n {
+    for i in 0..n {
         if !is_good(names, entries, i, nodes) {
-            return Judged::Bad(i);
+            return Err(Refusal::Slip(i));
         }
         size += 7 + row(entries, i).len as usize;
-        i += 1;
     }
-    Judged::Good(size)
+    Ok(size)
 }
 
 // The number of the first of n rows whose name does not fit the label; where all do, n.
@@ -89,16 +80,14 @@ fn first_unfit(names: &[u8], entries: &[u8], n: usize) -> usize
     requires { (16 * n ≤ length entries.now) × AllInside names.now entries.now n }
     ensures { result ≡ first_fault is_labelled (entries_from names.now (rows_from n entries.now 0)) }
 {
-    let mut i = 0usize;
-    while i < n {
+    for i in 0..n {
         let it = row(entries, i);
         let at = it.name as usize;
         if !fits_label(names, at, at + it.len as usize) {
             return i;
         }
-        i += 1;
     }
-    i
+    n
 }
 
 // The judgement of all, for a buffer of `room` bytes.
@@ -106,21 +95,17 @@ pub fn judge(names: &[u8], entries: &[u8], room: usize) -> Result<usize, Refusal
     ensures { result ≡ judged names.now (given_bytes entries.now) room }
 {
     let mut nodes = [0u32; 4000];
-    match judge_rows(names, entries, &mut nodes) {
-        Judged::Bad(i) => Err(Refusal::Slip(i)),
-        Judged::Good(size) => {
-            if entries.len() % 16 != 0 {
-                return Err(Refusal::Slip(entries.len() / 16));
-            }
-            let n = entries.len() / 16;
-            let unfit = first_unfit(names, entries, n);
-            if unfit < n {
-                return Err(Refusal::Text(unfit));
-            }
-            if room < size {
-                return Err(Refusal::NoRoom(size));
-            }
-            Ok(size)
-        }
+    let size = judge_rows(names, entries, &mut nodes)?;
+    let n = entries.len() / 16;
+    if entries.len() % 16 != 0 {
+        return Err(Refusal::Slip(n));
     }
+    let unfit = first_unfit(names, entries, n);
+    if unfit < n {
+        return Err(Refusal::Text(unfit));
+    }
+    if room < size {
+        return Err(Refusal::NoRoom(size));
+    }
+    Ok(size)
 }

@@ -22,10 +22,10 @@ pub right_length : (item item' out : List ℕ) → length item ≡ 56 → out �
 right_length item item' out h e = let z = eq-eqb (length item) 56 h in (rw z, rw z e)
 
 pub file-numbers : (path : List ℕ) (size : ℕ) (s : List ℕ) (checksum reader answer : ℕ) → checksum ≡ with_part_number 0 s →
-    reader ≡ format_of (take (length path) (drop 0 path)) → answer ≡ answer_of reader s →
+    reader ≡ format_of path → answer ≡ answer_of reader s →
     1 ∷ size ∷ checksum ∷ reader ∷ answer ∷ [] ≡ file_numbers path size s
 file-numbers path size s checksum reader answer a b c =
-    let r : reader ≡ format_of path = b ∙ ap format_of (take_all (length path) path (omega arith)) in
+    let r : reader ≡ format_of path = b in
     let d : answer ≡ answer_of (format_of path) s = c ∙ ap (λ (x : ℕ). answer_of x s) r in
     rw (a, r, d)
 

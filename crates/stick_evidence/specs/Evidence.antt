@@ -6,9 +6,7 @@ use Rattle.shared_words.specs.Effects.{Effect, leaving}
 use Rattle.studio_rules.specs.Calls.{check_call}
 use Rattle.cob_rules.specs.Calls.{check_call as cob_check_call}
 use Rattle.c4d_rules.specs.Calls.{c4d_check_call}
-use Rattle.c_codes.specs.Codes.{refusal_code, records_or}
-use Rattle.c_cob.specs.Codes.{count_or}
-use Rattle.c_c4d.specs.Codes.{objects_or}
+use Rattle.c_codes.specs.Codes.{refusal_code, records_or, count_or}
 use Rattle.c_sums.specs.Numbers.{with_part_number}
 use Rattle.stick_rules.specs.Names.{format_of}
 use Rattle.stick_rules.specs.Records.{record_size, eight_at}
@@ -18,7 +16,7 @@ abbrev pub answer_of : ℕ → List ℕ → ℕ
 answer_of reader s =
     cond (eqb reader 1) (records_or (check_call s)) (
     cond (eqb reader 2) (count_or (cob_check_call s)) (
-    cond (eqb reader 3) (objects_or (c4d_check_call s)) 0))
+    cond (eqb reader 3) (count_or (c4d_check_call s)) 0))
 
 -- ---- a file: its kind, the size that the system told, the sum of its bytes, its reader by its ending, and what that answers
 

@@ -6,9 +6,8 @@ ghost use Rattle.shared_words.specs.Bytes.{le};
 ghost use Rattle.shared_numbers.specs.Put.{Put};
 ghost use Rattle.stick_evidence.specs.Evidence.{answer_of, too_long, is_more, ending, file_call, more_call};
 
-use c_codes::{checked_code, refusal_code};
+use c_codes::{checked_code, count_code, refusal_code};
 use c_sums::sum_add;
-use shared_numbers::put_long;
 use shared_words::Refusal;
 use stick_names::format_of;
 use stick_records::eight_at;
@@ -20,8 +19,8 @@ fn put_eight(v: u64, at: usize, out: &mut [u8]) -> usize
     requires { at + 8 ≤ length out.old }
     ensures { Put out.old at (le 8 v) out.new result }
 {
-    let high = put_long((v % 4294967296) as u32, at, out);
-    put_long((v / 4294967296) as u32, high, out)
+    out[at..at + 8].copy_from_slice(&v.to_le_bytes());
+    at + 8
 }
 
 // The numbers from a position of out to its end.
@@ -30,10 +29,8 @@ fn put_numbers(numbers: &[u64], at: usize, out: &mut [u8])
     ensures { out.new ≡ ending out.old at numbers.now }
 {
     let mut next = at;
-    let mut i = 0usize;
-    while i < numbers.len() {
-        next = put_eight(numbers[i], next, out);
-        i += 1;
+    for number in numbers {
+        next = put_eight(*number, next, out);
     }
 }
 
@@ -43,16 +40,12 @@ fn put_numbers(numbers: &[u64], at: usize, out: &mut [u8])
 fn answer_of(reader: u64, bytes: &[u8]) -> u64
     ensures { result ≡ answer_of reader bytes.now }
 {
-    if reader == 1 {
-        return checked_code(studio_check::check(bytes));
+    match reader {
+        1 => checked_code(studio_check::check(bytes)),
+        2 => count_code(cob_check::check(bytes)),
+        3 => count_code(c4d_check::check(bytes)),
+        _ => 0,
     }
-    if reader == 2 {
-        return c_cob::answered_code(cob_check::check(bytes));
-    }
-    if reader == 3 {
-        return c_c4d::found_code(c4d_check::check(bytes));
-    }
-    0
 }
 
 // Fills the record of a file from its path, the size that the system told, and its bytes.
@@ -64,7 +57,7 @@ pub fn file(path: &[u8], size: u64, bytes: &[u8], item: &mut [u8]) -> u64
         return refusal_code(Refusal::NoRoom(56));
     }
     let checksum = sum_add(0, bytes);
-    let reader = format_of(path, 0, path.len());
+    let reader = format_of(path);
     let answer = answer_of(reader, bytes);
     let five = [1, size, checksum, reader, answer];
     put_numbers(&five, 16, item);
@@ -77,13 +70,11 @@ pub fn file(path: &[u8], size: u64, bytes: &[u8], item: &mut [u8]) -> u64
 fn more_answer(reader: u64, part: &[u8], answer: u64) -> u64
     ensures { result ≡ cond (is_more reader part.now) too_long answer }
 {
-    if reader == 0 {
-        return answer;
+    if reader == 0 || part.is_empty() {
+        answer
+    } else {
+        4294967296
     }
-    if part.len() == 0 {
-        return answer;
-    }
-    4294967296
 }
 
 // Goes on in the record of a file with a further part of its bytes.

@@ -6,14 +6,20 @@ use Prim.Native.Nat.{ℕ, ◌+◌, ◌-◌, ◌<◌, ◌≤◌}
 use native.Mathlib.Numerals.{add-one}
 use native.Mathlib.Omega.{arith}
 use lib.Dec.{eqb}
-use lib.ListN.{length, get_or, set, length-set}
+use lib.ListN.{length, take, drop, get_or, set, length-set}
 use lib.Seq.{get_or-set_same, get_or-set_other}
 use borrow.Author.Tests.{eqb-true, eqb-false}
 use Rattle.slip_check.specs.Entries.{entry_in, next_at, after, Whole}
 use Rattle.slip_check.proofs.Walks.{after_more}
-use Rattle.slip_check.proofs.Names.{whole-first, whole-on}
+use Rattle.slip_check.proofs.Names.{name-is, whole-first, whole-on}
 use Rattle.stick_names.specs.Digest.{digest_of}
 use Rattle.stick_judge.specs.Judging.{Digested}
+
+-- the part of a slip that is read as a name
+pub name_part : (s : List ℕ) (o n : ℕ) → n ≡ get_or s o 0 → take (o + 1 + n - (o + 1)) (drop (o + 1) s) ≡ (entry_in s o).name
+name_part s o n e =
+    let z : o + 1 + n - (o + 1) ≡ get_or s o 0 = omega arith in
+    rw z (sym (name-is s o))
 
 module _ (slip : List ℕ) (entries : ℕ) (digests₀ : List ℕ) where
   -- those of the first k entries stand there, and o is the offset behind them

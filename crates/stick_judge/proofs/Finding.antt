@@ -24,7 +24,7 @@ use Rattle.stick_rules.specs.Names.{lower, equal_ignoring_case, is_inside, belon
 use Rattle.stick_rules.specs.Items.{has_length_of, has_sums_of}
 use Rattle.stick_rules.specs.Judge.{slip_entry, manifest, entry_index, entry_of, entry_is}
 use Rattle.stick_judge.specs.declared.Sought.{Sought}
-use Rattle.stick_judge.specs.Judging.{Is, Finds}
+use Rattle.stick_judge.specs.Judging.{Is, FindsEntry}
 
 -- the first entry is that of the path, or it is looked for in the rest
 module _ (e : Entry) (es : List Entry) (path : List ℕ) where
@@ -45,12 +45,13 @@ module _ (e : Entry) (es : List Entry) (path : List ℕ) where
   entry-later file f h = let a : equal_ignoring_case e.name path ≡ false = rw f at h in rw a
 
 -- what is found where the entry of the path is e
-finds : (file : Bool) (all : List Entry) (path : List ℕ) (e : Entry) (n : ℕ) (r : Sought) → Is e n r → n ≡ entry_index file all path →
-    (file ≡ true → entry_of all path ≡ some e) → Finds file all path r
-finds file all path e n r i p q = record {
+finds : (file : Bool) (all : List Entry) (path : List ℕ) (e : Entry) (n : ℕ) (r : Sought) → Is e n r → n < length all → n ≡ entry_index file all path →
+    (file ≡ true → entry_of all path ≡ some e) → FindsEntry file all path r
+finds file all path e n r i l p q = record {
+  within = omega (arith, i.numbered);
   numbered = i.numbered ∙ p;
-  long = λ f l t. ap (λ (o : Option Entry). entry_is has_length_of o t) (q f) ∙ rw i.file-is;
-  summed = λ f l t. ap (λ (o : Option Entry). entry_is has_sums_of o t) (q f) ∙ rw i.sums_is;
+  long = λ f t. ap (λ (o : Option Entry). entry_is has_length_of o t) (q f) ∙ rw i.file-is;
+  summed = λ f t. ap (λ (o : Option Entry). entry_is has_sums_of o t) (q f) ∙ rw i.sums_is;
 }
 
 -- ---- the search: the k entries before offset o do not belong to the path
@@ -66,9 +67,13 @@ module _ (file : Bool) (slip path : List ℕ) (entries : ℕ) where
     pub placed : entry_index file all path ≡ k + 1 + entry_index file (entries_in (entries - k) slip o) path
     pub entered : file ≡ true → entry_of all path ≡ entry_of (entries_in (entries - k) slip o) path
 
-  pub seeks_own : (r : Sought) → belongs file slip_name path ≡ true → Is (slip_entry slip) 0 r → Finds file all path r
+  length_in : (n o : ℕ) → length (entries_in n slip o) ≡ n
+  length_in zero o = refl
+  length_in (suc n) o = ap suc (length_in n (next_at slip o))
+
+  pub seeks_own : (r : Sought) → belongs file slip_name path ≡ true → Is (slip_entry slip) 0 r → FindsEntry file all path r
   seeks_own r h i =
-      finds file all path (slip_entry slip) 0 r i (sym (place_here (slip_entry slip) (entries_in entries slip 7) path file h))
+      finds file all path (slip_entry slip) 0 r i (omega arith) (sym (place_here (slip_entry slip) (entries_in entries slip 7) path file h))
       (λ f. entry_here (slip_entry slip) (entries_in entries slip 7) path file f h)
 
   pub seeks_start : belongs file slip_name path ≡ false → Whole entries slip 7 → Seeks 0 7
@@ -102,9 +107,9 @@ module _ (file : Bool) (slip path : List ℕ) (entries : ℕ) where
     entered_here : file ≡ true → entry_of all path ≡ entry_of (entry_in slip o ∷ others) path
     entered_here f = s.entered f ∙ ap (λ (x : List Entry). entry_of x path) split
 
-    pub seeks_found : (r : Sought) → belongs file (entry_in slip o).name path ≡ true → Is (entry_in slip o) (k + 1) r → Finds file all path r
+    pub seeks_found : (r : Sought) → belongs file (entry_in slip o).name path ≡ true → Is (entry_in slip o) (k + 1) r → FindsEntry file all path r
     seeks_found r h i =
-        finds file all path (entry_in slip o) (k + 1) r i (omega (arith, placed-here, place_here (entry_in slip o) others path file h))
+        finds file all path (entry_in slip o) (k + 1) r i (omega (arith, length_in entries 7)) (omega (arith, placed-here, place_here (entry_in slip o) others path file h))
         (λ f. entered_here f ∙ entry_here (entry_in slip o) others path file f h)
 
     pub seeks_on : belongs file (entry_in slip o).name path ≡ false → Seeks (k + 1) (next_at slip o)
@@ -118,20 +123,12 @@ module _ (file : Bool) (slip path : List ℕ) (entries : ℕ) where
           entered = λ f. rw z (entered_here f ∙ entry-later (entry_in slip o) others path file f h);
         }
 
-  length_in : (n o : ℕ) → length (entries_in n slip o) ≡ n
-  length_in zero o = refl
-  length_in (suc n) o = ap suc (length_in n (next_at slip o))
-
-  pub seeks_end : (k o : ℕ) (r : Sought) → Seeks k o → entries ≤ k → r.number ≡ entries + 1 → Finds file all path r
+  pub seeks_end : (k o : ℕ) → Seeks k o → entries ≤ k → length all ≡ entry_index file all path
   unfolding entry_index
-  seeks_end k o r s l n =
+  seeks_end k o s l =
       let z : entries - k ≡ 0 = omega arith in
       let p : entry_index file all path ≡ k + 1 + 0 = rw z at s.placed in
-      record {
-        numbered = omega (arith, p, s.few);
-        long = λ f m t. absurd (omega (arith, length_in entries 7));
-        summed = λ f m t. absurd (omega (arith, length_in entries 7));
-      }
+      omega (arith, p, s.few, length_in entries 7)
 
 -- no file stands in the slip
 

@@ -22,7 +22,7 @@ use Rattle.stick_rules.specs.Items.{Item, is_file, is_folder, is_short, is_liste
 use Rattle.stick_rules.specs.Judge.{manifest, entry_index, Target, is_target, is_matched, is_no_entry, item_conditions}
 use Rattle.stick_rules.specs.Records.{seen, item_of}
 use Rattle.stick_judge.specs.declared.Sought.{Sought}
-use Rattle.stick_judge.specs.Judging.{Finds, evidence, Flags, JudgesItem}
+use Rattle.stick_judge.specs.Judging.{FindsEntry, evidence, Flags, JudgesItem}
 
 length_in : (slip : List ℕ) (n o : ℕ) → length (entries_in n slip o) ≡ n
 length_in slip zero o = refl
@@ -99,19 +99,19 @@ module _ (es : List Entry) (n : ℕ) (t : Item) (flags : List ℕ) where
                 record { is = rw (f, z, o, a); marks = never (Unexpected n) };
           }
 
-      pub file-judged : (s : Sought) (r : Result Unit Refusal) → Finds true es t.path s → s.number < length es → 64 * s.number + 0 < length flags →
+      pub file-judged : (s : Sought) (r : Result Unit Refusal) → FindsEntry true es t.path s → 64 * s.number + 0 < length flags →
           get_or flags (64 * s.number + 0) 0 ≡ 0 → r ≡ answered (evidence n s.file s.sums t) →
           JudgesItem es n t flags r (set flags (64 * s.number + 0) 1)
       unfolding item_conditions answered broken
-      file-judged s r d l p g q =
-          let o = lt-ltb s.number (length es) l in
+      file-judged s r d p g q =
+          let o = lt-ltb s.number (length es) d.within in
           let e = d.numbered in
           record {
             long = length-set flags (64 * s.number + 0) 1;
             judges = λ matched m.
                 let a = flag_unset flags matched m s.number 0 (omega arith) p g in
                 record {
-                  is = q ∙ rw (f, z, ← e, o, a, d.long refl l t, d.summed refl l t);
+                  is = q ∙ rw (f, z, ← e, o, a, d.long refl t, d.summed refl t);
                   marks = λ _. rw (f, ← e) (marks-more flags matched (record { entry = s.number; up_to = 0 }) (omega arith) p m);
                 };
           }
@@ -195,7 +195,7 @@ module _ (slip names : List ℕ) (entries : ℕ) (it : ItemRecord) (n : ℕ) (fl
     pub no-entry : is_no_entry es t ≡ true
     pub room : 64 * entries + 64 ≤ length flags
 
-  module _ (g : Leading) (r : Sought) (d : Finds false es t.path r) where
+  module _ (g : Leading) where
     long : length t.path ≡ it.len
     long = part_length names it.name it.len g.within
 
@@ -211,20 +211,19 @@ module _ (slip names : List ℕ) (entries : ℕ) (it : ItemRecord) (n : ℕ) (fl
     is-short : is_short t ≡ true
     is-short = lt-ltb (length t.path) 64 (omega (arith, long, g.short))
 
-    pub leads_nowhere : entries < r.number → Stops es n t flags (Unexpected n)
+    pub leads_nowhere : length es ≡ entry_index false es t.path → Stops es n t flags (Unexpected n)
     leads_nowhere l =
-        folder_off es n t flags no-file folder-is has_path_lem is-short g.no-entry
-        (le-ltb (entry_index false es t.path) (length es) (omega (arith, length_expected slip entries, d.numbered)))
+        folder_off es n t flags no-file folder-is has_path_lem is-short g.no-entry (le-ltb (entry_index false es t.path) (length es) (omega (arith, l)))
 
-    module _ (l : r.number ≤ entries) where
+    module _ (r : Sought) (d : FindsEntry false es t.path r) where
       leads : ltb (entry_index false es t.path) (length es) ≡ true
-      leads = lt-ltb (entry_index false es t.path) (length es) (omega (arith, length_expected slip entries, d.numbered))
+      leads = lt-ltb (entry_index false es t.path) (length es) (omega (arith, d.within, d.numbered))
 
       flag_is : 64 * r.number + it.len ≡ 64 * entry_index false es t.path + length t.path
       flag_is = omega (arith, d.numbered, long)
 
       flag_within : 64 * entry_index false es t.path + length t.path < length flags
-      flag_within = omega (arith, d.numbered, long, g.short, g.room)
+      flag_within = omega (arith, length_expected slip entries, d.within, d.numbered, long, g.short, g.room)
 
       pub leads_again : (get_or flags (64 * r.number + it.len) 0 ≡ 0 → ⊥) → Stops es n t flags (Unexpected n)
       leads_again f = folder-again es n t flags no-file folder-is has_path_lem is-short g.no-entry leads flag_within (rw flag_is at f)

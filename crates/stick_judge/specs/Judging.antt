@@ -1,12 +1,13 @@
 -- What the functions of the judge promise.
 use Rattle.shared_words.specs.declared.Refusal.{Refusal}
-use Rattle.std.specs.Prelude.{◌≡◌, Bool, true, not, ℕ, ◌+◌, ◌*◌, ◌%◌, ◌<◌, ◌≤◌, eqb, length, get_or, Result, Ok}
+use Rattle.std.specs.Prelude.{◌≡◌, Bool, true, not, ℕ, zero, suc, ◌+◌, ◌*◌, ◌%◌, ◌<◌, ◌≤◌, eqb, length, get_or, Option, Some, None, Result, Ok}
+use denote.Struct.Props as logic
 use mathlib.Core.List.{List, [], ◌∷◌, ◌++◌, tail}
 use Rattle.slip_rules.specs.Slip.{Entry}
 use Rattle.shared_words.specs.declared.Refusal.TheVariants.{Unchecked, Changed, BadFigure}
 use Rattle.shared_words.specs.Conditions.{Condition, must, answered}
 use Rattle.stick_rules.specs.Items.{Item, sums_of, has_length_of, has_sums_of, is_read, has_own_reader, is_accepted}
-use Rattle.slip_check.specs.Entries.{entry_in, after, Whole}
+use Rattle.slip_check.specs.Entries.{entry_in, next_at, after, Whole}
 use Rattle.stick_names.specs.Digest.{digest_of}
 use Rattle.stick_rules.specs.Judge.{entry_index, entry_of, entry_is, Target, is_matched, item_conditions, matching}
 use Rattle.stick_rules.specs.Judge.{items_conditions, matched_by, entry_conditions, rest_conditions}
@@ -23,6 +24,14 @@ pub record Indexed (slip : List ℕ) (entries : ℕ) (digests : List ℕ) : Type
   pub room : entries ≤ length digests
   pub digested : Digested slip entries digests
 
+-- there is one proof of it at most, so it may be a ghost field
+whole_prop : (n : ℕ) (slip : List ℕ) (o : ℕ) → IsProp (Whole n slip o)
+whole_prop zero slip o = Prim.hlevel logic.props
+whole_prop (suc n) slip o = Prim.hlevel (whole_prop n slip (next_at slip o), logic.props)
+
+pub indexed-prop : (slip : List ℕ) (n : ℕ) (digests : List ℕ) → IsProp (Indexed slip n digests)
+indexed-prop slip n digests = Prim.hlevel (whole_prop, logic.props)
+
 -- ---- what is expected at a path
 
 -- an entry, with its number
@@ -38,10 +47,17 @@ is_long_as r t = eqb t.size r.file
 abbrev pub is_summed_as : Sought → Item → Bool
 is_summed_as r t = eqb (t.checksum % 65_536) r.sums
 
-pub record Finds (file : Bool) (es : List Entry) (path : List ℕ) (r : Sought) : Type 0 where
+-- the entry of a path
+pub record FindsEntry (file : Bool) (es : List Entry) (path : List ℕ) (r : Sought) : Type 0 where
+  pub within : r.number < length es
   pub numbered : r.number ≡ entry_index file es path
-  pub long : file ≡ true → r.number < length es → (t : Item) → entry_is has_length_of (entry_of es path) t ≡ is_long_as r t
-  pub summed : file ≡ true → r.number < length es → (t : Item) → entry_is has_sums_of (entry_of es path) t ≡ is_summed_as r t
+  pub long : file ≡ true → (t : Item) → entry_is has_length_of (entry_of es path) t ≡ is_long_as r t
+  pub summed : file ≡ true → (t : Item) → entry_is has_sums_of (entry_of es path) t ≡ is_summed_as r t
+
+-- or that there is none
+abbrev pub Finds : Bool → List Entry → List ℕ → Option Sought → Type 0
+Finds file es path (Some r) = FindsEntry file es path r
+Finds file es path None = length es ≡ entry_index file es path
 
 -- ---- one item
 

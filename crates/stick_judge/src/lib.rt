@@ -9,11 +9,12 @@ ghost use Rattle.slip_check.specs.Entries.{entry_in, next_at, entries_in, Whole}
 ghost use Rattle.stick_rules.specs.Names.{belongs, slip_name};
 ghost use Rattle.stick_names.specs.Digest.{digest_of};
 ghost use Rattle.stick_rules.specs.Judge.{slip_entry, manifest, is_no_entry, root_conditions};
-ghost use Rattle.stick_rules.specs.Records.{item_of, item_no, items_in, judge_records, judge_call};
+ghost use Rattle.stick_rules.specs.Records.{path_of, item_of, item_no, items_in, judge_records, judge_call};
 ghost use Rattle.stick_judge.specs.Judging.{
   Is,
   Digested,
   Indexed,
+  indexed-prop,
   Finds,
   evidence,
   JudgesItem,
@@ -38,6 +39,15 @@ struct Sought {
     number: usize,
     file: u64,
     sums: u64,
+}
+
+// A slip with so many entries, all whole, and the digest of each one's name.
+#[derive(Clone, Copy)]
+struct Manifest<'a> {
+    slip: &'a [u8],
+    entries: usize,
+    digests: &'a [u32],
+    ghost indexed: { Indexed slip.now entries digests.now } by { indexed-prop slip.now entries digests.now },
 }
 
 // ---- what is expected at a path
@@ -69,72 +79,21 @@ fn entry(slip: &[u8], o: usize, number: usize) -> Sought
 }
 
 // Whether a path is that of the slip's own file.
-fn is_own(file: bool, names: &[u8], at: usize, len: usize) -> bool
-    requires { at + len ≤ length names.now }
-    ensures { result ≡ belongs file slip_name (take len (drop at names.now)) }
+fn is_own(file: bool, path: &[u8]) -> bool
+    ensures { result ≡ belongs file slip_name path.now }
 {
-    if file {
-        return is_slip(names, at, len);
-    }
-    false
+    file && is_slip(path)
 }
 
-// Whether an entry, whose name has m bytes at a, belongs to a path. Their digests tell most files apart.
-fn is_entry_of(
-    file: bool,
-    slip: &[u8],
-    a: usize,
-    m: usize,
-    known: u32,
-    names: &[u8],
-    at: usize,
-    len: usize,
-    sought: u32,
-) -> bool
-    requires { (a + m ≤ length slip.now) × (at + len ≤ length names.now) × (known ≡ digest_of (take m (drop a slip.now))) ×
-        (sought ≡ digest_of (take len (drop at names.now))) }
-    ensures { result ≡ belongs file (take m (drop a slip.now)) (take len (drop at names.now)) }
+// Whether an entry of this name belongs to a path. Their digests tell most files apart.
+fn is_entry_of(file: bool, name: &[u8], known: u32, path: &[u8], sought: u32) -> bool
+    requires { (known ≡ digest_of name.now) × (sought ≡ digest_of path.now) }
+    ensures { result ≡ belongs file name.now path.now }
 {
-    if file {
-        if known != sought {
-            return false;
-        }
+    if file && known != sought {
+        return false;
     }
-    belongs(file, slip, a, m, names, at, len)
-}
-
-// The first entry whose name belongs to the path of a file, or of a folder.
-fn find(
-    file: bool,
-    slip: &[u8],
-    entries: usize,
-    digests: &[u32],
-    names: &[u8],
-    at: usize,
-    len: usize,
-) -> Sought
-    requires { Indexed slip.now entries digests.now × (at + len ≤ length names.now) }
-    ensures { Finds file (manifest slip.now (entries_in entries slip.now 7)) (take len (drop at names.now)) result }
-{
-    if is_own(file, names, at, len) {
-        return slip_entry(slip);
-    }
-    let sought = digest(names, at, len);
-    let mut k = 0usize;
-    let mut o = 7usize;
-    while k < entries {
-        let n = byte_at(slip, o);
-        if is_entry_of(file, slip, o + 1, n, digests[k], names, at, len, sought) {
-            return entry(slip, o, k + 1);
-        }
-        o += 7 + n;
-        k += 1;
-    }
-    Sought {
-        number: entries + 1,
-        file: 0,
-        sums: 0,
-    }
+    belongs(file, name, path)
 }
 
 // The digest of each entry's name.
@@ -142,20 +101,33 @@ fn fill_digests(slip: &[u8], entries: usize, digests: &mut [u32])
     requires { Whole entries slip.now 7 × (entries ≤ length digests.old) }
     ensures { Digested slip.now entries digests.new × (length digests.new ≡ length digests.old) }
 {
-    let mut k = 0usize;
     let mut o = 7usize;
-    while k < entries {
+    for k in 0..entries {
         let n = byte_at(slip, o);
-        digests[k] = digest(slip, o + 1, n);
+        digests[k] = digest(&slip[o + 1..o + 1 + n]);
         o += 7 + n;
-        k += 1;
     }
 }
 
 // ---- one item
 
+// The path of an item.
+fn path_of(names: &[u8], it: ItemRecord) -> &[u8]
+    requires { it.name + it.len ≤ length names.now }
+    ensures { result.now ≡ path_of names.now it }
+{
+    let at = it.name as usize;
+    &names[at..at + it.len as usize]
+}
+
 // A file, the i-th item, whose entry has this length and these sums.
-fn judge_evidence(names: &[u8], it: ItemRecord, i: usize, file: u64, sums: u64) -> Result<(), Refusal>
+fn judge_evidence(
+    names: &[u8],
+    it: ItemRecord,
+    i: usize,
+    file: u64,
+    sums: u64,
+) -> Result<(), Refusal>
     requires { it.name + it.len ≤ length names.now }
     ensures { result ≡ answered (evidence i file sums (item_of names.now it)) }
 {
@@ -165,7 +137,7 @@ fn judge_evidence(names: &[u8], it: ItemRecord, i: usize, file: u64, sums: u64) 
     if it.checksum / 65536 != it.size {
         return Err(Refusal::Unchecked(i));
     }
-    if it.reader != format_of(names, it.name as usize, it.len as usize) {
+    if it.reader != format_of(path_of(names, it)) {
         return Err(Refusal::Unchecked(i));
     }
     if it.checksum % 65536 != sums {
@@ -175,133 +147,6 @@ fn judge_evidence(names: &[u8], it: ItemRecord, i: usize, file: u64, sums: u64) 
         return Err(Refusal::BadFigure(i));
     }
     Ok(())
-}
-
-// A file. Its entry is then among what is matched.
-fn judge_file(
-    slip: &[u8],
-    entries: usize,
-    digests: &[u32],
-    names: &[u8],
-    it: ItemRecord,
-    i: usize,
-    matched: &mut [u8],
-) -> Result<(), Refusal>
-    requires { Indexed slip.now entries digests.now × (it.kind ≡ 1) × (it.name + it.len ≤ length names.now) ×
-        (64 * entries + 64 ≤ length matched.old) }
-    ensures { JudgesItem (manifest slip.now (entries_in entries slip.now 7)) i
-        (item_of names.now it) matched.old result matched.new }
-{
-    if it.len == 0 {
-        return Err(Refusal::Unexpected(i));
-    }
-    let sought = find(
-        true,
-        slip,
-        entries,
-        digests,
-        names,
-        it.name as usize,
-        it.len as usize,
-    );
-    let k = sought.number;
-    if entries < k {
-        return Err(Refusal::Unexpected(i));
-    }
-    let at = 64 * k;
-    if matched[at] != 0 {
-        return Err(Refusal::Unexpected(i));
-    }
-    matched[at] = 1;
-    judge_evidence(names, it, i, sought.file, sought.sums)
-}
-
-// A folder whose path is no entry's must lead to one, and be listed. The entry up to that path is then among what is matched.
-fn judge_leading(
-    slip: &[u8],
-    entries: usize,
-    digests: &[u32],
-    names: &[u8],
-    it: ItemRecord,
-    i: usize,
-    matched: &mut [u8],
-) -> Result<(), Refusal>
-    requires { Indexed slip.now entries digests.now × (it.kind ≡ 2) × (it.name + it.len ≤ length names.now) ×
-        (1 ≤ it.len) × (it.len < 64) ×
-        (is_no_entry (manifest slip.now (entries_in entries slip.now 7)) (item_of names.now it) ≡ true) ×
-        (64 * entries + 64 ≤ length matched.old) }
-    ensures { JudgesItem (manifest slip.now (entries_in entries slip.now 7)) i
-        (item_of names.now it) matched.old result matched.new }
-{
-    let at = it.name as usize;
-    let len = it.len as usize;
-    let k = find(false, slip, entries, digests, names, at, len).number;
-    if entries < k {
-        return Err(Refusal::Unexpected(i));
-    }
-    let flag = 64 * k + len;
-    if matched[flag] != 0 {
-        return Err(Refusal::Unexpected(i));
-    }
-    matched[flag] = 1;
-    if it.size == 0 {
-        return Err(Refusal::Unchecked(i));
-    }
-    Ok(())
-}
-
-// What is no file must be a folder, of a path that is no entry's.
-fn judge_folder(
-    slip: &[u8],
-    entries: usize,
-    digests: &[u32],
-    names: &[u8],
-    it: ItemRecord,
-    i: usize,
-    matched: &mut [u8],
-) -> Result<(), Refusal>
-    requires { Indexed slip.now entries digests.now × (it.kind ≡ 1 → ⊥) ×
-        (it.kind ≡ 2 → it.name + it.len ≤ length names.now) × (64 * entries + 64 ≤ length matched.old) }
-    ensures { JudgesItem (manifest slip.now (entries_in entries slip.now 7)) i
-        (item_of names.now it) matched.old result matched.new }
-{
-    if it.kind != 2 {
-        return Err(Refusal::Unchecked(i));
-    }
-    if it.len == 0 {
-        return Err(Refusal::Unexpected(i));
-    }
-    if 64 <= it.len {
-        return Err(Refusal::Unexpected(i));
-    }
-    let at = it.name as usize;
-    let len = it.len as usize;
-    if find(true, slip, entries, digests, names, at, len).number <= entries {
-        return Err(Refusal::Unexpected(i));
-    }
-    judge_leading(slip, entries, digests, names, it, i, matched)
-}
-
-// The item of number i.
-fn judge_item(
-    slip: &[u8],
-    entries: usize,
-    digests: &[u32],
-    names: &[u8],
-    items: &[u8],
-    i: usize,
-    matched: &mut [u8],
-) -> Result<(), Refusal>
-    requires { Indexed slip.now entries digests.now × (56 * i + 56 ≤ length items.now) ×
-        (64 * entries + 64 ≤ length matched.old) }
-    ensures { JudgesItem (manifest slip.now (entries_in entries slip.now 7)) i
-        (item_no names.now items.now i) matched.old result matched.new }
-{
-    let it = item_record(names, items, i);
-    if it.kind == 1 {
-        return judge_file(slip, entries, digests, names, it, i, matched);
-    }
-    judge_folder(slip, entries, digests, names, it, i, matched)
 }
 
 // The first item is the stick's own folder.
@@ -322,44 +167,151 @@ fn judge_root(names: &[u8], items: &[u8]) -> Result<(), Refusal>
     Ok(())
 }
 
-// ---- all of them
+// ---- the items behind the first
 
-// Each item behind the first in its turn.
-fn judge_items(
-    slip: &[u8],
-    entries: usize,
-    digests: &[u32],
-    names: &[u8],
-    items: &[u8],
-    matched: &mut [u8],
-) -> Result<(), Refusal>
-    requires { Indexed slip.now entries digests.now × (64 * entries + 64 ≤ length matched.old) × Flags matched.old [] ×
-        (56 ≤ length items.now) }
-    ensures { JudgesItems (manifest slip.now (entries_in entries slip.now 7))
-        (tail (items_in names.now items.now)) matched.old result matched.new }
-{
-    let n = items.len() / 56;
-    let mut i = 1usize;
-    while i < n {
-        match judge_item(slip, entries, digests, names, items, i, matched) {
-            Err(r) => return Err(r),
-            Ok(()) => i += 1,
+impl Manifest<'_> {
+    ghost use Rattle.stick_judge.specs.Expected.{expected};
+
+    // The first entry whose name belongs to the path of a file, or of a folder. `file` is a bool, since `belongs` and the rules take it so.
+    fn find(&self, file: bool, path: &[u8]) -> Option<Sought>
+        ensures { Finds file (expected self.now) path.now result }
+    {
+        if is_own(file, path) {
+            return Some(slip_entry(self.slip));
         }
+        let sought = digest(path);
+        let mut o = 7usize;
+        for k in 0..self.entries {
+            let n = byte_at(self.slip, o);
+            let name = &self.slip[o + 1..o + 1 + n];
+            if is_entry_of(file, name, self.digests[k], path, sought) {
+                return Some(entry(self.slip, o, k + 1));
+            }
+            o += 7 + n;
+        }
+        None
     }
-    Ok(())
+
+    // A file. Its entry is then among what is matched.
+    fn judge_file(
+        &self,
+        names: &[u8],
+        it: ItemRecord,
+        i: usize,
+        matched: &mut [u8],
+    ) -> Result<(), Refusal>
+        requires { (it.kind ≡ 1) × (it.name + it.len ≤ length names.now) × (64 * self.now.entries + 64 ≤ length matched.old) }
+        ensures { JudgesItem (expected self.now) i (item_of names.now it) matched.old result matched.new }
+    {
+        if it.len == 0 {
+            return Err(Refusal::Unexpected(i));
+        }
+        let Some(sought) = self.find(true, path_of(names, it)) else {
+            return Err(Refusal::Unexpected(i));
+        };
+        let at = 64 * sought.number;
+        if matched[at] != 0 {
+            return Err(Refusal::Unexpected(i));
+        }
+        matched[at] = 1;
+        judge_evidence(names, it, i, sought.file, sought.sums)
+    }
+
+    // A folder whose path is no entry's must lead to one, and be listed. The entry up to that path is then among what is matched.
+    fn judge_leading(
+        &self,
+        names: &[u8],
+        it: ItemRecord,
+        i: usize,
+        matched: &mut [u8],
+    ) -> Result<(), Refusal>
+        requires { (it.kind ≡ 2) × (it.name + it.len ≤ length names.now) × (1 ≤ it.len) × (it.len < 64) ×
+            (is_no_entry (expected self.now) (item_of names.now it) ≡ true) × (64 * self.now.entries + 64 ≤ length matched.old) }
+        ensures { JudgesItem (expected self.now) i (item_of names.now it) matched.old result matched.new }
+    {
+        let Some(sought) = self.find(false, path_of(names, it)) else {
+            return Err(Refusal::Unexpected(i));
+        };
+        let flag = 64 * sought.number + it.len as usize;
+        if matched[flag] != 0 {
+            return Err(Refusal::Unexpected(i));
+        }
+        matched[flag] = 1;
+        if it.size == 0 {
+            return Err(Refusal::Unchecked(i));
+        }
+        Ok(())
+    }
+
+    // What is no file must be a folder, of a path that is no entry's.
+    fn judge_folder(
+        &self,
+        names: &[u8],
+        it: ItemRecord,
+        i: usize,
+        matched: &mut [u8],
+    ) -> Result<(), Refusal>
+        requires { (it.kind ≡ 1 → ⊥) × (it.kind ≡ 2 → it.name + it.len ≤ length names.now) ×
+            (64 * self.now.entries + 64 ≤ length matched.old) }
+        ensures { JudgesItem (expected self.now) i (item_of names.now it) matched.old result matched.new }
+    {
+        if it.kind != 2 {
+            return Err(Refusal::Unchecked(i));
+        }
+        if it.len == 0 {
+            return Err(Refusal::Unexpected(i));
+        }
+        if 64 <= it.len {
+            return Err(Refusal::Unexpected(i));
+        }
+        if self.find(true, path_of(names, it)).is_some() {
+            return Err(Refusal::Unexpected(i));
+        }
+        self.judge_leading(names, it, i, matched)
+    }
+
+    // The item of number i.
+    fn judge_item(
+        &self,
+        names: &[u8],
+        items: &[u8],
+        i: usize,
+        matched: &mut [u8],
+    ) -> Result<(), Refusal>
+        requires { (56 * i + 56 ≤ length items.now) × (64 * self.now.entries + 64 ≤ length matched.old) }
+        ensures { JudgesItem (expected self.now) i (item_no names.now items.now i) matched.old result matched.new }
+    {
+        let it = item_record(names, items, i);
+        if it.kind == 1 {
+            return self.judge_file(names, it, i, matched);
+        }
+        self.judge_folder(names, it, i, matched)
+    }
+
+    // Each item behind the first in its turn.
+    fn judge_items(&self, names: &[u8], items: &[u8], matched: &mut [u8]) -> Result<(), Refusal>
+        requires { (64 * self.now.entries + 64 ≤ length matched.old) × Flags matched.old [] × (56 ≤ length items.now) }
+        ensures { JudgesItems (expected self.now) (tail (items_in names.now items.now)) matched.old result matched.new }
+    {
+        let n = items.len() / 56;
+        for i in 1..n {
+            self.judge_item(names, items, i, matched)?;
+        }
+        Ok(())
+    }
 }
+
+// ---- all of them
 
 // Whether the file of each of n entries is met.
 fn judge_entries(matched: &[u8], n: usize) -> Result<(), Refusal>
     requires { 64 * n ≤ length matched.now }
     ensures { JudgesEntries n matched.now result }
 {
-    let mut k = 0usize;
-    while k < n {
+    for k in 0..n {
         if matched[64 * k] == 0 {
             return Err(Refusal::Absent(k));
         }
-        k += 1;
     }
     Ok(())
 }
@@ -372,15 +324,11 @@ fn judge_rest(matched: &[u8], n: usize, names: &[u8], items: &[u8]) -> Result<()
     if !is_whole(names, items) {
         return Err(Refusal::Incomplete);
     }
-    match judge_entries(matched, n) {
-        Err(r) => Err(r),
-        Ok(()) => {
-            if !has_figure(names, items) {
-                return Err(Refusal::NoFigure);
-            }
-            Ok(())
-        }
+    judge_entries(matched, n)?;
+    if !has_figure(names, items) {
+        return Err(Refusal::NoFigure);
     }
+    Ok(())
 }
 
 // All items, and then the rest. There are 64 flags for each entry: of its file, and of a folder by the length of its path.
@@ -392,10 +340,13 @@ fn judge_all(slip: &[u8], entries: usize, names: &[u8], items: &[u8]) -> Result<
     let mut digests = [0u32; 1000];
     fill_digests(slip, entries, &mut digests);
     let mut matched = [0u8; 64064];
-    match judge_items(slip, entries, &digests, names, items, &mut matched) {
-        Err(r) => Err(r),
-        Ok(()) => judge_rest(&matched, entries + 1, names, items),
-    }
+    let manifest = Manifest {
+        slip,
+        entries,
+        digests: &digests,
+    };
+    manifest.judge_items(names, items, &mut matched)?;
+    judge_rest(&matched, entries + 1, names, items)
 }
 
 // A stick whose slip has so many entries.
@@ -410,18 +361,14 @@ fn judge_stick(slip: &[u8], entries: usize, names: &[u8], items: &[u8]) -> Resul
     if items.len() == 0 {
         return Err(Refusal::Incomplete);
     }
-    match judge_root(names, items) {
-        Err(r) => Err(r),
-        Ok(()) => judge_all(slip, entries, names, items),
-    }
+    judge_root(names, items)?;
+    judge_all(slip, entries, names, items)
 }
 
 // The judge of a stick.
 pub fn judge(slip: &[u8], names: &[u8], items: &[u8]) -> Result<(), Refusal>
     ensures { result ≡ judge_call slip.now names.now items.now }
 {
-    match check(slip) {
-        Err(r) => Err(r),
-        Ok(entries) => judge_stick(slip, entries, names, items),
-    }
+    let entries = check(slip)?;
+    judge_stick(slip, entries, names, items)
 }

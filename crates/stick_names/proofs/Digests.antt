@@ -2,11 +2,11 @@
 use mathlib.Core.Path.{◌≡◌, refl, sym, ap, ◌∙◌}
 use mathlib.Core.Bool.{Bool, true, false, false≢true}
 use mathlib.Core.List.{List, [], ◌∷◌}
-use Prim.Native.Nat.{ℕ, zero, suc, ◌+◌, ◌-◌, ◌*◌, ◌%◌, ◌<◌, ◌≤◌}
+use Prim.Native.Nat.{ℕ, ◌+◌, ◌*◌, ◌%◌, ◌<◌, ◌≤◌}
 use native.Mathlib.Numerals.{add-one}
 use native.Mathlib.Omega.{arith}
 use lib.Dec.{eqb}
-use lib.ListN.{length, take, drop, get_or}
+use lib.ListN.{length, drop, get_or, drop_of_length-le}
 use lib.Seq.{drop-cons}
 use borrow.Author.Tests.{eqb-true}
 use Rattle.shared_words.proofs.Bools.{and_parts}
@@ -30,36 +30,16 @@ digests_apart xs ys n = go (equal_ignoring_case xs ys) refl
     go true q = absurd (n (from_one 0 xs ys q))
     go false q = q
 
--- the digest of len bytes at a position is that of what is left behind the first i, from d on
-pub record Digests (s : List ℕ) (at len d i : ℕ) : Type 0 where
-  pub few : i ≤ len
-  pub small : d < 16_777_216
-  pub is : digest_of (take len (drop at s)) ≡ digest_from d (take (len - i) (drop (at + i) s))
+module _ (name : List ℕ) where
+  -- the digest of a name is that of what is left behind its first i bytes, from d on
+  pub record Digests (d i : ℕ) : Type 0 where
+    pub small : d < 16_777_216
+    pub is : digest_of name ≡ digest_from d (drop i name)
 
-module _ (s : List ℕ) (at len : ℕ) where
-  pub digests_none : Digests s at len 0 0
-  digests_none =
-      let z : len - 0 ≡ len = omega arith in
-      let y : at + 0 ≡ at = omega arith in
-      record { few = omega arith; small = omega arith; is = rw (z, y) }
-
-  step : (d left o : ℕ) → 0 < left → o < length s →
-      digest_from d (take left (drop o s)) ≡ digest_from ((251 * d + lower (get_or s o 0)) % 16_777_216) (take (left - 1) (drop (o + 1) s))
+  pub digests_on : (d i : ℕ) → i < length name → Digests d i → Digests ((251 * d + lower (get_or name i 0)) % 16_777_216) (i + 1)
   unfolding digest_from
-  step d zero o p h = absurd (omega arith)
-  step d (suc k) o p h =
-      let z : suc k - 1 ≡ k = omega arith in
-      rw (z, add-one o, drop-cons s o 0 h)
+  digests_on d i h g = record { small = omega arith; is = g.is ∙ rw (add-one i, drop-cons name i 0 h) refl }
 
-  pub digests_on : (d i : ℕ) → at + len ≤ length s → i < len → Digests s at len d i →
-      Digests s at len ((251 * d + lower (get_or s (at + i) 0)) % 16_777_216) (i + 1)
-  digests_on d i h l g =
-      let z : len - (i + 1) ≡ len - i - 1 = omega arith in
-      let y : at + (i + 1) ≡ at + i + 1 = omega arith in
-      record { few = omega arith; small = omega arith; is = g.is ∙ step d (len - i) (at + i) (omega arith) (omega arith) ∙ rw (z, y) }
-
-  pub digests_end : (d i : ℕ) → len ≤ i → Digests s at len d i → d ≡ digest_of (take len (drop at s))
+  pub digests_end : (d i : ℕ) → length name ≤ i → Digests d i → d ≡ digest_of name
   unfolding digest_from
-  digests_end d i l g =
-      let z : len - i ≡ 0 = omega arith in
-      sym (g.is ∙ rw z)
+  digests_end d i l g = sym (g.is ∙ rw (drop_of_length-le name {i = i} l) refl)

@@ -1,7 +1,7 @@
 // Names on a stick: whether two are one, and what a name stands for.
 #![tactic(auto)]
 
-ghost use Rattle.std.specs.Prelude.{◌≡◌, ◌+◌, ◌≤◌, length, take, drop};
+ghost use Rattle.std.specs.Prelude.{◌≡◌};
 ghost use Rattle.stick_rules.specs.Names.{lower, equal_ignoring_case, is_inside, belongs, format_of, slip_name};
 ghost use Rattle.stick_names.specs.Digest.{digest_of};
 
@@ -18,96 +18,79 @@ fn lower(b: u8) -> u8
     b + 32
 }
 
-// Whether n bytes at two places, in two slices, are one name on a stick. The names in one folder differ towards their ends: they
-// are compared from there.
-fn equal_bytes(s: &[u8], a: usize, q: &[u8], b: usize, n: usize) -> bool
-    requires { (a + n ≤ length s.now) × (b + n ≤ length q.now) }
-    ensures { result ≡ equal_ignoring_case (take n (drop a s.now)) (take n (drop b q.now)) }
+// Whether two names are one on a stick. The names in one folder differ towards their ends: they are compared from there.
+fn equal_names(name: &[u8], other: &[u8]) -> bool
+    ensures { result ≡ equal_ignoring_case name.now other.now }
 {
-    let mut left = n;
-    while 0 < left {
-        left -= 1;
-        if lower(s[a + left]) != lower(q[b + left]) {
+    if name.len() != other.len() {
+        return false;
+    }
+    for k in (0..name.len()).rev() {
+        if lower(name[k]) != lower(other[k]) {
             return false;
         }
     }
     true
 }
 
-// Whether two names, of m and n bytes in two slices, are one on a stick.
-fn equal_names(s: &[u8], a: usize, m: usize, q: &[u8], b: usize, n: usize) -> bool
-    requires { (a + m ≤ length s.now) × (b + n ≤ length q.now) }
-    ensures { result ≡ equal_ignoring_case (take m (drop a s.now)) (take n (drop b q.now)) }
-{
-    if m != n {
-        return false;
-    }
-    equal_bytes(s, a, q, b, n)
-}
-
 // A number that is the same for all names that are one on a stick.
-pub fn digest(s: &[u8], at: usize, len: usize) -> u32
-    requires { at + len ≤ length s.now }
-    ensures { result ≡ digest_of (take len (drop at s.now)) }
+pub fn digest(name: &[u8]) -> u32
+    ensures { result ≡ digest_of name.now }
 {
     let mut d = 0u32;
-    let mut i = 0usize;
-    while i < len {
-        d = (251 * d + lower(s[at + i]) as u32) % 16777216;
-        i += 1;
+    for b in name {
+        d = (251 * d + lower(*b) as u32) % 16777216;
     }
     d
 }
 
-// Whether a file of the name of m bytes stands in the folder of the path of n bytes, or below it.
-fn is_inside(s: &[u8], a: usize, m: usize, q: &[u8], b: usize, n: usize) -> bool
-    requires { (a + m ≤ length s.now) × (b + n ≤ length q.now) }
-    ensures { result ≡ is_inside (take m (drop a s.now)) (take n (drop b q.now)) }
+// Whether a file of this name stands in the folder of this path, or below it.
+fn is_inside(name: &[u8], path: &[u8]) -> bool
+    ensures { result ≡ is_inside name.now path.now }
 {
-    if m <= n {
+    let n = path.len();
+    if name.len() <= n {
         return false;
     }
-    if s[a + n] != 47 {
+    if name[n] != b'/' {
         return false;
     }
-    equal_bytes(s, a, q, b, n)
+    equal_names(&name[..n], path)
 }
 
 // Whether a name belongs to the path of a file, or of a folder.
-pub fn belongs(file: bool, s: &[u8], a: usize, m: usize, q: &[u8], b: usize, n: usize) -> bool
-    requires { (a + m ≤ length s.now) × (b + n ≤ length q.now) }
-    ensures { result ≡ belongs file (take m (drop a s.now)) (take n (drop b q.now)) }
+pub fn belongs(file: bool, name: &[u8], path: &[u8]) -> bool
+    ensures { result ≡ belongs file name.now path.now }
 {
     if file {
-        return equal_names(s, a, m, q, b, n);
+        return equal_names(name, path);
     }
-    is_inside(s, a, m, q, b, n)
+    is_inside(name, path)
 }
 
-// Whether a name is that of the slip.
-pub fn is_slip(names: &[u8], at: usize, len: usize) -> bool
-    requires { at + len ≤ length names.now }
-    ensures { result ≡ equal_ignoring_case slip_name (take len (drop at names.now)) }
+// Whether a path is that of the slip.
+pub fn is_slip(path: &[u8]) -> bool
+    ensures { result ≡ equal_ignoring_case slip_name path.now }
 {
-    equal_names(b"stick.slip", 0, 10, names, at, len)
+    equal_names(b"stick.slip", path)
 }
 
-// The reader that must judge a file of this name, by number, or 0 where it is no figure.
-pub fn format_of(names: &[u8], at: usize, len: usize) -> u64
-    requires { at + len ≤ length names.now }
-    ensures { result ≡ format_of (take len (drop at names.now)) }
+// The reader that must judge a file of this path, by number, or 0 where it is no figure. (It is a number since C hands it over
+// and takes it back in the record of an item.)
+pub fn format_of(path: &[u8]) -> u64
+    ensures { result ≡ format_of path.now }
 {
-    if len < 4 {
+    if path.len() < 4 {
         return 0;
     }
-    let ending = at + len - 4;
-    if equal_bytes(b".3ds", 0, names, ending, 4) {
+    let ending = &path[path.len() - 4..];
+    if equal_names(b".3ds", ending) {
         return 1;
     }
-    if equal_bytes(b".cob", 0, names, ending, 4) {
+    if equal_names(b".cob", ending) {
         return 2;
     }
-    if equal_bytes(b".c4d", 0, names, ending, 4) {
+    if equal_names(b".c4d", ending) {
         return 3;
     }
     0

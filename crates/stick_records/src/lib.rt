@@ -88,15 +88,13 @@ pub fn is_whole(names: &[u8], items: &[u8]) -> bool
         return false;
     }
     let mut left = (n - 1) as u64;
-    let mut i = 0usize;
-    while i < n {
+    for i in 0..n {
         let it = item_record(names, items, i);
         let more = listed(it.kind, it.size);
         if left < more {
             return false;
         }
         left -= more;
-        i += 1;
     }
     left == 0
 }
@@ -116,13 +114,11 @@ pub fn has_figure(names: &[u8], items: &[u8]) -> bool
     ensures { result ≡ any is_figure (items_in names.now items.now) }
 {
     let n = items.len() / 56;
-    let mut i = 0usize;
-    while i < n {
+    for i in 0..n {
         let it = item_record(names, items, i);
         if is_figure(it.kind, it.reader) {
             return true;
         }
-        i += 1;
     }
     false
 }

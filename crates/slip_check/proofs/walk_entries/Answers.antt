@@ -1,40 +1,20 @@
 use mathlib.Core.Path.{◌≡◌, refl, sym, ◌∙◌}
-use Prim.Native.Nat.{ℕ, ◌-◌}
 use native.Mathlib.Omega.{arith}
 use Rattle.slip_seen.proofs.Seen.{seen_none}
-use Rattle.slip_check.specs.declared.Walked.{Walked}
 use Rattle.slip_check.proofs.Good.{reached-within}
 use Rattle.slip_check.proofs.Walks.{on-start, on-bad, on-more, on-left, on-end}
 use Rattle.slip_check.proofs.walk_entries.Goals as goal
-
-bad-good : (place : ℕ) → Walked.Bad place ≡ Walked.Good → ⊥
-bad-good place e = let z : ◌≡◌ {A = ℕ} 0 1 = cc in omega arith
 
 pub loop-n-init : goal.loop-n-init
 loop-n-init c =
     let s = c in
     (on-start s.args.s.now s.args.count s.requires.0, seen_none s.args.s.now s.args.nodes.now s.requires.2, refl)
 
-pub is_good-requires : goal.is_good-requires
-is_good-requires c =
-    let l = c.loop-n in
-    let s = c in
-    (l.invariant.0.reached, l.invariant.1, omega (arith, l.invariant.2, s.requires.3), omega (arith, s.requires.1))
-
 pub returns-then-not-is_good : goal.returns-then-not-is_good
 returns-then-not-is_good c =
     let l = c.loop-n in
     let a = c.args in
-    record {
-      is = on-bad a.s.now a.count l.n l.at l.invariant.0 (omega arith) (sym c.is_good.ensures.is ∙ c.if-not-is_good.true);
-      whole = λ e. absurd (bad-good l.at e);
-    }
-
-pub byte_at-requires : goal.byte_at-requires
-byte_at-requires c = let w = c.is_good.ensures.whole c.if-not-is_good.false in omega arith
-
-pub overflow_add-at-in-loop-n : goal.overflow_add-at-in-loop-n
-overflow_add-at-in-loop-n c = let w = c.is_good.ensures.whole c.if-not-is_good.false in omega arith
+    record { is = on-bad a.s.now a.count l.n l.at l.invariant.0 (omega arith) (sym c.is_good.ensures.is ∙ c.if-not-is_good.true); whole = tt }
 
 pub loop-n-preserved : goal.loop-n-preserved
 loop-n-preserved c =
@@ -51,10 +31,7 @@ pub returns-then-at-s : goal.returns-then-at-s
 returns-then-at-s c =
     let l = c.loop-n in
     let a = c.args in
-    record {
-      is = on-left a.s.now a.count l.n l.at l.invariant.0 (omega (arith, l.invariant.0.few)) (omega arith);
-      whole = λ e. absurd (bad-good l.at e);
-    }
+    record { is = on-left a.s.now a.count l.n l.at l.invariant.0 (omega (arith, l.invariant.0.few)) (omega arith); whole = tt }
 
 pub returns : goal.returns
 returns c =
@@ -62,7 +39,4 @@ returns c =
     let a = c.args in
     let w = reached-within a.s.now l.n l.at l.invariant.0.reached in
     let n : l.n ≡ a.count = omega (arith, l.invariant.0.few) in
-    record {
-      is = on-end a.s.now a.count l.n l.at l.invariant.0 n (omega arith);
-      whole = λ e. rw n at l.invariant.0.reached.whole;
-    }
+    record { is = on-end a.s.now a.count l.n l.at l.invariant.0 n (omega arith); whole = rw n at l.invariant.0.reached.whole }

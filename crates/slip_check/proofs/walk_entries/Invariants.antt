@@ -9,6 +9,3 @@ use Rattle.slip_check.proofs.walk_entries.Given as goal
 
 abbrev pub invariant-loop-n : goal.invariant-loop-n
 invariant-loop-n l = On l.s l.count l.n l.at × Seen l.s l.nodes l.n (names_in l.n l.s 7) × (length l.nodes ≡ length l.initial.nodes)
-
-abbrev pub decreases-loop-n : goal.decreases-loop-n
-decreases-loop-n l = l.count - l.n

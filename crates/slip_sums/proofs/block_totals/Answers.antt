@@ -33,7 +33,6 @@ loop-i-preserved c =
     let l = c.loop-i in
     let b = c.type_inv.s l.i in
     let p = product_small (get_or s l.i 0) (128 - l.i) (omega arith) (omega arith) in (
-      omega arith,
       omega (arith, total-more s l.i (omega arith)),
       omega (arith, ahead_more 128 s l.i (omega arith) (omega arith)),
       omega arith,
@@ -49,8 +48,8 @@ returns c =
     let all : take l.i s ≡ s = take_all l.i s (omega arith) in
     let done : 128 - l.i ≡ 0 = omega arith in
     record {
-      first-is = l.invariant.1 ∙ ap total all;
-      second_is = omega (arith, l.invariant.2, running-is s, ap weighted all, ap (λ (n : ℕ). n * total (take l.i s)) done);
+      first-is = l.invariant.0 ∙ ap total all;
+      second_is = omega (arith, l.invariant.1, running-is s, ap weighted all, ap (λ (n : ℕ). n * total (take l.i s)) done);
       first_small = omega arith;
       second_small = omega arith;
     }

@@ -1,6 +1,6 @@
 use mathlib.Core.Path.{◌≡◌, ap, ◌∙◌}
 use mathlib.Core.List.{List}
-use Prim.Native.Nat.{ℕ, ◌-◌}
+use Prim.Native.Nat.{ℕ}
 use native.Mathlib.Omega.{arith}
 use lib.ListN.{take}
 use lib.Seq.{take_all}
@@ -9,23 +9,13 @@ use Rattle.slip_sums.proofs.Weighted.{weighted, running-is}
 use Rattle.slip_sums.proofs.Steps.{total-more, weighted-more}
 use Rattle.slip_sums.proofs.rest_totals.Goals as goal
 
-pub overflow_cast-first : goal.overflow_cast-first
-overflow_cast-first c = omega (arith, c.type_inv.s c.loop-i.i)
-
-pub overflow_add-first : goal.overflow_add-first
-overflow_add-first c = omega (arith, c.type_inv.s c.loop-i.i)
-
-pub overflow_add-second : goal.overflow_add-second
-overflow_add-second c = omega (arith, c.type_inv.s c.loop-i.i)
-
-pub loop-i-preserved : goal.loop-i-preserved
-loop-i-preserved c =
+pub loop-b-preserved : goal.loop-b-preserved
+loop-b-preserved c =
     let s = c.args.s.now in
-    let l = c.loop-i in
-    let b = c.type_inv.s l.i in (
-      omega arith,
-      omega (arith, total-more s l.i (omega arith)),
-      omega (arith, weighted-more s l.i (omega arith)),
+    let l = c.loop-b in
+    let b = c.type_inv.s l.b-index in (
+      omega (arith, total-more s l.b-index (omega arith)),
+      omega (arith, weighted-more s l.b-index (omega arith)),
       omega arith,
       omega arith,
     )
@@ -33,11 +23,11 @@ loop-i-preserved c =
 pub returns : goal.returns
 returns c =
     let s : List ℕ = c.args.s.now in
-    let l = c.loop-i in
-    let all : take l.i s ≡ s = take_all l.i s (omega arith) in
+    let l = c.loop-b in
+    let all : take l.b-index s ≡ s = take_all l.b-index s (omega arith) in
     record {
-      first-is = l.invariant.1 ∙ ap total all;
-      second_is = omega (arith, l.invariant.2, running-is s, ap weighted all);
+      first-is = l.invariant.0 ∙ ap total all;
+      second_is = omega (arith, l.invariant.1, running-is s, ap weighted all);
       first_small = omega arith;
       second_small = omega arith;
     }

@@ -1,6 +1,7 @@
 -- A refusal leaves the buffer alone; else the slip is put at its front.
 use Rattle.shared_words.specs.declared.Refusal.{Refusal}
 use Rattle.std.specs.Prelude.{Result}
+use Rattle.std.proofs.lemmas.Result.{err_from_is_err_and}
 use mathlib.Core.Path.{sym, ap, subst, ◌∙◌}
 use mathlib.Core.List.{List}
 use Prim.Native.Nat.{ℕ}
@@ -18,17 +19,18 @@ rows e = e.rows
 pub put_slip-requires : goal.put_slip-requires
 put_slip-requires c =
     let a = c.args in
-    let e = sym c.judge.ensures ∙ c.in-Ok.is in
+    let e = sym c.judge.ensures ∙ c.in_ok-size.was in
     (subst (WriteIs a.names.now a.entries.now a.out.now) e (write-is a.names.now a.entries.now a.out.now)).0
 
-pub returns-in-Err : goal.returns-in-Err
-returns-in-Err c =
+pub returns-in_err-size : goal.returns-in_err-size
+returns-in_err-size c =
     let a = c.args in
-    let e = sym c.judge.ensures ∙ c.in-Err.is in
-    let w = subst (WriteIs a.names.now a.entries.now a.out.now) e (write-is a.names.now a.entries.now a.out.now) in record { answer = sym (ap answer w); out = sym (ap rows w) }
+    let p = err_from_is_err_and c.from_residual.result c.from_residual.ensures.1 in
+    let e = sym c.judge.ensures ∙ c.in_err-size.was in
+    let w = subst (WriteIs a.names.now a.entries.now a.out.now) e (write-is a.names.now a.entries.now a.out.now) in rw (p.1, p.2) record { answer = sym (ap answer w); out = sym (ap rows w) }
 
-pub returns-in-Ok : goal.returns-in-Ok
-returns-in-Ok c =
+pub returns : goal.returns
+returns c =
     let a = c.args in
-    let e = sym c.judge.ensures ∙ c.in-Ok.is in
+    let e = sym c.judge.ensures ∙ c.in_ok-size.was in
     let w = (subst (WriteIs a.names.now a.entries.now a.out.now) e (write-is a.names.now a.entries.now a.out.now)).1 in record { answer = sym (ap answer w); out = put_front c.put_slip.ensures ∙ sym (ap rows w) }

@@ -1,4 +1,4 @@
-use mathlib.Core.Path.{ap, sym, ◌∙◌}
+use mathlib.Core.Path.{◌≡◌, ap, sym, ◌∙◌}
 use Prim.Native.Nat.{◌-◌}
 use native.Mathlib.Omega.{arith}
 use Rattle.slip_rules.specs.declared.Numbers.{Numbers}
@@ -35,4 +35,5 @@ pub returns : goal.returns
 returns c =
     let l = c.loop-i in
     let a = c.args in
-    on-all a.names.now a.entries.now a.n l.i l.invariant (omega (arith, l.invariant.few))
+    let e : l.i ≡ a.n = omega arith in
+    rw e at (on-all a.names.now a.entries.now a.n l.i l.invariant e)

@@ -5,6 +5,3 @@ use Rattle.slip_write_judge.proofs.first_unfit.Given as goal
 
 abbrev pub invariant-loop-i : goal.invariant-loop-i
 invariant-loop-i l = On l.names l.entries l.n l.i
-
-abbrev pub decreases-loop-i : goal.decreases-loop-i
-decreases-loop-i l = l.n - l.i

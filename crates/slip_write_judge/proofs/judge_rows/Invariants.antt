@@ -10,6 +10,3 @@ use Rattle.slip_write_judge.proofs.judge_rows.Given as goal
 abbrev pub invariant-loop-i : goal.invariant-loop-i
 invariant-loop-i l =
     (l.n ≡ length l.entries / 16) × On l.names l.entries l.n l.size l.i × Seen l.names l.nodes l.i (names_from l.names l.i l.entries 0) × (length l.nodes ≡ length l.initial.nodes)
-
-abbrev pub decreases-loop-i : goal.decreases-loop-i
-decreases-loop-i l = l.n - l.i

@@ -16,25 +16,25 @@ all-put out at new out' next h p =
     let d : drop (at + length new) out ≡ [] = drop_of_length-le out {i = at + length new} h in
     p.is ∙ rw (d, append-nil new)
 
-pub loop-i-init : goal.loop-i-init
-loop-i-init c = (omega arith, refl, omega arith, put-none _ _)
+pub loop-number-init : goal.loop-number-init
+loop-number-init c = (omega arith, refl, omega arith, put-none _ _)
 
 pub put_eight-next-requires : goal.put_eight-next-requires
-put_eight-next-requires c = omega (arith, c.loop-i.invariant.2, c.loop-i.invariant.1)
+put_eight-next-requires c = omega (arith, c.loop-number.invariant.2, c.loop-number.invariant.1)
 
-pub loop-i-preserved : goal.loop-i-preserved
-loop-i-preserved c =
+pub loop-number-preserved : goal.loop-number-preserved
+loop-number-preserved c =
     let a = c.args in
-    let l = c.loop-i in
+    let l = c.loop-number in
     let put = c.put_eight-next in
-    (omega arith, omega arith, omega (arith, put.ensures.ends), rw (packed_more 8 a.numbers.now l.i 0 (omega arith)) (put_then (omega arith) l.invariant.3 put.ensures))
+    (omega arith, omega arith, omega (arith, put.ensures.ends), rw (packed_more 8 a.numbers.now l.number-index 0 (omega arith)) (put_then (omega arith) l.invariant.3 put.ensures))
 
 pub shape_of-out : goal.shape_of-out
-shape_of-out c = c.loop-i.invariant.1
+shape_of-out c = c.loop-number.invariant.1
 
 pub returns : goal.returns
 returns c =
     let a = c.args in
-    let l = c.loop-i in
-    let e = take_all l.i a.numbers.now (omega arith) in
+    let l = c.loop-number in
+    let e = take_all l.number-index a.numbers.now (omega arith) in
     all-put a.out.now a.at (packed 8 a.numbers.now) _ _ (omega (arith, length-packed 8 a.numbers.now)) (rw e at l.invariant.3)

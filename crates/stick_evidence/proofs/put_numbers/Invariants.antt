@@ -6,8 +6,5 @@ use Rattle.shared_words.specs.Bytes.{packed}
 use Rattle.shared_numbers.specs.Put.{Put}
 use Rattle.stick_evidence.proofs.put_numbers.Given as goal
 
-abbrev pub invariant-loop-i : goal.invariant-loop-i
-invariant-loop-i l = (l.i ≤ length l.numbers) × (length l.out ≡ length l.initial.out) × (l.next ≡ l.at + 8 * l.i) × Put l.initial.out l.at (packed 8 (take l.i l.numbers)) l.out l.next
-
-abbrev pub decreases-loop-i : goal.decreases-loop-i
-decreases-loop-i l = length l.numbers - l.i
+abbrev pub invariant-loop-number : goal.invariant-loop-number
+invariant-loop-number l = (l.number-index ≤ length l.numbers) × (length l.out ≡ length l.initial.out) × (l.next ≡ l.at + 8 * l.number-index) × Put l.initial.out l.at (packed 8 (take l.number-index l.numbers)) l.out l.next

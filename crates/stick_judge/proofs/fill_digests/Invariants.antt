@@ -1,10 +1,6 @@
 -- The invariant: the digests of the first k entries stand there.
-use Prim.Native.Nat.{◌-◌}
 use Rattle.stick_judge.proofs.Digesting.{Filled}
 use Rattle.stick_judge.proofs.fill_digests.Given as goal
 
 abbrev pub invariant-loop-k : goal.invariant-loop-k
 invariant-loop-k l = Filled l.slip l.entries l.initial.digests l.digests l.k l.o
-
-abbrev pub decreases-loop-k : goal.decreases-loop-k
-decreases-loop-k l = l.entries - l.k

@@ -1,4 +1,5 @@
 -- The items, then what is left.
+use Rattle.std.proofs.lemmas.Result.{err_from_is_err_and}
 use mathlib.Core.Path.{sym, ◌∙◌}
 use mathlib.Core.List.{[], tail}
 use native.Mathlib.Omega.{arith}
@@ -10,29 +11,27 @@ use Rattle.stick_judge.proofs.Whole.{no-marks, item_refused, items_good}
 use Rattle.stick_judge.proofs.judge_all.Goals as goal
 
 pub judge_items-requires : goal.judge_items-requires
-judge_items-requires c =
-    let x = c in
-    let f = c.fill_digests.ensures in
-    (record { whole = x.requires.0; few = x.requires.1; room = omega (arith, x.requires.1, f.1); digested = f.0 }, omega arith, no-marks 64_064, x.requires.2)
+judge_items-requires c = let x = c in (omega arith, no-marks 64_064, x.requires.2)
 
-pub returns-in-Err : goal.returns-in-Err
-returns-in-Err c =
+pub returns-in_err-judge_items : goal.returns-in_err-judge_items
+returns-in_err-judge_items c =
     let filled = c in
     let a = filled.args in
     let es = manifest a.slip.now (entries_in a.entries a.slip.now 7) in
     let ts = items_in a.names.now a.items.now in
     let j = c.judge_items in
     let k = j.ensures.judges (no-marks 64_064) in
-    sym (item_refused es ts j.result k.is c.in-Err.r c.in-Err.is)
+    let p = err_from_is_err_and c.from_residual.result c.from_residual.ensures.1 in
+    rw (p.1, p.2) (sym (item_refused es ts j.result k.is _ c.in_err-judge_items.was))
 
-pub returns-in-Ok : goal.returns-in-Ok
-returns-in-Ok c =
+pub returns : goal.returns
+returns c =
     let filled = c in
     let a = filled.args in
     let es = manifest a.slip.now (entries_in a.entries a.slip.now 7) in
     let ts = items_in a.names.now a.items.now in
     let j = c.judge_items in
     let k = j.ensures.judges (no-marks 64_064) in
-    let q = c.in-Ok.is in
+    let q = c.in_ok-judge_items.was in
     c.judge_rest.ensures es (matched_by es [] (tail ts)) (length_expected a.slip.now a.entries) (k.marks q) ∙
     sym (items_good es ts j.result k.is q)

@@ -1,4 +1,3 @@
-use Prim.Native.Nat.{◌-◌}
 use native.Mathlib.Omega.{arith}
 use Rattle.stick_judge.proofs.Going.{passed_none, passed_off, passed_on, passed-all}
 use Rattle.stick_judge.proofs.judge_entries.Goals as goal

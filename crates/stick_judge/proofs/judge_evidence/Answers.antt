@@ -1,5 +1,5 @@
 -- The tests are the conditions, one after another.
-use mathlib.Core.Path.{sym, ◌∙◌}
+use mathlib.Core.Path.{sym, ap, ◌∙◌}
 use Prim.Native.Nat.{◌/◌, ◌%◌, ◌^◌}
 use borrow.Author.Tests.{eq-eqb, ne_eqb, lt-ltb, le-ltb}
 use Rattle.shared_words.specs.Conditions.{answered, broken}
@@ -31,7 +31,7 @@ returns-then-it-format_of c =
     let t = a.it in
     let long = eq-eqb t.size a.file c.if-it-file.false in
     let read = eq-eqb (t.checksum / 65_536) t.size c.if-it.false in
-    let judged = ne_eqb t.reader (format_of (path_of a.names.now t)) (λ e. c.if-it-format_of.true (e ∙ sym c.format_of.ensures)) in
+    let judged = ne_eqb t.reader (format_of (path_of a.names.now t)) (λ e. c.if-it-format_of.true (e ∙ ap format_of (sym c.path_of.ensures) ∙ sym c.format_of.ensures)) in
     rw (long, read, judged)
 
 pub returns-then-it-sums : goal.returns-then-it-sums
@@ -41,7 +41,7 @@ returns-then-it-sums c =
     let t = a.it in
     let long = eq-eqb t.size a.file c.if-it-file.false in
     let read = eq-eqb (t.checksum / 65_536) t.size c.if-it.false in
-    let judged = eq-eqb t.reader (format_of (path_of a.names.now t)) (c.if-it-format_of.false ∙ c.format_of.ensures) in
+    let judged = eq-eqb t.reader (format_of (path_of a.names.now t)) (c.if-it-format_of.false ∙ c.format_of.ensures ∙ ap format_of c.path_of.ensures) in
     let sums = ne_eqb (t.checksum % 65_536) a.sums c.if-it-sums.true in
     rw (long, read, judged, sums)
 
@@ -52,7 +52,7 @@ returns-then-it-ge4294967296 c =
     let t = a.it in
     let long = eq-eqb t.size a.file c.if-it-file.false in
     let read = eq-eqb (t.checksum / 65_536) t.size c.if-it.false in
-    let judged = eq-eqb t.reader (format_of (path_of a.names.now t)) (c.if-it-format_of.false ∙ c.format_of.ensures) in
+    let judged = eq-eqb t.reader (format_of (path_of a.names.now t)) (c.if-it-format_of.false ∙ c.format_of.ensures ∙ ap format_of c.path_of.ensures) in
     let sums = eq-eqb (t.checksum % 65_536) a.sums c.if-it-sums.false in
     let answer = le-ltb t.answer (2 ^ 32) c.if-it-ge4294967296.true in
     rw (long, read, judged, sums, answer)
@@ -64,7 +64,7 @@ returns c =
     let t = a.it in
     let long = eq-eqb t.size a.file c.if-it-file.false in
     let read = eq-eqb (t.checksum / 65_536) t.size c.if-it.false in
-    let judged = eq-eqb t.reader (format_of (path_of a.names.now t)) (c.if-it-format_of.false ∙ c.format_of.ensures) in
+    let judged = eq-eqb t.reader (format_of (path_of a.names.now t)) (c.if-it-format_of.false ∙ c.format_of.ensures ∙ ap format_of c.path_of.ensures) in
     let sums = eq-eqb (t.checksum % 65_536) a.sums c.if-it-sums.false in
     let answer = lt-ltb t.answer (2 ^ 32) c.if-it-ge4294967296.false in
     rw (long, read, judged, sums, answer)

@@ -1,4 +1,5 @@
 -- The stick's own folder, then all of it.
+use Rattle.std.proofs.lemmas.Result.{err_from_is_err_and}
 use mathlib.Core.Path.{sym, ◌∙◌}
 use native.Mathlib.Omega.{arith}
 use Rattle.slip_check.specs.Entries.{entries_in}
@@ -23,14 +24,15 @@ judge_root-requires c = omega (arith, c.if-items-ne0.false, c.if-items-eq0.false
 pub judge_all-requires : goal.judge_all-requires
 judge_all-requires c = let x = c in (x.requires.0, x.requires.1, omega (arith, c.if-items-ne0.false, c.if-items-eq0.false))
 
-pub returns-in-Err : goal.returns-in-Err
-returns-in-Err c =
+pub returns-in_err-judge_root : goal.returns-in_err-judge_root
+returns-in_err-judge_root c =
     let a = c.args in
     let es = entries_in a.entries a.slip.now 7 in
-    sym (root-refused a.slip.now es a.names.now a.items.now c.if-items-ne0.false c.judge_root.result c.judge_root.ensures c.in-Err.r c.in-Err.is)
+    let p = err_from_is_err_and c.from_residual.result c.from_residual.ensures.1 in
+    rw (p.1, p.2) (sym (root-refused a.slip.now es a.names.now a.items.now c.if-items-ne0.false c.judge_root.result c.judge_root.ensures _ c.in_err-judge_root.was))
 
-pub returns-in-Ok : goal.returns-in-Ok
-returns-in-Ok c =
+pub returns : goal.returns
+returns c =
     let a = c.args in
     let es = entries_in a.entries a.slip.now 7 in
-    c.judge_all.ensures ∙ sym (root-good a.slip.now es a.names.now a.items.now c.if-items-ne0.false c.judge_root.result c.judge_root.ensures c.in-Ok.is)
+    c.judge_all.ensures ∙ sym (root-good a.slip.now es a.names.now a.items.now c.if-items-ne0.false c.judge_root.result c.judge_root.ensures c.in_ok-judge_root.was)

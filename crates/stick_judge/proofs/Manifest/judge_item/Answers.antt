@@ -5,7 +5,7 @@ use native.Mathlib.Omega.{arith}
 use Rattle.stick_rules.specs.declared.ItemRecord.{ItemRecord}
 use Rattle.stick_rules.specs.Records.{record_size, record_at}
 use Rattle.stick_judge.proofs.Marking.{seen-within}
-use Rattle.stick_judge.proofs.judge_item.Goals as goal
+use Rattle.stick_judge.proofs.Manifest.judge_item.Goals as goal
 
 abbrev kind : ItemRecord → ℕ
 kind r = r.kind
@@ -17,7 +17,7 @@ judge_file-requires c =
     let e = c.item_record-it.ensures in
     let k = ap kind e in
     let w = seen-within a.names.now (record_at a.items.now (record_size * a.i)) in
-    (x.requires.0, c.if-it-eq1.true, rw e (w (λ z. omega (arith, c.if-it-eq1.true, k, z))), x.requires.2)
+    (c.if-it-eq1.true, rw e (w (λ z. omega (arith, c.if-it-eq1.true, k, z))), x.requires.1)
 
 pub returns-then-it-eq1 : goal.returns-then-it-eq1
 returns-then-it-eq1 c =
@@ -31,7 +31,7 @@ judge_folder-requires c =
     let e = c.item_record-it.ensures in
     let k = ap kind e in
     let w = seen-within a.names.now (record_at a.items.now (record_size * a.i)) in
-    (x.requires.0, c.if-it-eq1.false, λ y. rw e (w (λ z. omega (arith, k, y, z))), x.requires.2)
+    (c.if-it-eq1.false, λ y. rw e (w (λ z. omega (arith, k, y, z))), x.requires.1)
 
 pub returns : goal.returns
 returns c =
