@@ -1,5 +1,5 @@
 -- The file's own conditions, and what the walk's answer makes of a call's.
-use Rattle.std.specs.Prelude.{Ok, Err}
+use Rattle.std.specs.Prelude.{Result, Ok, Err}
 use mathlib.Core.Path.{◌≡◌, refl, sym, ap, subst, ◌∙◌}
 use Prim.Native.Nat.{ℕ, ◌*◌, ◌<◌, ◌≤◌}
 use native.Mathlib.Omega.{arith}
@@ -55,23 +55,22 @@ prepared s m n l a b p q = record {
 
 -- ---- by what the walk came to
 
-refused_as : (v : Verdict) (q : Refusal) (ids links : List ℕ) → WalkIs v (Walked.Refused q) ids links → v ≡ refused q
+refused_as : (v : Verdict) (q : Refusal) (ids links : List ℕ) → WalkIs v (Err q) ids links → v ≡ refused q
 refused_as (refused r) q ids links h = ap refused (sym h)
 refused_as (accepted l) q ids links h = absurd h
 
 -- a refusal of the walk is that of the file
-pub walk_refused : (v : Verdict) (w : Walked) (ids links : List ℕ) → WalkIs v w ids links → {q : Refusal} → w ≡ Walked.Refused q → v ≡ refused q
-walk_refused v w ids links h {q} e = refused_as v q ids links (subst (λ (x : Walked). WalkIs v x ids links) e h)
+pub walk_refused : (v : Verdict) (w : Result Walked Refusal) (ids links : List ℕ) → WalkIs v w ids links → {q : Refusal} → w ≡ Err q → v ≡ refused q
+walk_refused v w ids links h {q} e = refused_as v q ids links (subst (λ (x : Result Walked Refusal). WalkIs v x ids links) e h)
 
-good_as : (v : Verdict) (count records : ℕ) (ids links : List ℕ) → WalkIs v (Walked.Good count records) ids links →
-    (l : Layout) × (v ≡ accepted l) × Accepted l count records ids links
-good_as (refused r) count records ids links h = absurd h
-good_as (accepted l) count records ids links h = (l, refl, h)
+good_as : (v : Verdict) (g : Walked) (ids links : List ℕ) → WalkIs v (Ok g) ids links → (l : Layout) × (v ≡ accepted l) × Accepted l g.nodes g.records ids links
+good_as (refused r) g ids links h = absurd h
+good_as (accepted l) g ids links h = (l, refl, h)
 
 -- and a good walk is an accepted file
-pub walk-good : (v : Verdict) (w : Walked) (ids links : List ℕ) → WalkIs v w ids links → {count records : ℕ} → w ≡ Walked.Good count records →
-    (l : Layout) × (v ≡ accepted l) × Accepted l count records ids links
-walk-good v w ids links h {count} {records} e = good_as v count records ids links (subst (λ (x : Walked). WalkIs v x ids links) e h)
+pub walk-good : (v : Verdict) (w : Result Walked Refusal) (ids links : List ℕ) → WalkIs v w ids links → {g : Walked} → w ≡ Ok g →
+    (l : Layout) × (v ≡ accepted l) × Accepted l g.nodes g.records ids links
+walk-good v w ids links h {g} e = good_as v g ids links (subst (λ (x : Result Walked Refusal). WalkIs v x ids links) e h)
 
 pub answer-refused : (v : Verdict) {q : Refusal} → v ≡ refused q → Err q ≡ check_of v
 answer-refused v e = rw e

@@ -16,9 +16,9 @@ use Rattle.cob_rules.specs.Walk.{chunk_at, walk, step}
 use Rattle.cob_rules.proofs.Fuel.{walk_nil, walk_cons}
 use Rattle.cob_seen.specs.Tree.{Represents, Ready}
 use Rattle.cob_chunk.specs.Chunks.{chunk_in}
+use Rattle.std.specs.Prelude.{Result, Ok, Err}
 use Rattle.cob_step.specs.declared.Step.{Step}
 use Rattle.cob_step.specs.Steps.{EndsAt, Holds, fault_at, Goes, StepIs, Steps}
-use Rattle.cob_check.specs.declared.Walked.{Walked}
 use Rattle.cob_check.specs.Walks.{Prepared, WalkIs}
 use Rattle.cob_check.proofs.Lists.{with_all, onto, all-refused, all-accepted, seen-onto, length_seen, one_for, count_listed, few-listed, list_counted}
 
@@ -69,19 +69,19 @@ starts s ids links p l =
     record { seen = []; so_far = refl; counted = refl; listed_are = refl; tree = p.tree; holds = p.first; far = omega arith; inside = l }
 
 module _ {s : List ℕ} {at count records : ℕ} {ids links : List ℕ} (r : Reached s at count records ids links) where
-  pub missing : length s ≤ at → (ids' links' : List ℕ) → WalkIs (walk [] 32 (drop 32 s)) (Walked.Refused (Missing at)) ids' links'
+  pub missing : length s ≤ at → (ids' links' : List ℕ) → WalkIs (walk [] 32 (drop 32 s)) (Err (Missing at)) ids' links'
   missing l ids' links' =
       let e : walk [] 32 (drop 32 s) ≡ refused (Missing at) =
       r.so_far ∙ rw (drop_of_length-le s {i = at} l, walk_nil r.seen at) (all-refused r.seen (Missing at)) in
       rw e
 
-  pub refuses : at < length s → (q : Refusal) → fault_at r.seen s at ≡ some q → (ids' links' : List ℕ) → WalkIs (walk [] 32 (drop 32 s)) (Walked.Refused q) ids' links'
+  pub refuses : at < length s → (q : Refusal) → fault_at r.seen s at ≡ some q → (ids' links' : List ℕ) → WalkIs (walk [] 32 (drop 32 s)) (Err q) ids' links'
   refuses l q f ids' links' =
       let e : walk [] 32 (drop 32 s) ≡ refused q = r.so_far ∙ rw (step-refused r.seen s at l q f) (all-refused r.seen q) in
       rw e
 
   pub trails : at < length s → (next : ℕ) → fault_at r.seen s at ≡ none → is_end (kind (chunk_in s at)) ≡ true → EndsAt s at next → next < length s →
-      (ids' links' : List ℕ) → WalkIs (walk [] 32 (drop 32 s)) (Walked.Refused (Trailing next)) ids' links'
+      (ids' links' : List ℕ) → WalkIs (walk [] 32 (drop 32 s)) (Err (Trailing next)) ids' links'
   trails l next f n x k ids' links' =
       let e : walk [] 32 (drop 32 s) ≡ refused (Trailing next) =
       r.so_far ∙ rw (step_trailing r.seen s at l next f n x.is k) (all-refused r.seen (Trailing next)) in
@@ -89,7 +89,7 @@ module _ {s : List ℕ} {at count records : ℕ} {ids links : List ℕ} (r : Rea
 
   pub accepts : at < length s → (next : ℕ) → fault_at r.seen s at ≡ none → is_end (kind (chunk_in s at)) ≡ true → EndsAt s at next → length s ≤ next →
       (ids' links' : List ℕ) → Represents ids' links' (suc (length r.seen)) → Holds ids' r.seen →
-      WalkIs (walk [] 32 (drop 32 s)) (Walked.Good count records) ids' links'
+      WalkIs (walk [] 32 (drop 32 s)) (Ok record { nodes = count; records = records }) ids' links'
   accepts l next f n x k ids' links' t h =
       let e : walk [] 32 (drop 32 s) ≡ accepted record { chunks = onto r.seen []; last = chunk_in s at } =
       r.so_far ∙ rw (step_last r.seen s at l next f n x.is k) (all-accepted r.seen [] (chunk_in s at)) in
@@ -132,25 +132,25 @@ module _ {s : List ℕ} {at count records : ℕ} {ids links : List ℕ} (r : Rea
     sides = omega (arith, r.far, r.counted, p.sides);
   }
 
-  module _ (l : at < length s) {found : Step} {ids' links' : List ℕ} (h : Steps s at ids links count found ids' links') where
-    step_is : (f : Step) → found ≡ f → StepIs r.seen s at f ids' links'
-    step_is f e = subst (λ (x : Step). StepIs r.seen s at x ids' links') e (h.told r.seen r.counted r.holds)
+  module _ (l : at < length s) {found : Result Step Refusal} {ids' links' : List ℕ} (h : Steps s at ids links count found ids' links') where
+    step_is : (f : Result Step Refusal) → found ≡ f → StepIs r.seen s at f ids' links'
+    step_is f e = subst (λ (x : Result Step Refusal). StepIs r.seen s at x ids' links') e (h.told r.seen r.counted r.holds)
 
-    pub told-refused : {q : Refusal} → found ≡ Step.Refused q → WalkIs (walk [] 32 (drop 32 s)) (Walked.Refused q) ids' links'
-    told-refused {q} e = refuses l q (step_is (Step.Refused q) e) ids' links'
+    pub told-refused : {q : Refusal} → found ≡ Err q → WalkIs (walk [] 32 (drop 32 s)) (Err q) ids' links'
+    told-refused {q} e = refuses l q (step_is (Err q) e) ids' links'
 
-    pub told_trailing : {next : ℕ} → found ≡ Step.Last next → next < length s → WalkIs (walk [] 32 (drop 32 s)) (Walked.Refused (Trailing next)) ids' links'
-    told_trailing {next} e k = let t = step_is (Step.Last next) e in trails l next t.0 t.1 t.2 k ids' links'
+    pub told_trailing : {next : ℕ} → found ≡ Ok (Step.Last next) → next < length s → WalkIs (walk [] 32 (drop 32 s)) (Err (Trailing next)) ids' links'
+    told_trailing {next} e k = let t = step_is (Ok (Step.Last next)) e in trails l next t.0 t.1 t.2 k ids' links'
 
-    pub told_last : {next : ℕ} → found ≡ Step.Last next → length s ≤ next → WalkIs (walk [] 32 (drop 32 s)) (Walked.Good count records) ids' links'
-    told_last {next} e k = let t = step_is (Step.Last next) e in accepts l next t.0 t.1 t.2 k ids' links' t.3 t.4
+    pub told_last : {next : ℕ} → found ≡ Ok (Step.Last next) → length s ≤ next → WalkIs (walk [] 32 (drop 32 s)) (Ok record { nodes = count; records = records }) ids' links'
+    told_last {next} e k = let t = step_is (Ok (Step.Last next)) e in accepts l next t.0 t.1 t.2 k ids' links' t.3 t.4
 
-    pub told-listed : {next : ℕ} → found ≡ Step.Listed next → Reached s next (count + 1) (records + 1) ids' links' × (at < next)
+    pub told-listed : {next : ℕ} → found ≡ Ok (Step.Listed next) → Reached s next (count + 1) (records + 1) ids' links' × (at < next)
     told-listed {next} e =
-        let g = step_is (Step.Listed next) e in
+        let g = step_is (Ok (Step.Listed next)) e in
         (goes_on l next true ids' links' g (records + 1) (omega arith), omega (arith, g.ends.later))
 
-    pub told-skipped : {next : ℕ} → found ≡ Step.Skipped next → Reached s next (count + 1) records ids' links' × (at < next)
+    pub told-skipped : {next : ℕ} → found ≡ Ok (Step.Skipped next) → Reached s next (count + 1) records ids' links' × (at < next)
     told-skipped {next} e =
-        let g = step_is (Step.Skipped next) e in
+        let g = step_is (Ok (Step.Skipped next)) e in
         (goes_on l next false ids' links' g records (omega arith), omega (arith, g.ends.later))

@@ -1,5 +1,6 @@
 -- What the walk promises, by the rules' answer.
-use Rattle.std.specs.Prelude.{◌≡◌, ℕ, suc, ◌*◌, ◌≤◌, List, length, get_or}
+use Rattle.std.specs.Prelude.{◌≡◌, ℕ, suc, ◌*◌, ◌≤◌, Result, Ok, Err, List, length, get_or}
+use Rattle.shared_words.specs.declared.Refusal.{Refusal}
 use Rattle.shared_words.specs.Conditions.{refused, accepted}
 use Rattle.shared_words.specs.Refusals.{limit}
 use Rattle.cob_rules.specs.Layout.{Layout}
@@ -25,8 +26,8 @@ pub record Accepted (l : Layout) (count records : ℕ) (ids links : List ℕ) : 
   pub tree : Represents ids links count
   pub holds : Holds ids (seen_in l)
 
-abbrev pub WalkIs : Verdict → Walked → List ℕ → List ℕ → Type 0
-WalkIs (refused q) (Walked.Refused r) ids links = r ≡ q
-WalkIs (refused q) (Walked.Good count records) ids links = ⊥
-WalkIs (accepted l) (Walked.Refused r) ids links = ⊥
-WalkIs (accepted l) (Walked.Good count records) ids links = Accepted l count records ids links
+abbrev pub WalkIs : Verdict → Result Walked Refusal → List ℕ → List ℕ → Type 0
+WalkIs (refused q) (Err r) ids links = r ≡ q
+WalkIs (refused q) (Ok w) ids links = ⊥
+WalkIs (accepted l) (Err r) ids links = ⊥
+WalkIs (accepted l) (Ok w) ids links = Accepted l w.nodes w.records ids links

@@ -2,27 +2,25 @@
 use mathlib.Core.Path.{◌≡◌, refl, sym, ap, ◌∙◌}
 use Prim.Native.Nat.{ℕ, ◌+◌, ◌-◌, ◌*◌, ◌<◌, ◌≤◌, ◌^◌}
 use native.Mathlib.Omega.{arith}
-use mathlib.Core.Bool.{Bool, true, false, ◌&&◌, cond, false≢true, and-false}
+use mathlib.Core.Bool.{true, false, not, false≢true, and-false}
 use mathlib.Core.List.{List}
 use lib.Dec.{eqb, leb}
 use lib.ListN.{length, take, drop, length-drop}
-use lib.Seq.{drop-cons, drop-drop, drop-length, length-take-le}
-use borrow.Author.Tests.{ne_eqb, eq-eqb, le-leb, lt-leb, leb-true}
+use lib.Seq.{drop-cons, drop-drop, length-take-le}
+use borrow.Author.Tests.{ne_eqb, eq-eqb, eqb-false, not-true, le-leb, lt-leb, leb-true}
 use Rattle.shared_words.specs.Bytes.{minus_one, negative}
 use Rattle.shared_words.proofs.Bools.{or_second}
 use Rattle.cob_rules.specs.declared.Kind.{Kind}
 use Rattle.cob_rules.specs.Kinds.{is_mesh, tells_end, parts}
 use Rattle.cob_rules.specs.Body.{behind_all, exact, up_to, body_at}
-use Rattle.cob_rules.specs.Mesh.{all_finite, face_first, faces_of, all_below}
 use Rattle.cob_rules.specs.Layout.{Chunk, kind, size_field, size}
 use Rattle.cob_rules.specs.Rules.{size_allowed}
 use Rattle.cob_rules.specs.Walk.{chunk_at}
 use Rattle.cob_rules.proofs.Body.{told_exactly}
-use Rattle.cob_body.specs.declared.Place.{Place}
+use Rattle.std.specs.Prelude.{Option, Some, None, Err}
+use Rattle.std.specs.Option.{option_eq}
 use Rattle.cob_body.specs.Ends.{Ends}
-use Rattle.cob_mesh.specs.declared.Judged.{Judged}
-use Rattle.cob_mesh.specs.Laid.{judged}
-use Rattle.cob_chunk.specs.declared.Judgement.{Judgement}
+use Rattle.cob_chunk.specs.declared.Fault.{Fault}
 use Rattle.cob_chunk.specs.Chunks.{chunk_in, Stated, parts_judged, body_judged, judged_of}
 use Rattle.cob_chunk.proofs.Fields.{head_in}
 
@@ -35,52 +33,32 @@ mesh-kind Kind.PolH h = refl
 mesh-kind Kind.Mat1 h = absurd (false≢true h)
 mesh-kind Kind.Other h = absurd (false≢true h)
 
-pub no-mesh : (k : Kind) (body : List ℕ) → is_mesh k ≡ false → Judgement.Good (length body) ≡ parts_judged k body
-no-mesh k body e = rw e
-
-abbrev pub as_judgement : ℕ → Judged → Judgement
-as_judgement n Judged.Number = Judgement.Number
-as_judgement n Judged.Index = Judgement.Index
-as_judgement n Judged.Good = Judgement.Good n
-
-pub mesh-judged : (k : Kind) (body : List ℕ) (q r : Judged) → is_mesh k ≡ true → r ≡ judged (all_finite body) (face_first (faces_of body) && all_below body) → r ≡ q →
-    as_judgement (length body) q ≡ parts_judged k body
-mesh-judged k body q r m e h =
-    rw (m, ← h, e) (go (all_finite body) (face_first (faces_of body) && all_below body))
-  where
-    go : (f a : Bool) → as_judgement (length body) (judged f a) ≡ cond f (cond a (Judgement.Good (length body)) Judgement.Index) Judgement.Number
-    go false a = refl
-    go true false = refl
-    go true true = refl
-
 -- ---- a stated size
 
 module _ (k : Kind) (body : List ℕ) where
-  pub stated-not : Ends (behind_all (parts k)) body 0 Place.Nowhere → Judgement.Length ≡ body_judged k body
+  stated-not : Ends (behind_all (parts k)) body 0 None → Err Fault.Length ≡ body_judged k body
   stated-not h = rw h.is
 
-  pub stated-more : (n : ℕ) → Ends (behind_all (parts k)) body 0 (Place.At n) → (n ≡ length body → ⊥) → Judgement.Length ≡ body_judged k body
+  stated-more : (n : ℕ) → Ends (behind_all (parts k)) body 0 (Some n) → (n ≡ length body → ⊥) → Err Fault.Length ≡ body_judged k body
   stated-more n h d =
       let w = h.within.1 in
       let l : n < length body = omega arith in
       rw (h.is, drop-cons body n 0 l)
 
-  pub stated-exact : (n : ℕ) → Ends (behind_all (parts k)) body 0 (Place.At n) → n ≡ length body → exact k body ≡ true
-  stated-exact n h e = rw (h.is, e, drop-length body)
+  pub stated-other : (r : Option ℕ) → Ends (behind_all (parts k)) body 0 r → not (option_eq eqb r (Some (length body))) ≡ true → Err Fault.Length ≡ body_judged k body
+  stated-other (Some n) h e = stated-more n h (eqb-false n (length body) (not-true (eqb n (length body)) e))
+  stated-other None h e = stated-not h
 
 -- ---- a body that tells its own end
 
 module _ (k : Kind) (rest : List ℕ) (t : tells_end k ≡ true) where
-  pub told-not : Ends (behind_all (parts k)) rest 0 Place.Nowhere → Judgement.Length ≡ body_judged k (up_to rest (behind_all (parts k) rest))
-  told-not h = rw (told_exactly k rest t, h.is)
-
-  pub told_is : (n : ℕ) → Ends (behind_all (parts k)) rest 0 (Place.At n) → up_to rest (behind_all (parts k) rest) ≡ take n rest
+  pub told_is : (n : ℕ) → Ends (behind_all (parts k)) rest 0 (Some n) → up_to rest (behind_all (parts k) rest) ≡ take n rest
   told_is n h =
       let w = h.within.1 in
       let e : length rest - length (drop n rest) ≡ n = omega (arith, length-drop n rest) in
       rw (h.is, e)
 
-  pub told-exact : (n : ℕ) → Ends (behind_all (parts k)) rest 0 (Place.At n) → exact k (take n rest) ≡ true
+  pub told-exact : (n : ℕ) → Ends (behind_all (parts k)) rest 0 (Some n) → exact k (take n rest) ≡ true
   told-exact n h = ap (exact k) (sym (told_is n h)) ∙ told_exactly k rest t ∙ rw h.is
 
 -- an exact body is judged by its parts
@@ -120,12 +98,12 @@ module _ (s : List ℕ) (at : ℕ) where
       let b : here.body ≡ up_to (drop (at + 20) s) (behind_all (parts (kind here)) (drop (at + 20) s)) = body_in_lem ∙ rw n in
       rw a (ap (body_judged (kind here)) (sym b))
 
-  pub chunk_other : negative 4 (size_field here) ≡ true → (size_field here ≡ minus_one → ⊥) → Judgement.Size ≡ judged_of here
+  pub chunk_other : negative 4 (size_field here) ≡ true → (size_field here ≡ minus_one → ⊥) → Err Fault.Size ≡ judged_of here
   chunk_other n d =
       let a : size_allowed here ≡ false = rw (n, ne_eqb (size_field here) minus_one d) in
       rw a
 
-  pub chunk_silent : negative 4 (size_field here) ≡ true → tells_end (kind here) ≡ false → Judgement.Size ≡ judged_of here
+  pub chunk_silent : negative 4 (size_field here) ≡ true → tells_end (kind here) ≡ false → Err Fault.Size ≡ judged_of here
   chunk_silent n t =
       let a : size_allowed here ≡ false = rw (n, t) (and-false (eqb (size_field here) minus_one)) in
       rw a
@@ -142,7 +120,7 @@ module _ (s : List ℕ) (at : ℕ) where
         let b : here.body ≡ take (size_field here) (drop (at + 20) s) = body_in_lem ∙ rw n in
         sized (size_field here) (ap length b ∙ length-take-le (size_field here) (drop (at + 20) s) (omega (arith, length-drop (at + 20) s)))
 
-    pub ends-told : (n : ℕ) → negative 4 (size_field here) ≡ true → Ends (behind_all (parts (kind here))) (drop (at + 20) s) 0 (Place.At n) → at + 20 + n ≡ at + size here
+    pub ends-told : (n : ℕ) → negative 4 (size_field here) ≡ true → Ends (behind_all (parts (kind here))) (drop (at + 20) s) 0 (Some n) → at + 20 + n ≡ at + size here
     ends-told n g h =
         let t = drop (at + 20) s in
         let w = h.within.1 in
@@ -150,7 +128,7 @@ module _ (s : List ℕ) (at : ℕ) where
         let b : here.body ≡ take n t = body_in_lem ∙ rw (g, h.is, e) in
         sized n (ap length b ∙ length-take-le n t w)
 
-    pub ends_nowhere : negative 4 (size_field here) ≡ true → Ends (behind_all (parts (kind here))) (drop (at + 20) s) 0 Place.Nowhere → length s ≡ at + size here
+    pub ends_nowhere : negative 4 (size_field here) ≡ true → Ends (behind_all (parts (kind here))) (drop (at + 20) s) 0 None → length s ≡ at + size here
     ends_nowhere g h =
         let b : here.body ≡ drop (at + 20) s = body_in_lem ∙ rw (g, h.is) in
         omega (arith, ap length b, length-drop (at + 20) s, sized (length here.body) refl)

@@ -12,8 +12,9 @@ use Rattle.cob_rules.specs.Layout.{Chunk, identifier, parent}
 use Rattle.cob_rules.specs.Rules.{used, owner_known}
 use Rattle.cob_rules.specs.Gives.{topmost}
 use Rattle.cob_rules.proofs.Owners.{new, topmost_unused}
-use Rattle.cob_seen.specs.declared.Place.{Place}
-use Rattle.cob_seen.specs.Tree.{pick, number_in, is_at, Represents}
+use Rattle.std.specs.Prelude.{Option, Some, None}
+use Rattle.std.specs.Option.{is_some}
+use Rattle.cob_seen.specs.Tree.{number_in, Represents}
 use Rattle.cob_seen.proofs.Numbers.{number_is, number_at}
 use Rattle.cob_seen.proofs.Search.{unique}
 use Rattle.cob_owner.specs.Top.{top_of}
@@ -32,18 +33,18 @@ owns-set ids up [] k v l h = tt
 owns-set ids up (c ∷ seen) k v l h = (rw (top_set up k v (suc (length seen)) l) h.0, owns-set ids up seen k v (omega arith) h.1)
 
 -- from the node of an identifier
-owns-at : (ids up : List ℕ) (seen : List Chunk) (x p : ℕ) → Holds ids seen → Owns ids up seen → (x ≡ 0 → ⊥) → number_in ids (suc (length seen)) x ≡ Place.At p →
+owns-at : (ids up : List ℕ) (seen : List Chunk) (x p : ℕ) → Holds ids seen → Owns ids up seen → (x ≡ 0 → ⊥) → number_in ids (suc (length seen)) x ≡ Some p →
     get_or ids (top_of up p) 0 ≡ topmost seen x
 unfolding number_in topmost
 owns-at ids up [] x p h o n e = go (eqb (get_or ids 0 0) x) refl e
   where
-    go : (b : Bool) → eqb (get_or ids 0 0) x ≡ b → pick b (Place.At 0) Place.Nowhere ≡ Place.At p → get_or ids (top_of up p) 0 ≡ x
+    go : (b : Bool) → eqb (get_or ids 0 0) x ≡ b → cond b (Some 0) None ≡ Some p → get_or ids (top_of up p) 0 ≡ x
     go true t q = absurd (n (sym (eqb-true (get_or ids 0 0) x t) ∙ h))
     go false t q = let z : ◌≡◌ {A = ℕ} 0 1 = cc in absurd (omega arith)
 owns-at ids up (c ∷ seen) x p h o n e = go (eqb (identifier c) x) refl (rw h.0 at e) (owns-at ids up seen x p h.1 o.1 n)
   where
-    go : (b : Bool) → eqb (identifier c) x ≡ b → pick b (Place.At (suc (length seen))) (number_in ids (suc (length seen)) x) ≡ Place.At p →
-        (number_in ids (suc (length seen)) x ≡ Place.At p → get_or ids (top_of up p) 0 ≡ topmost seen x) →
+    go : (b : Bool) → eqb (identifier c) x ≡ b → cond b (Some (suc (length seen))) (number_in ids (suc (length seen)) x) ≡ Some p →
+        (number_in ids (suc (length seen)) x ≡ Some p → get_or ids (top_of up p) 0 ≡ topmost seen x) →
         get_or ids (top_of up p) 0 ≡ topmost seen (cond (b && not (eqb (parent c) 0)) (parent c) x)
     go true t q before =
         let z : p ≡ suc (length seen) = cc in
@@ -51,9 +52,9 @@ owns-at ids up (c ∷ seen) x p h o n e = go (eqb (identifier c) x) refl (rw h.0
         rw (z, ← y) (o.0 ∙ rw (eq-eqb (identifier c) (identifier c) refl))
     go false t q before = before q
 
-found : (q : Place) → is_at q ≡ true → (p : ℕ) × (q ≡ Place.At p)
-found (Place.At p) h = (p, refl)
-found Place.Nowhere h = absurd (false≢true h)
+found : (q : Option ℕ) → is_some q ≡ true → (p : ℕ) × (q ≡ Some p)
+found (Some p) h = (p, refl)
+found None h = absurd (false≢true h)
 
 -- ---- one chunk more
 
@@ -89,7 +90,7 @@ module _ {ids links : List ℕ} {count : ℕ} (tree : Represents ids links count
       let f = found (number_in ids node x) (known ids seen x h.1 ∙ rw (z, u)) in
       let p = f.0 in
       let a = number_at ids node x p f.1 in
-      let y : number_in ids count x ≡ Place.At p =
+      let y : number_in ids count x ≡ Some p =
       number_is ids count x p (omega arith) a.1 (λ j b q. unique tree j p b (omega arith) (q ∙ sym a.1)) in
       let b = top_below up p in
       let e : get_or ids (top_of up p) 0 ≡ topmost seen x = owns-at ids up seen x p h.1 o nz f.1 in

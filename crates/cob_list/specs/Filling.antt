@@ -1,5 +1,5 @@
 -- The pass that fills the row; and what its functions promise.
-use Rattle.std.specs.Prelude.{◌≡◌, ℕ, suc, ◌-◌, ◌*◌, ◌≤◌, true, false, cond, List, [], ◌∷◌, eqb, length}
+use Rattle.std.specs.Prelude.{◌≡◌, ℕ, suc, ◌-◌, ◌*◌, ◌≤◌, true, false, cond, Option, Some, None, List, [], ◌∷◌, eqb, length}
 use Rattle.shared_words.specs.Conditions.{accepted}
 use Rattle.shared_words.specs.Effects.{filled}
 use Rattle.shared_numbers.specs.Put.{placed, Put}
@@ -10,7 +10,6 @@ use Rattle.cob_rules.specs.Walk.{verdict}
 use Rattle.cob_rules.specs.Gives.{list}
 use Rattle.cob_rules.specs.Calls.{record_bytes}
 use Rattle.cob_rules.specs.Theorems.{seen_in}
-use Rattle.cob_seen.specs.declared.Place.{Place}
 use Rattle.cob_seen.specs.Tree.{Represents, number_in}
 use Rattle.cob_owner.specs.Top.{top_of}
 use Rattle.cob_step.specs.Steps.{Holds}
@@ -18,9 +17,9 @@ use Rattle.cob_chunk.specs.Chunks.{chunk_in}
 
 -- ---- owners by their nodes
 
-abbrev pub top_from : List ℕ → ℕ → Place → ℕ
-top_from up k (Place.At p) = top_of up p
-top_from up k Place.Nowhere = k
+abbrev pub top_from : List ℕ → ℕ → Option ℕ → ℕ
+top_from up k (Some p) = top_of up p
+top_from up k None = k
 
 -- the node of the topmost owner of node k, whose parent has an identifier
 abbrev pub top_for : List ℕ → ℕ → List ℕ → ℕ → ℕ → ℕ

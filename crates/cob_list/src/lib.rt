@@ -10,11 +10,11 @@ ghost use Rattle.cob_seen.specs.Tree.{Represents};
 ghost use Rattle.cob_chunk.specs.Chunks.{chunk_in};
 ghost use Rattle.cob_list.specs.Filling.{top_for, record_with, Fillable, Fills, PutListed, EndPut};
 
-use cob_check::{Walked, judge_file};
+use cob_check::judge_file;
 use cob_chunk::{chunk_end, is_listed, kind_at};
 use cob_owner::topmost;
 use cob_rules::Record;
-use cob_seen::{Place, find};
+use cob_seen::find;
 use shared_numbers::{long_at, put_long};
 use shared_words::Refusal;
 
@@ -27,8 +27,8 @@ fn top_for(ids: &[u32], links: &[u32], count: usize, up: &[u32], k: u32, parent:
         return k;
     }
     match find(ids, links, count, parent) {
-        Place::At(p) => topmost(up, p as u32),
-        Place::Nowhere => k,
+        Some(p) => topmost(up, p as u32),
+        None => k,
     }
 }
 
@@ -95,14 +95,12 @@ fn fill(file: &[u8], ids: &[u32], links: &[u32], count: usize, up: &mut [u32], r
 {
     let mut at = 32usize;
     let mut to = 0usize;
-    let mut k = 1usize;
-    while k < count {
+    for k in 1..count {
         let next = chunk_end(file, at);
         let top = top_for(ids, links, count, up, k as u32, long_at(file, at + 12));
         up[k] = top;
         to = put_listed(file, at, next, ids[top as usize], to, row);
         at = next;
-        k += 1;
     }
     put_end(file, at, to, row);
 }
@@ -127,14 +125,11 @@ pub fn list(file: &[u8], row: &mut [u8]) -> Result<usize, Refusal>
     }
     let mut ids = [0u32; 52429];
     let mut links = [0u32; 104858];
-    match judge_file(file, &mut ids, &mut links) {
-        Walked::Refused(r) => Err(r),
-        Walked::Good(count, n) => {
-            if row.len() / 24 < n {
-                return Err(Refusal::NoRoom(n));
-            }
-            fill_records(file, &ids, &links, count, row);
-            Ok(n)
-        }
+    let walked = judge_file(file, &mut ids, &mut links)?;
+    let n = walked.records;
+    if row.len() / 24 < n {
+        return Err(Refusal::NoRoom(n));
     }
+    fill_records(file, &ids, &links, walked.nodes, row);
+    Ok(n)
 }

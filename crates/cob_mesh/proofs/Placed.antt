@@ -1,5 +1,5 @@
 -- Where the lists of a body stand that fits its parts exactly.
-use mathlib.Core.Path.{◌≡◌, sym, ap, ◌∙◌}
+use mathlib.Core.Path.{◌≡◌, refl, sym, ap, ◌∙◌}
 use Prim.Native.Nat.{ℕ, ◌+◌, ◌*◌, ◌≤◌}
 use native.Mathlib.Omega.{arith}
 use mathlib.Core.Bool.{true, not}
@@ -16,7 +16,7 @@ use Rattle.cob_rules.specs.Kinds.{Part, times, faces, group, vertices, textures,
 use Rattle.cob_rules.specs.Body.{skip, face_run, behind, behind_all, exact}
 use Rattle.cob_rules.specs.Mesh.{count_of}
 use Rattle.cob_rules.proofs.Body.{skip-left, counted-left, then_left, nothing_left}
-use Rattle.cob_body.specs.declared.Place.{Place}
+use Rattle.std.specs.Prelude.{Option, Some, None, IsSome}
 use Rattle.cob_body.specs.Ends.{Ends}
 use Rattle.cob_rules.proofs.Body.{behind_append}
 use Rattle.cob_mesh.specs.Laid.{Whole, Laid}
@@ -26,12 +26,16 @@ module _ (body : List ℕ) (h : exact Kind.PolH body ≡ true) where
   all-parts = nothing_left (behind_all (parts Kind.PolH) body) h
 
   -- the parts that it begins with fit
-  pub front_fits : (ps qs : List Part) → parts Kind.PolH ≡ ps ++ qs → Ends (behind_all ps) body 0 Place.Nowhere → ⊥
+  front_fits : (ps qs : List Part) → parts Kind.PolH ≡ ps ++ qs → Ends (behind_all ps) body 0 None → ⊥
   front_fits ps qs e n =
       none-ne-some [] (sym (behind_append ps qs body ∙ rw n.is) ∙ ap (λ (l : List Part). behind_all l body) (sym e) ∙ all-parts)
 
+  pub front_some : (ps qs : List Part) (r : Option ℕ) → parts Kind.PolH ≡ ps ++ qs → Ends (behind_all ps) body 0 r → IsSome r
+  front_some ps qs (Some j) e n = refl
+  front_some ps qs None e n = absurd (front_fits ps qs e n)
+
 -- what follows some parts
-rest-is : (ps qs : List Part) (body : List ℕ) (v : ℕ) (left : List ℕ) → Ends (behind_all ps) body 0 (Place.At v) →
+rest-is : (ps qs : List Part) (body : List ℕ) (v : ℕ) (left : List ℕ) → Ends (behind_all ps) body 0 (Some v) →
     behind_all (ps ++ qs) body ≡ some left → behind_all qs (drop v body) ≡ some left
 rest-is ps qs body v left a b = sym (behind_append ps qs body ∙ rw a.is) ∙ b
 
@@ -56,8 +60,8 @@ run-whole body f h l =
     let g = leb-true 4 (length s) (and_parts (leb 4 (length s)) (not (negative 4 (value (take 4 s)))) p.0).0 in
     record { run = rw (← (drop-drop 4 f body)) p.1; within = omega (arith, length-drop f body) }
 
-pub laid : (body : List ℕ) → exact Kind.PolH body ≡ true → {v t f : ℕ} → Ends (behind_all group) body 0 (Place.At v) →
-    Ends (behind_all (group ++ (vertices ∷ []))) body 0 (Place.At t) → Ends (behind_all (group ++ (vertices ∷ textures ∷ []))) body 0 (Place.At f) →
+pub laid : (body : List ℕ) → exact Kind.PolH body ≡ true → {v t f : ℕ} → Ends (behind_all group) body 0 (Some v) →
+    Ends (behind_all (group ++ (vertices ∷ []))) body 0 (Some t) → Ends (behind_all (group ++ (vertices ∷ textures ∷ []))) body 0 (Some f) →
     Laid body record { vertices = v; textures = t; faces = f }
 laid body h {v} {t} {f} a b c = record {
   vertices-at = rw a.is;

@@ -1,12 +1,12 @@
 -- The body of a PolH by positions, as the code steps through it; and what its functions promise.
-use Rattle.std.specs.Prelude.{◌≡◌, ℕ, ◌+◌, ◌*◌, ◌<◌, ◌≤◌, Bool, ◌&&◌, cond, List, [], ltb, length, drop}
+use Rattle.std.specs.Prelude.{◌≡◌, ℕ, ◌+◌, ◌*◌, ◌<◌, ◌≤◌, Bool, ◌&&◌, cond, Result, Ok, Err, List, [], ltb, length, drop}
 use Rattle.std.proofs.Math.Option.{some}
 use Rattle.shared_words.specs.Lists.{every}
 use Rattle.cob_rules.specs.Body.{face, face_run}
 use Rattle.cob_rules.specs.Mesh.{count_of, vertex_list, texture_list, face_list, Face, firsts, corners_at, face_at, corners_below}
 use Rattle.cob_mesh.specs.declared.Lists.{Lists}
 use Rattle.cob_mesh.specs.declared.Corners.{Corners}
-use Rattle.cob_mesh.specs.declared.Judged.{Judged}
+use Rattle.cob_mesh.specs.declared.Fault.{Fault}
 
 -- so many faces stand from a position on, up to the end
 pub record Whole (s : List ℕ) (at count : ℕ) : Type 0 where
@@ -37,5 +37,5 @@ abbrev pub faces_below : ℕ → ℕ → List Face → Bool
 faces_below v t fs = every (corners_below v t) fs
 
 -- by whether floats are finite and indices allowed
-abbrev pub judged : Bool → Bool → Judged
-judged finite allowed = cond finite (cond allowed Judged.Good Judged.Index) Judged.Number
+abbrev pub judged : Bool → Bool → Result Unit Fault
+judged finite allowed = cond finite (cond allowed (Ok tt) (Err Fault.Index)) (Err Fault.Number)

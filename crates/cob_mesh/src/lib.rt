@@ -12,7 +12,7 @@ ghost use Rattle.cob_rules.specs.Body.{face, fits, exact};
 ghost use Rattle.cob_rules.specs.Mesh.{all_finite, face_first, faces_of, all_below, faces_at};
 ghost use Rattle.cob_mesh.specs.Laid.{Laid, FaceAt, Whole, all_corners, faces_below, judged};
 
-use cob_body::{Place, group_end, textures_end, vertices_end};
+use cob_body::{group_end, textures_end, vertices_end};
 use shared_numbers::{long_at, wide, word_at};
 use studio_scan::all_finite;
 
@@ -32,12 +32,11 @@ pub struct Corners {
     pub count: usize,
 }
 
-// Which of the refusals 11 and 12 is due first.
-#[derive(Clone, Copy)]
-pub enum Judged {
+// Refusal 11 or 12, whichever is due first.
+#[derive(Clone, Copy, Debug, PartialEq, Eq)]
+pub enum Fault {
     Number,
     Index,
-    Good,
 }
 
 // Where the lists of a mesh stand.
@@ -45,27 +44,9 @@ pub fn lists_of(body: &[u8]) -> Lists
     requires { exact Kind.PolH body.now ≡ true }
     ensures { Laid body.now result }
 {
-    let Place::At(vertices) = group_end(body) else {
-        return Lists {
-            vertices: 0,
-            textures: 0,
-            faces: 0,
-        };
-    };
-    let Place::At(textures) = vertices_end(body) else {
-        return Lists {
-            vertices: 0,
-            textures: 0,
-            faces: 0,
-        };
-    };
-    let Place::At(faces) = textures_end(body) else {
-        return Lists {
-            vertices: 0,
-            textures: 0,
-            faces: 0,
-        };
-    };
+    let vertices = group_end(body).unwrap();
+    let textures = vertices_end(body).unwrap();
+    let faces = textures_end(body).unwrap();
     Lists {
         vertices,
         textures,
@@ -100,17 +81,14 @@ fn corners_below(s: &[u8], at: usize, count: usize, vertices: u32, textures: u32
     requires { at + 8 * count ≤ length s.now }
     ensures { result ≡ all_corners vertices textures count (drop at s.now) }
 {
-    let mut left = count;
-    let mut o = at;
-    while 0 < left {
+    for i in 0..count {
+        let o = at + 8 * i;
         if vertices <= long_at(s, o) {
             return false;
         }
         if textures <= long_at(s, o + 4) {
             return false;
         }
-        o += 8;
-        left -= 1;
     }
     true
 }
@@ -120,15 +98,13 @@ fn faces_below(s: &[u8], at: usize, count: usize, vertices: u32, textures: u32) 
     requires { Whole s.now at count }
     ensures { result ≡ faces_below vertices textures (faces_at count (drop at s.now)) }
 {
-    let mut left = count;
     let mut o = at;
-    while 0 < left {
+    for _ in 0..count {
         let f = face_at(s, o);
         if !corners_below(s, f.at, f.count, vertices, textures) {
             return false;
         }
         o = f.at + 8 * f.count;
-        left -= 1;
     }
     true
 }
@@ -170,19 +146,19 @@ fn indices_good(body: &[u8], l: Lists) -> bool
 }
 
 // The refusal of a mesh, if there is one.
-pub fn judge(body: &[u8]) -> Judged
+pub fn judge(body: &[u8]) -> Result<(), Fault>
     requires { exact Kind.PolH body.now ≡ true }
     ensures { result ≡ judged (all_finite body.now) (face_first (faces_of body.now) && all_below body.now) }
 {
     let l = lists_of(body);
     if !list_finite(body, l.vertices, 3) {
-        return Judged::Number;
+        return Err(Fault::Number);
     }
     if !list_finite(body, l.textures, 2) {
-        return Judged::Number;
+        return Err(Fault::Number);
     }
     if !indices_good(body, l) {
-        return Judged::Index;
+        return Err(Fault::Index);
     }
-    Judged::Good
+    Ok(())
 }

@@ -2,8 +2,9 @@
 use mathlib.Core.Path.{◌≡◌, refl, sym, ap, ◌∙◌}
 use Prim.Native.Nat.{ℕ, ◌+◌, ◌-◌, ◌*◌, ◌<◌, ◌≤◌}
 use native.Mathlib.Omega.{arith}
-use mathlib.Core.Bool.{true, cond}
-use mathlib.Core.List.{List, ◌∷◌}
+use mir.Val.{bool_byte}
+use mathlib.Core.Bool.{Bool, true, false, not, cond}
+use mathlib.Core.List.{List}
 use lib.ListN.{length, drop, length-drop}
 use Rattle.shared_numbers.specs.Numbers.{long_at}
 use Rattle.cob_rules.specs.declared.Kind.{Kind}
@@ -16,6 +17,7 @@ use Rattle.cob_mesh.specs.declared.Corners.{Corners}
 use Rattle.cob_mesh.specs.Laid.{Whole, Laid, FaceAt}
 use Rattle.cob_mesh.proofs.Faces.{rest-whole, faces-more}
 use Rattle.cob_mesh.proofs.Below.{faces_are}
+use Rattle.cob_tables.proofs.Faces.{one-most}
 use Rattle.cob_meshes_rules.specs.Standing.{face_count, mesh_numbers}
 use Rattle.cob_meshes_rules.proofs.Front.{front}
 use Rattle.cob_meshes.specs.declared.Numbers.{Numbers}
@@ -28,13 +30,16 @@ pub record Counted (s : List ℕ) (at count o left n : ℕ) : Type 0 where
   pub whole : Whole s o left
   pub few : n + left ≤ count
 
-pub count-more : {s : List ℕ} {at count o left n : ℕ} {r : Corners} (one : ℕ) → Counted s at count o left n → 0 < left → FaceAt s o r → one ≡ cond r.hole 0 1 → one ≤ 1 →
-    Counted s at count (r.at + 8 * r.count) (left - 1) (n + one)
-count-more {left = left} one c l f e b = record {
-  is = c.is ∙ omega (arith, ap face_count (faces-more left l f), e);
+pub count-more : {s : List ℕ} {at count o left n : ℕ} {r : Corners} → Counted s at count o left n → 0 < left → FaceAt s o r → Counted s at count (r.at + 8 * r.count) (left - 1) (n + bool_byte (not r.hole))
+count-more {left = left} {r = r} c l f = record {
+  is = c.is ∙ omega (arith, ap face_count (faces-more left l f), unless r.hole);
   whole = rest-whole c.whole l f;
-  few = omega (arith, c.few);
+  few = omega (arith, c.few, one-most (not r.hole));
 }
+  where
+    unless : (hole : Bool) → bool_byte (not hole) ≡ cond hole 0 1
+    unless true = refl
+    unless false = refl
 
 pub counted-all : {s : List ℕ} {at count o left n : ℕ} → Counted s at count o left n → left ≡ 0 → n ≡ face_count (faces_at count (drop at s))
 counted-all c e = sym (c.is ∙ rw e (omega arith))

@@ -1,6 +1,6 @@
 -- The passes over the chunks of an accepted file: the meshes among those passed, counted and put into a row.
-use mathlib.Core.Path.{◌≡◌, refl, sym, ap, subst, ◌∙◌}
-use Prim.Native.Nat.{ℕ, suc, ◌+◌, ◌*◌, ◌/◌, ◌<◌, ◌≤◌}
+use mathlib.Core.Path.{◌≡◌, refl, sym, ap, ◌∙◌}
+use Prim.Native.Nat.{ℕ, ◌+◌, ◌*◌, ◌≤◌}
 use native.Mathlib.Omega.{arith}
 use mathlib.Core.Bool.{Bool, true, false, cond}
 use mathlib.Core.List.{List, [], ◌∷◌, ◌++◌, append_assoc, append-nil}
@@ -16,7 +16,7 @@ use Rattle.cob_rules.specs.Gives.{one_if}
 use Rattle.cob_rules.proofs.Verdict.{one-accepted}
 use Rattle.cob_chunk.specs.Chunks.{chunk_in}
 use Rattle.cob_tables.specs.Asked.{Readable}
-use Rattle.cob_tables.proofs.Chunks.{Passing, meets, passing_all, head_whole, no_more, there, here-is, here-fits, here-long, passing_on, body-here, mesh-stands}
+use Rattle.cob_tables.proofs.Chunks.{Passing, meets, passing_all, head_whole, no_more, there, here-is, here-long, passing_on, body-here, mesh-stands}
 use Rattle.cob_meshes_rules.specs.Standing.{Standing, standing_from, standing, flat_meshes}
 use Rattle.cob_meshes_rules.specs.Calls.{mesh_bytes}
 use Rattle.cob_meshes_rules.proofs.Same.{flat-length, flat_append}

@@ -1,9 +1,9 @@
 -- One chunk: nothing put, or the numbers of a mesh.
 use mathlib.Core.Path.{◌≡◌, refl, sym, subst, ◌∙◌}
-use Prim.Native.Nat.{ℕ, ◌+◌, ◌-◌, ◌≤◌}
+use Prim.Native.Nat.{ℕ, ◌+◌, ◌-◌}
 use native.Mathlib.Omega.{arith}
 use mathlib.Core.Bool.{true, false, true≢false}
-use mathlib.Core.List.{List, [], ◌∷◌}
+use mathlib.Core.List.{List}
 use lib.ListN.{length, drop, length-take, length-drop}
 use Rattle.shared_words.specs.Bytes.{packed}
 use Rattle.shared_numbers.specs.Put.{Put}

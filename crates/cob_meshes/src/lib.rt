@@ -39,25 +39,17 @@ struct Numbers {
     record: u32,
 }
 
-fn one_unless(hole: bool) -> usize
-    ensures { (result ≡ cond hole 0 1) × (result ≤ 1) }
-{
-    if hole { 0 } else { 1 }
-}
-
 // How many of so many faces and holes are faces.
 fn count_faces(s: &[u8], at: usize, count: usize) -> usize
     requires { Whole s.now at count }
     ensures { (result ≡ face_count (faces_at count (drop at s.now))) × (result ≤ count) }
 {
-    let mut left = count;
     let mut o = at;
     let mut n = 0usize;
-    while 0 < left {
+    for _ in 0..count {
         let f = face_at(s, o);
-        n += one_unless(f.hole);
+        n += !f.hole as usize;
         o = f.at + 8 * f.count;
-        left -= 1;
     }
     n
 }
@@ -106,7 +98,7 @@ fn count_record(file: &[u8], at: usize) -> usize
     requires { at + 20 ≤ length file.now }
     ensures { (result ≡ cond (listed (kind (chunk_in file.now at))) 1 0) × (result ≤ 1) }
 {
-    if is_listed(kind_at(file, at)) { 1 } else { 0 }
+    is_listed(kind_at(file, at)) as usize
 }
 
 // The chunk at an offset, which ends at `next`, if it is a mesh, at a position of the row; answers the position behind it.
@@ -128,6 +120,7 @@ fn count_meshes(file: &[u8]) -> usize
 {
     let mut at = 32usize;
     let mut n = 0usize;
+    // a `while`: each chunk's size tells where the next begins
     while !is_end(kind_at(file, at)) {
         n += count_mesh(file, at);
         at = chunk_end(file, at);
@@ -143,6 +136,7 @@ fn fill(file: &[u8], row: &mut [u8])
     let mut at = 32usize;
     let mut number = 0usize;
     let mut to = 0usize;
+    // a `while`: each chunk's size tells where the next begins
     while !is_end(kind_at(file, at)) {
         let next = chunk_end(file, at);
         to = put_mesh(file, at, next, number, to, row);
@@ -157,15 +151,11 @@ pub fn meshes(file: &[u8], row: &mut [u8]) -> Result<usize, Refusal>
     ensures answer { result ≡ (meshes_call mesh_bytes file.now row.old).answer }
     ensures row { row.new ≡ (meshes_call mesh_bytes file.now row.old).rows }
 {
-    match check(file) {
-        Err(r) => Err(r),
-        Ok(_) => {
-            let n = count_meshes(file);
-            if row.len() / 32 < n {
-                return Err(Refusal::NoRoom(n));
-            }
-            fill(file, row);
-            Ok(n)
-        }
+    check(file)?;
+    let n = count_meshes(file);
+    if row.len() / 32 < n {
+        return Err(Refusal::NoRoom(n));
     }
+    fill(file, row);
+    Ok(n)
 }

@@ -26,7 +26,7 @@ body_exact c = exact (kind c) c.body
 abbrev pub of_mesh : Chunk → Bool → Bool
 of_mesh c holds = cond (is_mesh (kind c)) holds true
 
--- floats of either vertex list are neither infinite nor not-a_number
+-- floats of either vertex list are neither infinite nor not-a-number
 abbrev pub numbers_finite : Chunk → Bool
 numbers_finite c = of_mesh c (all_finite c.body)
 

@@ -1,7 +1,5 @@
-// What the calls of the Caligari reader answer. The definitions in specs/ speak of these types.
+// The types of the Caligari reader. The definitions in specs/ speak of these types.
 #![tactic(auto)]
-
-use shared_words::Refusal;
 
 // The four chunk types of Q-4, and any other.
 #[derive(Clone, Copy)]
@@ -13,7 +11,8 @@ pub enum Kind {
     Other,
 }
 
-// One chunk of the four in the list. `kind` is its four letters, the first in the lowest byte.
+// One chunk of the four in the list. `kind` is its four letters, the first in the lowest
+// byte: a number and no `Kind`, since C reads it (tds_cob_list).
 #[repr(C)]
 #[derive(Clone, Copy)]
 pub struct Record {
@@ -24,4 +23,3 @@ pub struct Record {
     pub parent: u32,
     pub owner: u32,
 }
-

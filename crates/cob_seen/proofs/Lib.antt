@@ -1,3 +1,2 @@
 pub mod Numbers
 pub mod Search
-pub mod Parents

@@ -8,7 +8,7 @@ use lib.ListN.{get_or, set, length, length-set, replicate, length-replicate}
 use lib.Seq.{get_or-set_same, get_or-set_other}
 use Rattle.shared_tree.specs.Tree.{Added, Ended}
 use Rattle.shared_tree.proofs.Search as search-tree
-use Rattle.cob_seen.specs.declared.Place.TheVariants.{At, Nowhere}
+use Rattle.std.specs.Prelude.{Some, None}
 use Rattle.cob_seen.specs.Tree.{number_in, bits, tree_in, Represents}
 use Rattle.cob_seen.proofs.Numbers.{number_none, number_is}
 
@@ -29,11 +29,11 @@ starts m n a b = record {
 
 module _ (ids links : List ℕ) {count x at rest : ℕ} (e : Ended bits (tree_in ids links) count x at rest) where
   -- what the end of a search says of the list
-  pub there : get_or ids at 0 ≡ x → number_in ids count x ≡ At at
+  pub there : get_or ids at 0 ≡ x → number_in ids count x ≡ Some at
   there h = number_is ids count x at e.comes.node h (search-tree.there e h)
 
   module _ (n : get_or ids at 0 ≡ x → ⊥) where
-    pub nowhere : number_in ids count x ≡ Nowhere
+    pub nowhere : number_in ids count x ≡ None
     nowhere = number_none ids count x (search-tree.nowhere e n)
 
     module _ (r : Represents ids links count) (room : count < length ids) (links_room : 2 * count + 1 < length links) where

@@ -1,17 +1,12 @@
 -- A digital search tree in two rows, and the list of identifiers that it represents: the first `count` of `ids`.
-use Rattle.std.specs.Prelude.{◌≡◌, Bool, true, false, not, ◌&&◌, List, ℕ, zero, suc, ◌+◌, ◌*◌, ◌/◌, ◌%◌, ◌<◌, ◌≤◌, get_or, set, length, eqb}
+use Rattle.std.specs.Prelude.{◌≡◌, Option, Some, None, Bool, true, false, cond, not, ◌&&◌, List, ℕ, zero, suc, ◌+◌, ◌*◌, ◌/◌, ◌%◌, ◌<◌, ◌≤◌, get_or, set, length, eqb}
+use Rattle.std.specs.Option.{is_some}
 use Rattle.shared_tree.specs.Tree.{Way, Tree, Searchable}
-use Rattle.cob_seen.specs.declared.Place.{Place}
-use Rattle.cob_seen.specs.declared.Place.TheVariants.{At, Nowhere}
-
-abbrev pub pick : Bool → Place → Place → Place
-pick true a b = a
-pick false a b = b
 
 -- the number of x in a list of identifiers
-unfoldable pub number_in : List ℕ → ℕ → ℕ → Place
-number_in ids zero x = Nowhere
-number_in ids (suc n) x = pick (eqb (get_or ids n 0) x) (At n) (number_in ids n x)
+unfoldable pub number_in : List ℕ → ℕ → ℕ → Option ℕ
+number_in ids zero x = None
+number_in ids (suc n) x = cond (eqb (get_or ids n 0) x) (Some n) (number_in ids n x)
 
 -- a search takes the bits of x from the lowest up
 abbrev pub bits : Way ℕ ℕ
@@ -33,18 +28,13 @@ pub record Ready (ids links : List ℕ) (count : ℕ) : Type 0 where
   pub node : count < length ids
   pub sides : 2 * count + 2 ≤ length links
 
--- whether it is in the list
-abbrev pub is_at : Place → Bool
-is_at (At k) = true
-is_at Nowhere = false
-
 -- x is added to the list unless it is there
 pub record Grown (ids links : List ℕ) (count x : ℕ) (added : Bool) (ids' links' : List ℕ) : Type 0 where
-  pub answer : added ≡ not (is_at (number_in ids count x))
+  pub answer : added ≡ not (is_some (number_in ids count x))
   pub new : added ≡ true → (ids' ≡ set ids count x) × Represents ids' links' (count + 1)
   pub old : added ≡ false → (ids' ≡ ids) × (links' ≡ links)
 
 -- x is added where its parent is in the list and it is not
 pub record Admitted (ids : List ℕ) (count x parent : ℕ) (added : Bool) (ids' links' : List ℕ) : Type 0 where
-  pub answer : added ≡ (is_at (number_in ids count parent) && not (is_at (number_in ids count x)))
+  pub answer : added ≡ (is_some (number_in ids count parent) && not (is_some (number_in ids count x)))
   pub new : added ≡ true → (ids' ≡ set ids count x) × Represents ids' links' (count + 1)

@@ -1,6 +1,6 @@
 // A set of 32-bit identifiers, as a digital search tree in lent rows: at most some 32 steps for any identifier, however they are
 // chosen. Node k holds ids[k]; its two links are links[2 * k] and links[2 * k + 1], the number of a later node or 0 for none. A search
-// takes the bits of x from the lowest up.
+// takes the bits of x from the lowest up. The nodes are numbers in rows, and no boxes or map: the library has no heap.
 #![tactic(auto)]
 
 ghost use Rattle.std.specs.Prelude.{◌≡◌};
@@ -16,13 +16,6 @@ struct Spot {
     rest: u32,
 }
 
-// The number of an identifier, or that it is not there.
-#[derive(Clone, Copy)]
-pub enum Place {
-    At(usize),
-    Nowhere,
-}
-
 // The search for x: to the node that holds it, or to one with no link on its side.
 fn descend(ids: &[u32], links: &[u32], count: usize, x: u32) -> Spot
     requires { Represents ids.now links.now count }
@@ -30,6 +23,7 @@ fn descend(ids: &[u32], links: &[u32], count: usize, x: u32) -> Spot
 {
     let mut at = 0usize;
     let mut rest = x;
+    // a `while`: it follows links down the tree
     while ids[at] != x {
         let link = wide(links[2 * at + wide(rest % 2)]);
         if link == 0 {
@@ -41,18 +35,13 @@ fn descend(ids: &[u32], links: &[u32], count: usize, x: u32) -> Spot
     Spot { at, rest }
 }
 
-// The number of x among the first `count` identifiers.
-pub fn find(ids: &[u32], links: &[u32], count: usize, x: u32) -> Place
+// The number of x among the first `count` identifiers, if it is there.
+pub fn find(ids: &[u32], links: &[u32], count: usize, x: u32) -> Option<usize>
     requires { Represents ids.now links.now count }
     ensures { result ≡ number_in ids.now count x }
 {
-    let spot = descend(ids, links, count, x);
-    let at = spot.at;
-    if ids[at] == x {
-        Place::At(at)
-    } else {
-        Place::Nowhere
-    }
+    let at = descend(ids, links, count, x).at;
+    if ids[at] == x { Some(at) } else { None }
 }
 
 // One identifier more, unless it is there; whether it was added.
@@ -75,8 +64,5 @@ pub fn admit(ids: &mut [u32], links: &mut [u32], count: usize, id: u32, parent: 
     requires { Ready ids.old links.old count }
     ensures { Admitted ids.old count id parent result ids.new links.new }
 {
-    let Place::At(_) = find(ids, links, count, parent) else {
-        return false;
-    };
-    add(ids, links, count, id)
+    find(ids, links, count, parent).is_some() && add(ids, links, count, id)
 }

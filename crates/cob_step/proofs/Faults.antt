@@ -16,10 +16,10 @@ use Rattle.shared_words.proofs.Bools.{and_parts}
 use Rattle.cob_rules.specs.Kinds.{is_end}
 use Rattle.cob_rules.specs.Layout.{Chunk, kind, identifier, parent, size_field}
 use Rattle.cob_rules.specs.Rules.{used, owner_known, size_allowed, body_exact, numbers_finite, holes_in_faces, indices_below}
-use Rattle.cob_seen.specs.declared.Place.{Place}
-use Rattle.cob_seen.specs.declared.Place.TheVariants.{At, Nowhere}
-use Rattle.cob_seen.specs.Tree.{pick, number_in, is_at}
-use Rattle.cob_chunk.specs.declared.Judgement.{Judgement}
+use Rattle.std.specs.Prelude.{Option, Some, None, Ok, Err}
+use Rattle.std.specs.Option.{is_some}
+use Rattle.cob_seen.specs.Tree.{number_in}
+use Rattle.cob_chunk.specs.declared.Fault.{Fault}
 use Rattle.cob_chunk.specs.Chunks.{chunk_in, Stated, judged_of}
 use Rattle.cob_step.specs.Steps.{within, fault_of, Holds, fault_at}
 
@@ -27,7 +27,7 @@ use Rattle.cob_step.specs.Steps.{within, fault_of, Holds, fault_at}
 
 rest-fault : (at n : ℕ) (a b f h i : Bool) →
     broken (must a (Size at) ∷ must b (Length at) ∷ must f (Number at) ∷ must h (Index at) ∷ must i (Index at) ∷ []) ≡
-    fault_of at (cond a (cond b (cond f (cond (h && i) (Judgement.Good n) Judgement.Index) Judgement.Number) Judgement.Length) Judgement.Size)
+    fault_of at (cond a (cond b (cond f (cond (h && i) (Ok n) (Err Fault.Index)) (Err Fault.Number)) (Err Fault.Length)) (Err Fault.Size))
 unfolding broken
 rest-fault at n false b f h i = refl
 rest-fault at n true false f h i = refl
@@ -78,7 +78,7 @@ zero-first x = go (eqb x 0) refl
     go true e = eq-eqb 0 x (sym (eqb-true x 0 e))
     go false e = ne_eqb 0 x (λ q. eqb-false x 0 e (sym q))
 
-found_or : (b : Bool) (k : ℕ) (q : Place) → is_at (pick b (At k) q) ≡ (b || is_at q)
+found_or : (b : Bool) (k : ℕ) (q : Option ℕ) → is_some (cond b (Some k) q) ≡ (b || is_some q)
 found_or true k q = refl
 found_or false k q = refl
 
@@ -89,9 +89,9 @@ or_swap false true c = refl
 or_swap false false c = refl
 
 -- the tree finds 0 and the identifiers used
-pub known : (ids : List ℕ) (seen : List Chunk) (x : ℕ) → Holds ids seen → is_at (number_in ids (suc (length seen)) x) ≡ (eqb x 0 || used x seen)
+pub known : (ids : List ℕ) (seen : List Chunk) (x : ℕ) → Holds ids seen → is_some (number_in ids (suc (length seen)) x) ≡ (eqb x 0 || used x seen)
 unfolding number_in
-known ids [] x h = found_or (eqb (get_or ids 0 0) x) 0 Nowhere ∙ rw h (ap (λ (b : Bool). b || false) (zero-first x))
+known ids [] x h = found_or (eqb (get_or ids 0 0) x) 0 None ∙ rw h (ap (λ (b : Bool). b || false) (zero-first x))
 known ids (c ∷ seen) x h =
     found_or (eqb (get_or ids (suc (length seen)) 0) x) (suc (length seen)) (number_in ids (suc (length seen)) x) ∙
     rw (h.0, known ids seen x h.1) (or_swap (eqb (identifier c) x) (eqb x 0) (used x seen))
@@ -105,7 +105,7 @@ owner_test false false true = refl
 owner_test false false false = refl
 
 pub owner_by : (ids : List ℕ) (seen : List Chunk) (c : Chunk) → Holds ids seen →
-    (is_at (number_in ids (suc (length seen)) (parent c)) && not (is_at (number_in ids (suc (length seen)) (identifier c)))) ≡ owner_known seen c
+    (is_some (number_in ids (suc (length seen)) (parent c)) && not (is_some (number_in ids (suc (length seen)) (identifier c)))) ≡ owner_known seen c
 owner_by ids seen c h =
     rw (known ids seen (parent c) h, known ids seen (identifier c) h)
     (owner_test (eqb (parent c) 0 || used (parent c) seen) (eqb (identifier c) 0) (used (identifier c) seen))

@@ -15,12 +15,17 @@ use Rattle.cob_rules.specs.Rules.{owner_known, size_allowed, body_exact, numbers
 use Rattle.cob_rules.specs.Walk.{chunk_at}
 use Rattle.cob_rules.proofs.Body.{body-whole}
 use Rattle.cob_seen.specs.Tree.{Represents, Admitted}
-use Rattle.cob_chunk.specs.declared.Judgement.{Judgement}
+use Rattle.cob_chunk.specs.declared.Fault.{Fault}
+use Rattle.std.specs.Prelude.{Result, Ok, Err, MatchResult}
 use Rattle.cob_chunk.specs.Chunks.{chunk_in, judged_of}
 use Rattle.cob_chunk.proofs.Fields.{head_in}
-use Rattle.cob_step.specs.declared.Body.{Body}
 use Rattle.cob_step.specs.Steps.{within, EndsAt, BodyTold, BodyIs, Holds, fault_at, Goes}
 use Rattle.cob_step.proofs.Faults.{judged-fault, owner_by, holds_more}
+
+-- an Ok behind `map_err` was one before it
+pub ok-before : {A E : Type 0} (r : Result A E) (x : A) (Q : E → Type 0) → MatchResult r (λ y. ◌≡◌ {A = Result A Refusal} (Ok x) (Ok y)) Q → ((e : E) → Q e → ⊥) → r ≡ Ok x
+ok-before (Ok y) x Q h n = cc
+ok-before (Err e) x Q h n = absurd (n e h)
 
 -- ---- within the file
 
@@ -49,11 +54,11 @@ module _ (s : List ℕ) (at : ℕ) where
       let w = ap length (body-whole (kind here) (size_field here) t) in
       omega (arith, length-append here.body (drop (length here.body) t), length-drop at s, length-drop 20 (drop at s))
 
-  good-is : (n : ℕ) → judged_of here ≡ Judgement.Good n → length here.body ≡ n
+  good-is : (n : ℕ) → judged_of here ≡ Ok n → length here.body ≡ n
   good-is n = go (size_allowed here) (body_exact here) (numbers_finite here) (holes_in_faces here && indices_below here)
     where
       go : (a b f h : Bool) →
-          cond a (cond b (cond f (cond h (Judgement.Good (length here.body)) Judgement.Index) Judgement.Number) Judgement.Length) Judgement.Size ≡ Judgement.Good n →
+          cond a (cond b (cond f (cond h (Ok (length here.body)) (Err Fault.Index)) (Err Fault.Number)) (Err Fault.Length)) (Err Fault.Size) ≡ Ok n →
           length here.body ≡ n
       go false b f h e = cc
       go true false f h e = cc
@@ -61,18 +66,18 @@ module _ (s : List ℕ) (at : ℕ) where
       go true true true false e = cc
       go true true true true e = cc
 
-  pub good-ends : (n : ℕ) → at + 20 ≤ length s → judged_of here ≡ Judgement.Good n → EndsAt s at (at + 20 + n)
+  pub good-ends : (n : ℕ) → at + 20 ≤ length s → judged_of here ≡ Ok n → EndsAt s at (at + 20 + n)
   good-ends n l e =
       let b = good-is n e in
       let k = body-inside in
       let h = head_in s at l in
       record { is = omega arith; inside = omega arith; later = omega arith }
 
-  module _ (seen : List Chunk) (w : within s at ≡ true) (o : (is_end (kind here) || owner_known seen here) ≡ true) {b : Body} (h : BodyIs s at b) where
-    pub body_refused : {q : Refusal} → b ≡ Body.Refused q → fault_at seen s at ≡ some q
+  module _ (seen : List Chunk) (w : within s at ≡ true) (o : (is_end (kind here) || owner_known seen here) ≡ true) {b : Result ℕ Refusal} (h : BodyIs s at b) where
+    pub body_refused : {q : Refusal} → b ≡ Err q → fault_at seen s at ≡ some q
     body_refused e = judged-fault seen s at w o ∙ subst (BodyTold s at) e h.told
 
-    pub body-good : {next : ℕ} → b ≡ Body.Ends next → (fault_at seen s at ≡ none) × EndsAt s at next
+    pub body-good : {next : ℕ} → b ≡ Ok next → (fault_at seen s at ≡ none) × EndsAt s at next
     body-good e = let t = subst (BodyTold s at) e h.told in (judged-fault seen s at w o ∙ t.0, t.1)
 
 -- ---- the search tree
@@ -92,7 +97,7 @@ module _ (s : List ℕ) (at : ℕ) {ids : List ℕ} {count id up : ℕ} (i : ide
       )
 
   -- a good chunk before END
-  pub goes : within s at ≡ true → is_end (kind (chunk_in s at)) ≡ false → b ≡ true → count < length ids → {body : Body} {next : ℕ} → BodyIs s at body → body ≡ Body.Ends next →
+  pub goes : within s at ≡ true → is_end (kind (chunk_in s at)) ≡ false → b ≡ true → count < length ids → {body : Result ℕ Refusal} {next : ℕ} → BodyIs s at body → body ≡ Ok next →
       {is_listed : Bool} → listed (kind (chunk_in s at)) ≡ is_listed → Goes seen s at next is_listed ids' links'
   goes w e t l k q y =
       let o = owner_is ∙ t in

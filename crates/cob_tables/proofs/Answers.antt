@@ -22,8 +22,8 @@ use Rattle.cob_rules.specs.Calls.{give, sizes_of, sizes_call, Rows, tables_of, t
 use Rattle.cob_mesh.specs.declared.Lists.{Lists}
 use Rattle.cob_mesh.specs.Laid.{Whole, Laid}
 use Rattle.cob_mesh.proofs.Below.{vertices_are, faces_are}
-use Rattle.cob_tables.specs.declared.Asked.{Asked}
-use Rattle.cob_tables.specs.Asked.{body_in, Stands, bad, good, AskedTold, AskedIs}
+use Rattle.cob_tables.specs.declared.Span.{Span}
+use Rattle.cob_tables.specs.Asked.{body_in, Stands, AskedTold, AskedIs}
 use Rattle.cob_tables.specs.Rows.{rows, TablesAre}
 use Rattle.cob_tables.proofs.Picks.{of-picked}
 use Rattle.cob_rules.proofs.Triangles.{three-each}
@@ -109,42 +109,42 @@ module _ {body : List ℕ} {l : Lists} (h : Laid body l) where
 
 -- ---- the calls
 
-module _ {s : List ℕ} {mesh : ℕ} {r : Asked} (a : AskedIs s mesh r) where
-  asked_as : (x : Asked) → r ≡ x → AskedTold s mesh x
+module _ {s : List ℕ} {mesh : ℕ} {r : Result Span Refusal} (a : AskedIs s mesh r) where
+  asked_as : (x : Result Span Refusal) → r ≡ x → AskedTold s mesh x
   asked_as x e = subst (AskedTold s mesh) e a.told
 
-  pub body-stands : {from to : ℕ} → r ≡ Asked.At from to → Stands s from to
-  body-stands {from} {to} e = (asked_as (Asked.At from to) e).1
+  pub body-stands : {b : Span} → r ≡ Ok b → Stands s b.from b.to
+  body-stands {b} e = (asked_as (Ok b) e).1
 
   module _ (row : List ℕ) where
-    pub sizes-refused : {q : Refusal} → r ≡ Asked.Refused q →
+    pub sizes-refused : {q : Refusal} → r ≡ Err q →
         (Err q ≡ (sizes_call (number_bytes 4) s mesh row).answer) × (row ≡ (sizes_call (number_bytes 4) s mesh row).rows)
     unfolding sizes_call
     sizes-refused {q} e =
-        let t = of-picked (λ x. leaving (Err x) row) (λ m. give (number_bytes 4) (sizes_of m) row) s mesh (bad q) (asked_as (Asked.Refused q) e) in
+        let t = of-picked (λ q. leaving (Err q) row) (λ m. give (number_bytes 4) (sizes_of m) row) s mesh (Err q) (asked_as (Err q) e) in
         (rw t, rw t)
 
-    pub sizes-of-body : {from to : ℕ} → r ≡ Asked.At from to → {b : Result ℕ Refusal} {row' : List ℕ} →
-        (b ≡ (give (number_bytes 4) (sizes_of (mesh_in (body_in s from to))) row).answer) × (row' ≡ (give (number_bytes 4) (sizes_of (mesh_in (body_in s from to))) row).rows) →
+    pub sizes-of-body : {x : Span} → r ≡ Ok x → {b : Result ℕ Refusal} {row' : List ℕ} →
+        (b ≡ (give (number_bytes 4) (sizes_of (mesh_in (body_in s x.from x.to))) row).answer) × (row' ≡ (give (number_bytes 4) (sizes_of (mesh_in (body_in s x.from x.to))) row).rows) →
         (b ≡ (sizes_call (number_bytes 4) s mesh row).answer) × (row' ≡ (sizes_call (number_bytes 4) s mesh row).rows)
     unfolding sizes_call
-    sizes-of-body {from} {to} e p =
-        let t = of-picked (λ x. leaving (Err x) row) (λ m. give (number_bytes 4) (sizes_of m) row) s mesh (good (mesh_in (body_in s from to))) (asked_as (Asked.At from to) e).0 in
+    sizes-of-body {x} e p =
+        let t = of-picked (λ q. leaving (Err q) row) (λ m. give (number_bytes 4) (sizes_of m) row) s mesh (Ok (mesh_in (body_in s x.from x.to))) (asked_as (Ok x) e).0 in
         (rw t p.0, rw t p.1)
 
   module _ (vs cs : List ℕ) where
     abbrev call : Effect (Result ℕ Refusal) Rows
     call = tables_call (number_bytes 4) s mesh (rows vs cs)
 
-    pub tables-refused : {q : Refusal} → r ≡ Asked.Refused q → (Err q ≡ call.answer) × (rows vs cs ≡ call.rows)
+    pub tables-refused : {q : Refusal} → r ≡ Err q → (Err q ≡ call.answer) × (rows vs cs ≡ call.rows)
     unfolding tables_call
     tables-refused {q} e =
-        let t = of-picked (λ x. leaving (Err x) (rows vs cs)) (tables_of (number_bytes 4) (rows vs cs)) s mesh (bad q) (asked_as (Asked.Refused q) e) in
+        let t = of-picked (λ q. leaving (Err q) (rows vs cs)) (tables_of (number_bytes 4) (rows vs cs)) s mesh (Err q) (asked_as (Err q) e) in
         (rw t, rw t)
 
-    pub tables-of-body : {from to : ℕ} → r ≡ Asked.At from to → {b : Result ℕ Refusal} {vs' cs' : List ℕ} → TablesAre (mesh_in (body_in s from to)) vs cs b vs' cs' →
+    pub tables-of-body : {x : Span} → r ≡ Ok x → {b : Result ℕ Refusal} {vs' cs' : List ℕ} → TablesAre (mesh_in (body_in s x.from x.to)) vs cs b vs' cs' →
         (b ≡ call.answer) × (rows vs' cs' ≡ call.rows)
     unfolding tables_call
-    tables-of-body {from} {to} e p =
-        let t = of-picked (λ x. leaving (Err x) (rows vs cs)) (tables_of (number_bytes 4) (rows vs cs)) s mesh (good (mesh_in (body_in s from to))) (asked_as (Asked.At from to) e).0 in
+    tables-of-body {x} e p =
+        let t = of-picked (λ q. leaving (Err q) (rows vs cs)) (tables_of (number_bytes 4) (rows vs cs)) s mesh (Ok (mesh_in (body_in s x.from x.to))) (asked_as (Ok x) e).0 in
         (rw t p.answer-is, rw t (rw (p.vertices_are, p.corners_are)))

@@ -2,7 +2,8 @@
 use mathlib.Core.Path.{◌≡◌, refl, sym, ap, subst, ◌∙◌}
 use Prim.Native.Nat.{ℕ, zero, suc, ◌+◌, ◌-◌, ◌*◌, ◌<◌, ◌≤◌}
 use native.Mathlib.Omega.{arith}
-use mathlib.Core.Bool.{Bool, true, false, not, ◌&&◌, cond, false≢true}
+use mir.Val.{bool_byte}
+use mathlib.Core.Bool.{Bool, true, false, not, ◌&&◌, cond}
 use mathlib.Core.List.{List, [], ◌∷◌, ◌++◌, append_assoc, append-nil}
 use lib.ListN.{length, drop, length-append}
 use lib.Seq.{drop-drop}
@@ -18,7 +19,9 @@ use Rattle.cob_mesh.specs.declared.Corners.{Corners}
 use Rattle.cob_mesh.specs.Laid.{Whole, FaceAt}
 use Rattle.cob_mesh.proofs.Faces.{rest-whole, faces-more}
 use Rattle.cob_tables.specs.declared.Triangle.{Triangle}
-use Rattle.cob_tables.specs.Triangles.{face_in, TriangleAt, TriangleFits, PutTriangle}
+use Rattle.std.specs.Prelude.{Option, Some, None}
+use Rattle.std.specs.Option.{is_some}
+use Rattle.cob_tables.specs.Triangles.{face_in, face_given, TriangleAt, TriangleFits, PutTriangle}
 
 length-firsts : (n : ℕ) (s : List ℕ) → length (firsts n s) ≡ n
 length-firsts zero s = refl
@@ -39,16 +42,16 @@ module _ {s : List ℕ} {o left : ℕ} (w : Whole s o left) (l : 0 < left) {r : 
   first-is : triangles (faces_at left (drop o s)) ≡ cond (triangle here && face_first rest) (here ∷ []) [] ++ triangles rest
   first-is = rw (faces-more left l f)
 
-  left_out : (triangle here && face_first rest) ≡ false → (at : ℕ) → TriangleAt s o left record { yes = false; at = at; next = next }
-  left_out e at = record { is = first-is ∙ rw e; whole = rest-whole w l f; inside = λ y. absurd (false≢true y) }
+  left_out : (triangle here && face_first rest) ≡ false → TriangleAt s o left record { corners = None; next = next }
+  left_out e = record { is = first-is ∙ rw e; whole = rest-whole w l f; inside = λ at y. cc }
 
-  pub no-hole : r.hole ≡ true → (at : ℕ) → TriangleAt s o left record { yes = false; at = at; next = next }
+  pub no-hole : r.hole ≡ true → TriangleAt s o left record { corners = None; next = next }
   no-hole h = left_out (rw h)
 
-  pub no-three : r.hole ≡ false → (r.count ≡ 3 → ⊥) → (at : ℕ) → TriangleAt s o left record { yes = false; at = at; next = next }
+  pub no-three : r.hole ≡ false → (r.count ≡ 3 → ⊥) → TriangleAt s o left record { corners = None; next = next }
   no-three h n = left_out (rw (h, length-firsts r.count (drop r.at s), ne_eqb r.count 3 n))
 
-  pub no_whole : not (face_first rest) ≡ true → (at : ℕ) → TriangleAt s o left record { yes = false; at = at; next = next }
+  pub no_whole : not (face_first rest) ≡ true → TriangleAt s o left record { corners = None; next = next }
   no_whole h = left_out (go (triangle here) (face_first rest) h)
     where
       go : (a b : Bool) → not b ≡ true → (a && b) ≡ false
@@ -56,12 +59,12 @@ module _ {s : List ℕ} {o left : ℕ} (w : Whole s o left) (l : 0 < left) {r : 
       go true false e = refl
       go false b e = refl
 
-  pub is-triangle : r.hole ≡ false → r.count ≡ 3 → not (face_first rest) ≡ false → TriangleAt s o left record { yes = true; at = r.at; next = next }
+  pub is-triangle : r.hole ≡ false → r.count ≡ 3 → not (face_first rest) ≡ false → TriangleAt s o left record { corners = Some r.at; next = next }
   is-triangle h n e =
       let t : triangle here ≡ true = rw (h, length-firsts r.count (drop r.at s), eq-eqb r.count 3 n) in
       let g : (triangle here && face_first rest) ≡ true = rw t (go (face_first rest) e) in
       let q : here ≡ face_in s r.at = rw (h, n) in
-      record { is = first-is ∙ rw (g, q); whole = rest-whole w l f; inside = λ y. omega (arith, f.whole) }
+      record { is = first-is ∙ rw (g, q); whole = rest-whole w l f; inside = λ at y. let z : r.at ≡ at = cc in omega (arith, f.whole) }
     where
       go : (b : Bool) → not b ≡ false → b ≡ true
       go true e = refl
@@ -74,17 +77,21 @@ pub record Counted (s : List ℕ) (at count o left n : ℕ) : Type 0 where
   pub whole : Whole s o left
   pub few : n + left ≤ count
 
-pub count-more : {s : List ℕ} {at count o left n : ℕ} {t : Triangle} (one : ℕ) → Counted s at count o left n → 0 < left → TriangleAt s o left t → one ≡ cond t.yes 1 0 → one ≤ 1 →
-    Counted s at count t.next (left - 1) (n + one)
-count-more {s} {at} {count} {o} {left} {n} {t} one c l h e b = record {
-  is = c.is ∙ ap (λ (k : ℕ). n + k) (ap length h.is ∙ go t.yes e) ∙ omega arith;
+pub one-most : (b : Bool) → bool_byte b ≤ 1
+one-most true = omega arith
+one-most false = omega arith
+
+pub count-more : {s : List ℕ} {at count o left n : ℕ} {t : Triangle} (b : Bool) → Counted s at count o left n → 0 < left → TriangleAt s o left t → b ≡ is_some t.corners →
+    Counted s at count t.next (left - 1) (n + bool_byte b)
+count-more {s} {at} {count} {o} {left} {n} {t} b c l h e = record {
+  is = c.is ∙ ap (λ (k : ℕ). n + k) (ap length h.is ∙ go t.corners ∙ ap (λ (x : Bool). bool_byte x + length (triangles (faces_at (left - 1) (drop t.next s)))) (sym e)) ∙ omega arith;
   whole = h.whole;
-  few = omega (arith, c.few);
+  few = omega (arith, c.few, one-most b);
 }
   where
-    go : (y : Bool) → one ≡ cond y 1 0 → length (cond y (face_in s t.at ∷ []) [] ++ triangles (faces_at (left - 1) (drop t.next s))) ≡ one + length (triangles (faces_at (left - 1) (drop t.next s)))
-    go true q = omega arith
-    go false q = omega arith
+    go : (y : Option ℕ) → length (face_given s y ++ triangles (faces_at (left - 1) (drop t.next s))) ≡ bool_byte (is_some y) + length (triangles (faces_at (left - 1) (drop t.next s)))
+    go (Some at) = omega arith
+    go None = omega arith
 
 pub counted-all : {s : List ℕ} {at count o left n : ℕ} → Counted s at count o left n → left ≡ 0 → n ≡ length (triangles (faces_at count (drop at s)))
 counted-all c e = sym (c.is ∙ rw e (omega arith))
@@ -114,39 +121,39 @@ module _ {s : List ℕ} {at count : ℕ} {row₀ row : List ℕ} {o left to : �
   abbrev behind : List ℕ
   behind = corners_of (triangles (faces_at (left - 1) (drop t.next s)))
 
-  with-face : (b : Bool) → t.yes ≡ b → corners_of (triangles (faces_at left (drop o s))) ≡ cond b (face_in s t.at).corners [] ++ behind
-  with-face b e = ap corners_of h.is ∙ rw e (go b)
+  with-face : (y : Option ℕ) → t.corners ≡ y → corners_of (triangles (faces_at left (drop o s))) ≡ corners_of (face_given s y) ++ behind
+  with-face y e = ap corners_of h.is ∙ rw e (go y)
     where
-      go : (y : Bool) → corners_of (cond y (face_in s t.at ∷ []) [] ++ triangles (faces_at (left - 1) (drop t.next s))) ≡ cond y (face_in s t.at).corners [] ++ behind
-      go true = refl
-      go false = refl
+      go : (y : Option ℕ) → corners_of (face_given s y ++ triangles (faces_at (left - 1) (drop t.next s))) ≡ corners_of (face_given s y) ++ behind
+      go (Some at) = refl
+      go None = refl
 
   pub triangle-fits : TriangleFits s t row to
   triangle-fits = record {
     inside = h.inside;
-    room = λ y.
-        let c = ap length (with-face true y) in
+    room = λ at y.
+        let c = ap length (with-face (Some at) y) in
         let d = ap length r.is in
         omega (arith, r.room, r.row-long, r.put.ends, length-packed 4 r.done, length-append r.done (corners_of (triangles (faces_at left (drop o s)))));
   }
 
   pub fill_more : {row' : List ℕ} {to' : ℕ} → PutTriangle s t row to row' to' → length row' ≡ length row → Filling s at count row₀ row' t.next (left - 1) to'
-  fill_more {row'} {to'} p g = go t.yes refl
+  fill_more {row'} {to'} p g = go t.corners refl
     where
-      go : (b : Bool) → t.yes ≡ b → Filling s at count row₀ row' t.next (left - 1) to'
-      go true e = record {
-        done = r.done ++ (face_in s t.at).corners;
-        is = append_assoc r.done (face_in s t.at).corners behind ∙ ap (λ (x : List ℕ). r.done ++ x) (sym (with-face true e)) ∙ r.is;
+      go : (y : Option ℕ) → t.corners ≡ y → Filling s at count row₀ row' t.next (left - 1) to'
+      go (Some k) e = record {
+        done = r.done ++ (face_in s k).corners;
+        is = append_assoc r.done (face_in s k).corners behind ∙ ap (λ (x : List ℕ). r.done ++ x) (sym (with-face (Some k) e)) ∙ r.is;
         whole = h.whole;
-        put = rw (packed_append 4 r.done (face_in s t.at).corners) (put_then (omega arith) r.put (p.yes e));
+        put = rw (packed_append 4 r.done (face_in s k).corners) (put_then (omega arith) r.put (p.yes k e));
         room = r.room;
         row-long = g ∙ r.row-long;
       }
-      go false e =
+      go None e =
           let z = p.no e in
           record {
             done = r.done;
-            is = ap (λ (x : List ℕ). r.done ++ x) (sym (with-face false e)) ∙ r.is;
+            is = ap (λ (x : List ℕ). r.done ++ x) (sym (with-face None e)) ∙ r.is;
             whole = h.whole;
             put = rw (z.0, z.1) r.put;
             room = r.room;

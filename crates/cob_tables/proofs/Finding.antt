@@ -11,7 +11,8 @@ use Rattle.cob_rules.specs.Layout.{Chunk, kind, size, Layout}
 use Rattle.cob_rules.specs.Gives.{one_if, Mesh, mesh_in, mesh_of, meshes_of, meshes}
 use Rattle.cob_rules.proofs.Verdict.{one-accepted}
 use Rattle.cob_chunk.specs.Chunks.{chunk_in}
-use Rattle.cob_tables.specs.declared.Found.{Found}
+use Rattle.std.specs.Prelude.{Ok, Err}
+use Rattle.shared_words.specs.declared.Refusal.TheVariants.{NoSuchMesh}
 use Rattle.cob_tables.specs.Asked.{Readable, FoundIn, FoundIs}
 use Rattle.cob_tables.proofs.Chunks.{Passing, passing_all, no_more, there, here-is, passing_on, body-here, mesh-stands}
 
@@ -44,14 +45,14 @@ module _ {s : List ℕ} {mesh at n : ℕ} (r : Finding s mesh at n) where
   abbrev l : Layout
   l = r.given.layout
 
-  pub nowhere : is_end (kind (chunk_in s at)) ≡ true → FoundIs s mesh (Found.Nowhere n)
-  nowhere t = record { told = λ x e. subst (λ (y : Layout). FoundIn s mesh y (Found.Nowhere n)) (one-accepted s r.given.is e) answer }
+  pub nowhere : is_end (kind (chunk_in s at)) ≡ true → FoundIs s mesh (Err (NoSuchMesh n))
+  nowhere t = record { told = λ x e. subst (λ (y : Layout). FoundIn s mesh y (Err (NoSuchMesh n))) (one-accepted s r.given.is e) answer }
     where
       all : r.done ≡ meshes l
       all = sym (ap (λ (x : List Chunk). r.done ++ meshes_of x) (no_more r.passing t) ∙ append-nil r.done) ∙ r.split
 
-      answer : FoundIn s mesh l (Found.Nowhere n)
-      answer = (rw (← all) (elem_none r.done mesh (omega (arith, r.counted, r.few))), ap length (sym all) ∙ r.counted)
+      answer : FoundIn s mesh l (Err (NoSuchMesh n))
+      answer = (rw (← all) (elem_none r.done mesh (omega (arith, r.counted, r.few))), ap NoSuchMesh (ap length (sym all) ∙ r.counted))
 
   -- ---- at a chunk before END
 
@@ -65,10 +66,10 @@ module _ {s : List ℕ} {mesh at n : ℕ} (r : Finding s mesh at n) where
     is_one : (one : ℕ) → one ≡ cond (is_mesh (kind (chunk_in s at))) 1 0 → one ≡ cond (is_mesh (kind c)) 1 0
     is_one one e = e ∙ ap (λ (x : Chunk). cond (is_mesh (kind x)) 1 0) (here-is r.passing t)
 
-    pub finds : (one next : ℕ) → one ≡ cond (is_mesh (kind (chunk_in s at))) 1 0 → next ≡ at + size (chunk_in s at) → mesh < n + one → FoundIs s mesh (Found.At (at + 20) next)
-    finds one next e f b = record { told = λ x q. subst (λ (y : Layout). FoundIn s mesh y (Found.At (at + 20) next)) (one-accepted s r.given.is q) (answer (is_mesh (kind c)) refl (is_one one e)) }
+    pub finds : (one next : ℕ) → one ≡ cond (is_mesh (kind (chunk_in s at))) 1 0 → next ≡ at + size (chunk_in s at) → mesh < n + one → FoundIs s mesh (Ok record { from = at + 20; to = next })
+    finds one next e f b = record { told = λ x q. subst (λ (y : Layout). FoundIn s mesh y (Ok record { from = at + 20; to = next })) (one-accepted s r.given.is q) (answer (is_mesh (kind c)) refl (is_one one e)) }
       where
-        answer : (m : Bool) → is_mesh (kind c) ≡ m → one ≡ cond m 1 0 → FoundIn s mesh l (Found.At (at + 20) next)
+        answer : (m : Bool) → is_mesh (kind c) ≡ m → one ≡ cond m 1 0 → FoundIn s mesh l (Ok record { from = at + 20; to = next })
         answer false m o = absurd (omega (arith, r.few))
         answer true m o =
             let i : mesh ≡ length r.done = omega (arith, r.few, r.counted) in

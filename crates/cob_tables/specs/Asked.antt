@@ -1,8 +1,9 @@
 -- The mesh that is asked for: what its search promises.
-use Rattle.std.specs.Prelude.{◌≡◌, ℕ, ◌-◌, ◌≤◌, true, List, length, take, drop}
+use Rattle.std.specs.Prelude.{◌≡◌, ℕ, ◌-◌, ◌≤◌, true, Result, Ok, Err, List, length, take, drop}
 use Rattle.std.proofs.Math.Option.{none, some}
 use Rattle.std.proofs.Math.ListN.{get_elem?}
 use Rattle.shared_words.specs.declared.Refusal.{Refusal}
+use Rattle.shared_words.specs.declared.Refusal.TheVariants.{NoSuchMesh}
 use Rattle.shared_words.specs.Conditions.{accepted}
 use Rattle.cob_rules.specs.declared.Kind.{Kind}
 use Rattle.cob_rules.specs.Body.{exact}
@@ -10,8 +11,7 @@ use Rattle.cob_rules.specs.Layout.{Layout}
 use Rattle.cob_rules.specs.Walk.{verdict}
 use Rattle.cob_rules.specs.Gives.{Mesh, mesh_in, meshes}
 use Rattle.cob_rules.specs.Calls.{of_mesh}
-use Rattle.cob_tables.specs.declared.Found.{Found}
-use Rattle.cob_tables.specs.declared.Asked.{Asked}
+use Rattle.cob_tables.specs.declared.Span.{Span}
 
 -- a file that is accepted
 pub record Readable (s : List ℕ) : Type 0 where
@@ -27,24 +27,20 @@ pub record Stands (s : List ℕ) (from to : ℕ) : Type 0 where
   pub inside : to ≤ length s
   pub exact-is : exact Kind.PolH (body_in s from to) ≡ true
 
-abbrev pub FoundIn : List ℕ → ℕ → Layout → Found → Type 0
-FoundIn s mesh l (Found.At from to) = (get_elem? (meshes l) mesh ≡ some (mesh_in (body_in s from to))) × Stands s from to
-FoundIn s mesh l (Found.Nowhere n) = (get_elem? (meshes l) mesh ≡ none) × (length (meshes l) ≡ n)
+abbrev pub FoundIn : List ℕ → ℕ → Layout → Result Span Refusal → Type 0
+FoundIn s mesh l (Ok body) = (get_elem? (meshes l) mesh ≡ some (mesh_in (body_in s body.from body.to))) × Stands s body.from body.to
+FoundIn s mesh l (Err q) = (get_elem? (meshes l) mesh ≡ none) × (NoSuchMesh (length (meshes l)) ≡ q)
 
-pub record FoundIs (s : List ℕ) (mesh : ℕ) (r : Found) : Type 0 where
+pub record FoundIs (s : List ℕ) (mesh : ℕ) (r : Result Span Refusal) : Type 0 where
   pub told : (l : Layout) → verdict s ≡ accepted l → FoundIn s mesh l r
 
 -- what `of_mesh` makes of a file and a mesh number, before it is used
-pub data Picked : Type 0 where
-  bad : Refusal → Picked
-  good : Mesh → Picked
+abbrev pub picked : List ℕ → ℕ → Result Mesh Refusal
+picked s mesh = of_mesh (λ q. Err q) (λ m. Ok m) mesh (verdict s)
 
-abbrev pub picked : List ℕ → ℕ → Picked
-picked s mesh = of_mesh bad good mesh (verdict s)
+abbrev pub AskedTold : List ℕ → ℕ → Result Span Refusal → Type 0
+AskedTold s mesh (Err q) = picked s mesh ≡ Err q
+AskedTold s mesh (Ok body) = (picked s mesh ≡ Ok (mesh_in (body_in s body.from body.to))) × Stands s body.from body.to
 
-abbrev pub AskedTold : List ℕ → ℕ → Asked → Type 0
-AskedTold s mesh (Asked.Refused q) = picked s mesh ≡ bad q
-AskedTold s mesh (Asked.At from to) = (picked s mesh ≡ good (mesh_in (body_in s from to))) × Stands s from to
-
-pub record AskedIs (s : List ℕ) (mesh : ℕ) (r : Asked) : Type 0 where
+pub record AskedIs (s : List ℕ) (mesh : ℕ) (r : Result Span Refusal) : Type 0 where
   pub told : AskedTold s mesh r

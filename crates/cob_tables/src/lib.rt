@@ -27,17 +27,11 @@ use studio_mesh_rows::fill_float_bytes;
 
 // ---- the mesh that is asked for
 
-// Where the body of a mesh stands, from and to; or how many meshes there are.
+// Where the body of a mesh stands.
 #[derive(Clone, Copy)]
-enum Found {
-    At(usize, usize),
-    Nowhere(usize),
-}
-
-#[derive(Clone, Copy)]
-enum Asked {
-    At(usize, usize),
-    Refused(Refusal),
+struct Span {
+    from: usize,
+    to: usize,
 }
 
 // 1 for a mesh, 0 for any other chunk.
@@ -45,48 +39,46 @@ pub fn count_mesh(file: &[u8], at: usize) -> usize
     requires { at + 20 ≤ length file.now }
     ensures { (result ≡ cond (is_mesh (kind (chunk_in file.now at))) 1 0) × (result ≤ 1) }
 {
-    if is_mesh(kind_at(file, at)) { 1 } else { 0 }
+    is_mesh(kind_at(file, at)) as usize
 }
 
-// The mesh of a number in an accepted file.
-fn find_mesh(file: &[u8], mesh: usize) -> Found
+// The mesh of a number in an accepted file, or the refusal that tells how many there are.
+fn find_mesh(file: &[u8], mesh: usize) -> Result<Span, Refusal>
     requires { Readable file.now × (mesh < 4294967296) }
     ensures { FoundIs file.now mesh result }
 {
     let mut at = 32usize;
     let mut n = 0usize;
+    // a `while`: each chunk's size tells where the next begins
     while !is_end(kind_at(file, at)) {
         let next = chunk_end(file, at);
         let one = count_mesh(file, at);
         if mesh < n + one {
-            return Found::At(at + 20, next);
+            return Ok(Span {
+                from: at + 20,
+                to: next,
+            });
         }
         n += one;
         at = next;
     }
-    Found::Nowhere(n)
+    Err(Refusal::NoSuchMesh(n))
 }
 
 // The check of the file, then the mesh.
-fn ask(file: &[u8], mesh: u32) -> Asked
+fn ask(file: &[u8], mesh: u32) -> Result<Span, Refusal>
     ensures { AskedIs file.now mesh result }
 {
-    match check(file) {
-        Err(r) => Asked::Refused(r),
-        Ok(_) => match find_mesh(file, wide(mesh)) {
-            Found::At(from, to) => Asked::At(from, to),
-            Found::Nowhere(n) => Asked::Refused(Refusal::NoSuchMesh(n)),
-        },
-    }
+    check(file)?;
+    find_mesh(file, wide(mesh))
 }
 
 // ---- the faces with three corners and no holes
 
-// A face: whether it is one of them, where its corners stand, and where the next face stands.
+// A face: where its corners stand, if it is one of them, and where the next face stands.
 #[derive(Clone, Copy)]
 struct Triangle {
-    yes: bool,
-    at: usize,
+    corners: Option<usize>,
     next: usize,
 }
 
@@ -96,40 +88,29 @@ fn triangle_at(s: &[u8], o: usize, left: usize) -> Triangle
     ensures { TriangleAt s.now o left result }
 {
     let f = face_at(s, o);
-    let at = f.at;
-    let next = at + 8 * f.count;
+    let next = f.at + 8 * f.count;
     if f.hole {
         return Triangle {
-            yes: false,
-            at,
+            corners: None,
             next,
         };
     }
     if f.count != 3 {
         return Triangle {
-            yes: false,
-            at,
+            corners: None,
             next,
         };
     }
     if hole_first(s, next, left - 1) {
         return Triangle {
-            yes: false,
-            at,
+            corners: None,
             next,
         };
     }
     Triangle {
-        yes: true,
-        at,
+        corners: Some(f.at),
         next,
     }
-}
-
-fn one_if(yes: bool) -> usize
-    ensures { (result ≡ cond yes 1 0) × (result ≤ 1) }
-{
-    if yes { 1 } else { 0 }
 }
 
 // How many of so many faces are.
@@ -137,14 +118,12 @@ pub fn count_triangles(s: &[u8], at: usize, count: usize) -> usize
     requires { Whole s.now at count }
     ensures { (result ≡ length (triangles (faces_at count (drop at s.now)))) × (result ≤ count) }
 {
-    let mut left = count;
     let mut o = at;
     let mut n = 0usize;
-    while 0 < left {
-        let t = triangle_at(s, o, left);
-        n += one_if(t.yes);
+    for i in 0..count {
+        let t = triangle_at(s, o, count - i);
+        n += t.corners.is_some() as usize;
         o = t.next;
-        left -= 1;
     }
     n
 }
@@ -154,10 +133,9 @@ fn put_triangle(s: &[u8], t: Triangle, to: usize, row: &mut [u8]) -> usize
     requires { TriangleFits s.now t row.old to }
     ensures { PutTriangle s.now t row.old to row.new result }
 {
-    if !t.yes {
+    let Some(at) = t.corners else {
         return to;
-    }
-    let at = t.at;
+    };
     let second = put_long(long_at(s, at), to, row);
     let third = put_long(long_at(s, at + 8), second, row);
     put_long(long_at(s, at + 16), third, row)
@@ -168,14 +146,12 @@ fn fill_corners(s: &[u8], at: usize, count: usize, row: &mut [u8])
     requires { Whole s.now at count × (4 * length (corners_of (triangles (faces_at count (drop at s.now)))) ≤ length row.old) }
     ensures { row.new ≡ filled (packed 4 (corners_of (triangles (faces_at count (drop at s.now))))) row.old }
 {
-    let mut left = count;
     let mut o = at;
     let mut to = 0usize;
-    while 0 < left {
-        let t = triangle_at(s, o, left);
+    for i in 0..count {
+        let t = triangle_at(s, o, count - i);
         to = put_triangle(s, t, to, row);
         o = t.next;
-        left -= 1;
     }
 }
 
@@ -224,21 +200,22 @@ pub fn sizes(file: &[u8], mesh: u32, row: &mut [u8]) -> Result<usize, Refusal>
     ensures answer { result ≡ (sizes_call (number_bytes 4) file.now mesh row.old).answer }
     ensures row { row.new ≡ (sizes_call (number_bytes 4) file.now mesh row.old).rows }
 {
-    match ask(file, mesh) {
-        Asked::Refused(r) => Err(r),
-        Asked::At(from, to) => put_sizes(&file[from..to], row),
-    }
+    let body = ask(file, mesh)?;
+    put_sizes(&file[body.from..body.to], row)
 }
 
 // The vertices and the corners of a mesh, into lent rows; answers how many vertices there are, or a refusal, which leaves the
 // rows as they were.
-pub fn tables(file: &[u8], mesh: u32, vertices: &mut [u8], corners: &mut [u8]) -> Result<usize, Refusal>
+pub fn tables(
+    file: &[u8],
+    mesh: u32,
+    vertices: &mut [u8],
+    corners: &mut [u8],
+) -> Result<usize, Refusal>
     ensures answer { result ≡ (tables_call (number_bytes 4) file.now mesh (rows vertices.old corners.old)).answer }
     ensures rows { rows vertices.new corners.new ≡
         (tables_call (number_bytes 4) file.now mesh (rows vertices.old corners.old)).rows }
 {
-    match ask(file, mesh) {
-        Asked::Refused(r) => Err(r),
-        Asked::At(from, to) => put_tables(&file[from..to], vertices, corners),
-    }
+    let body = ask(file, mesh)?;
+    put_tables(&file[body.from..body.to], vertices, corners)
 }

@@ -1,10 +1,10 @@
 -- A number of 2 bytes that is not negative.
 use mathlib.Core.Option.{some}
-use Rattle.cob_body.proofs.Ends.{count_of, count-bad, counted-ends, counted-not, all-ends}
+use Rattle.cob_body.proofs.Ends.{counted-ends, counted-not, all-ends}
 use Rattle.cob_body.proofs.natural_end.Goals as goal
 
-pub returns-in-Of : goal.returns-in-Of
-returns-in-Of c = let k = count_of c.short_count.ensures c.in-Of.is in counted-ends (λ n t. some t) k (all-ends _ _ k.whole)
+pub returns-in_err-short_count : goal.returns-in_err-short_count
+returns-in_err-short_count c = rw c.from_residual.ensures (counted-not 2 (λ n t. some t) c.args.s.now c.args.at c.in_err-short_count.ensures.told)
 
-pub returns-in-Bad : goal.returns-in-Bad
-returns-in-Bad c = let x = c.args in counted-not 2 (λ n t. some t) x.s.now x.at (count-bad c.short_count.ensures c.in-Bad.is)
+pub returns : goal.returns
+returns c = let k = c.in_ok-short_count.ensures.told in counted-ends (λ n t. some t) k (all-ends _ _ k.whole)

@@ -1,16 +1,11 @@
 -- A mesh as far as its list of texture vertices.
 use mathlib.Core.List.{[], ◌∷◌}
-use native.Mathlib.Omega.{arith}
 use Rattle.cob_rules.specs.Kinds.{group, vertices}
-use Rattle.cob_body.proofs.Ends.{ends_at, ends-not}
 use Rattle.cob_body.proofs.Parts.{last_part, parts-ends, parts-not}
 use Rattle.cob_body.proofs.vertices_end.Goals as goal
 
-pub returns-in_default : goal.returns-in_default
-returns-in_default c = parts-not group (vertices ∷ []) (ends-not c.group_end.ensures c.in_default.is)
-
-pub list_end-requires : goal.list_end-requires
-list_end-requires c = ((ends_at c.group_end.ensures c.in-At.is).within.1, omega arith)
+pub returns-in_err-at : goal.returns-in_err-at
+returns-in_err-at c = rw c.from_residual.ensures (parts-not group (vertices ∷ []) c.in_err-at.ensures)
 
 pub returns : goal.returns
-returns c = parts-ends group (vertices ∷ []) (ends_at c.group_end.ensures c.in-At.is) (last_part vertices _ c.list_end.ensures)
+returns c = parts-ends group (vertices ∷ []) c.in_ok-at.ensures (last_part vertices _ c.list_end.ensures)

@@ -1,6 +1,8 @@
-use Prim.Native.Nat.{◌-◌}
-use mathlib.Core.Path.{refl}
+use mathlib.Core.Path.{refl, ap, ◌∙◌}
 use native.Mathlib.Omega.{arith}
+use Rattle.std.proofs.lemmas.Result.{err_from_is_err_and}
+use Rattle.std.specs.Prelude.{Ok}
+use Rattle.cob_step.specs.declared.Step.{Step}
 use Rattle.cob_check.proofs.Reached.{few, starts, ready, missing, told-refused, told_trailing, told_last, told-listed, told-skipped}
 use Rattle.cob_check.proofs.walk_chunks.Goals as goal
 
@@ -10,23 +12,12 @@ loop-at-init c = (starts _ _ _ c.requires.0 c.requires.1, refl, refl)
 pub step_at-requires : goal.step_at-requires
 step_at-requires c =
     let loop-test' = c.loop-at-test in
-    let loop' = c.loop-at in
-    let pre' = c.requires in
-    (omega (arith, loop'.invariant.0.inside), ready loop'.invariant.0 pre'.0 loop'.invariant.1 loop'.invariant.2 loop-test'.true)
+    (omega (arith, c.loop-at.invariant.0.inside), ready c.loop-at.invariant.0 c.requires.0 c.loop-at.invariant.1 c.loop-at.invariant.2 loop-test'.true)
 
-pub shape_of-ids-in-Refused : goal.shape_of-ids-in-Refused
-shape_of-ids-in-Refused c = omega (arith, c.loop-at.invariant.1)
-
-pub shape_of-links-in-Refused : goal.shape_of-links-in-Refused
-shape_of-links-in-Refused c = omega (arith, c.loop-at.invariant.2)
-
-pub returns-in-Refused : goal.returns-in-Refused
-returns-in-Refused c =
-    let r' = c.in-Refused in
-    let step-at' = c.step_at in
-    let loop-test' = c.loop-at-test in
-    let loop' = c.loop-at in
-    told-refused loop'.invariant.0 loop-test'.true step-at'.ensures r'.is
+pub returns-in_err-next : goal.returns-in_err-next
+returns-in_err-next c =
+    let p = err_from_is_err_and c.from_residual.result c.from_residual.ensures.1 in
+    rw (p.1, p.2) (told-refused c.loop-at.invariant.0 c.loop-at-test.true c.step_at.ensures c.in_err-next.was)
 
 pub shape_of-ids-then-next-file : goal.shape_of-ids-then-next-file
 shape_of-ids-then-next-file c = omega (arith, c.loop-at.invariant.1)
@@ -36,11 +27,9 @@ shape_of-links-then-next-file c = omega (arith, c.loop-at.invariant.2)
 
 pub returns-then-next-file : goal.returns-then-next-file
 returns-then-next-file c =
-    let next' = c.in-Last in
     let step-at' = c.step_at in
     let loop-test' = c.loop-at-test in
-    let loop' = c.loop-at in
-    told_trailing loop'.invariant.0 loop-test'.true step-at'.ensures next'.is c.if-next-file.true
+    told_trailing c.loop-at.invariant.0 loop-test'.true step-at'.ensures (c.in_ok-next.was ∙ ap (λ (x : Step). Ok x) c.in-Last.is) c.if-next-file.true
 
 pub shape_of-ids-in-Last : goal.shape_of-ids-in-Last
 shape_of-ids-in-Last c = omega (arith, c.loop-at.invariant.1)
@@ -50,11 +39,9 @@ shape_of-links-in-Last c = omega (arith, c.loop-at.invariant.2)
 
 pub returns-in-Last : goal.returns-in-Last
 returns-in-Last c =
-    let next' = c.in-Last in
     let step-at' = c.step_at in
     let loop-test' = c.loop-at-test in
-    let loop' = c.loop-at in
-    told_last loop'.invariant.0 loop-test'.true step-at'.ensures next'.is c.if-next-file.false
+    told_last c.loop-at.invariant.0 loop-test'.true step-at'.ensures (c.in_ok-next.was ∙ ap (λ (x : Step). Ok x) c.in-Last.is) c.if-next-file.false
 
 pub overflow_add-count : goal.overflow_add-count
 overflow_add-count c = let r = c.loop-at.invariant.0 in omega (arith, r.far, r.counted, r.inside)
@@ -64,40 +51,32 @@ overflow_add-records c = let r = c.loop-at.invariant.0 in omega (arith, r.far, r
 
 pub loop-at-smaller-in-Listed : goal.loop-at-smaller-in-Listed
 loop-at-smaller-in-Listed c =
-    let next2' = c.in-Listed in
     let step-at' = c.step_at in
     let loop-test' = c.loop-at-test in
-    let loop' = c.loop-at in
-    let t = told-listed loop'.invariant.0 loop-test'.true step-at'.ensures next2'.is in
+    let t = told-listed c.loop-at.invariant.0 loop-test'.true step-at'.ensures (c.in_ok-next.was ∙ ap (λ (x : Step). Ok x) c.in-Listed.is) in
     omega (arith, t.1, t.0.inside)
 
 pub loop-at-preserved-in-Listed : goal.loop-at-preserved-in-Listed
 loop-at-preserved-in-Listed c =
-    let next2' = c.in-Listed in
     let step-at' = c.step_at in
     let loop-test' = c.loop-at-test in
-    let loop' = c.loop-at in
-    ((told-listed loop'.invariant.0 loop-test'.true step-at'.ensures next2'.is).0, omega (arith, loop'.invariant.1), omega (arith, loop'.invariant.2))
+    ((told-listed c.loop-at.invariant.0 loop-test'.true step-at'.ensures (c.in_ok-next.was ∙ ap (λ (x : Step). Ok x) c.in-Listed.is)).0, omega (arith, c.loop-at.invariant.1), omega (arith, c.loop-at.invariant.2))
 
 pub overflow_add-count-in-Skipped : goal.overflow_add-count-in-Skipped
 overflow_add-count-in-Skipped c = let r = c.loop-at.invariant.0 in omega (arith, r.far, r.counted, r.inside)
 
 pub loop-at-smaller : goal.loop-at-smaller
 loop-at-smaller c =
-    let next3' = c.in-Skipped in
     let step-at' = c.step_at in
     let loop-test' = c.loop-at-test in
-    let loop' = c.loop-at in
-    let t = told-skipped loop'.invariant.0 loop-test'.true step-at'.ensures next3'.is in
+    let t = told-skipped c.loop-at.invariant.0 loop-test'.true step-at'.ensures (c.in_ok-next.was ∙ ap (λ (x : Step). Ok x) c.in-Skipped.is) in
     omega (arith, t.1, t.0.inside)
 
 pub loop-at-preserved : goal.loop-at-preserved
 loop-at-preserved c =
-    let next3' = c.in-Skipped in
     let step-at' = c.step_at in
     let loop-test' = c.loop-at-test in
-    let loop' = c.loop-at in
-    ((told-skipped loop'.invariant.0 loop-test'.true step-at'.ensures next3'.is).0, omega (arith, loop'.invariant.1), omega (arith, loop'.invariant.2))
+    ((told-skipped c.loop-at.invariant.0 loop-test'.true step-at'.ensures (c.in_ok-next.was ∙ ap (λ (x : Step). Ok x) c.in-Skipped.is)).0, omega (arith, c.loop-at.invariant.1), omega (arith, c.loop-at.invariant.2))
 
 pub shape_of-ids : goal.shape_of-ids
 shape_of-ids c = c.loop-at.invariant.1

@@ -1,4 +1,4 @@
-use Prim.Native.Nat.{ℕ, ◌-◌}
+use Prim.Native.Nat.{ℕ}
 use mathlib.Core.Path.{sym, ap, ◌∙◌}
 use native.Mathlib.Omega.{arith}
 use Rattle.cob_chunk.proofs.Fields.{parent_in}
@@ -16,17 +16,11 @@ chunk_end-next-requires c = stated-here c.loop-k.invariant c.loop-k-test.true
 pub overflow_cast-k : goal.overflow_cast-k
 overflow_cast-k c = omega (arith, few c.loop-k.invariant.given, c.loop-k-test.true)
 
-pub overflow_add-at : goal.overflow_add-at
-overflow_add-at c = omega (arith, (stated-here c.loop-k.invariant c.loop-k-test.true).header)
-
 pub long_at-requires : goal.long_at-requires
 long_at-requires c = omega (arith, (stated-here c.loop-k.invariant c.loop-k-test.true).header)
 
 pub top_for-top-requires : goal.top_for-top-requires
 top_for-top-requires c = let i = c.loop-k.invariant in (i.given.tree, omega (arith, i.tops, i.up-long), omega (arith, few i.given))
-
-pub bounds-up-k : goal.bounds-up-k
-bounds-up-k c = let i = c.loop-k.invariant in omega (arith, i.tops, i.up-long, c.loop-k-test.true)
 
 pub bounds-ids-top : goal.bounds-ids-top
 bounds-ids-top c = let x = c.args in
@@ -40,12 +34,6 @@ put_listed-to-requires c = let i = c.loop-k.invariant in
     let n = c.chunk_end-next.ensures in
     ((stated-here i b).header, omega arith, omega (arith, fits-here i b, short i b), room-here i b)
 
-pub overflow_add-k : goal.overflow_add-k
-overflow_add-k c = omega (arith, few c.loop-k.invariant.given, c.loop-k-test.true)
-
-pub loop-k-smaller : goal.loop-k-smaller
-loop-k-smaller c = omega (arith, c.loop-k-test.true)
-
 pub loop-k-preserved : goal.loop-k-preserved
 loop-k-preserved c = let x = c.args in
     let i = c.loop-k in
@@ -54,12 +42,6 @@ loop-k-preserved c = let x = c.args in
 
 pub put_end-requires : goal.put_end-requires
 put_end-requires c = let i = c.loop-k.invariant in (end_whole i.passing (meets i.given) c.loop-k-test.false, (meets i.given).within-limit, room i.passing i.given.room i.row-long)
-
-pub shape_of-up : goal.shape_of-up
-shape_of-up c = c.loop-k.invariant.up-long
-
-pub shape_of-row : goal.shape_of-row
-shape_of-row c = omega (arith, c.loop-k.invariant.row-long)
 
 pub returns : goal.returns
 returns c = fills c.loop-k.invariant c.loop-k-test.false c.put_end.ensures

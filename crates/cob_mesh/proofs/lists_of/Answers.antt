@@ -1,22 +1,19 @@
 -- Where the lists of a mesh stand.
 use mathlib.Core.List.{[], ◌∷◌, ◌++◌}
 use mathlib.Core.Path.{refl}
-use Rattle.cob_body.proofs.Ends.{ends_at, ends-not}
 use Rattle.cob_rules.specs.Kinds.{faces, group, vertices, textures}
-use Rattle.cob_mesh.proofs.Placed.{front_fits, laid}
+use Rattle.cob_body.proofs.Ends.{ends_at}
+use Rattle.cob_mesh.proofs.Placed.{front_some, laid}
 use Rattle.cob_mesh.proofs.lists_of.Goals as goal
 
-pub returns-in_default : goal.returns-in_default
-returns-in_default c = absurd (front_fits _ c.requires group (vertices ∷ textures ∷ faces ∷ []) refl (ends-not c.group_end.ensures c.in_default.is))
+pub unwrap-vertices-requires : goal.unwrap-vertices-requires
+unwrap-vertices-requires c = front_some _ c.requires group (vertices ∷ textures ∷ faces ∷ []) _ refl c.group_end.ensures
 
-pub returns-in_default-vertices_end : goal.returns-in_default-vertices_end
-returns-in_default-vertices_end c = absurd (front_fits _ c.requires (group ++ (vertices ∷ [])) (textures ∷ faces ∷ []) refl (ends-not c.vertices_end.ensures c.in_default-vertices_end.is))
+pub unwrap-textures-requires : goal.unwrap-textures-requires
+unwrap-textures-requires c = front_some _ c.requires (group ++ (vertices ∷ [])) (textures ∷ faces ∷ []) _ refl c.vertices_end.ensures
 
-pub returns-in_default-textures_end : goal.returns-in_default-textures_end
-returns-in_default-textures_end c = absurd (front_fits _ c.requires (group ++ (vertices ∷ textures ∷ [])) (faces ∷ []) refl (ends-not c.textures_end.ensures c.in_default-textures_end.is))
+pub unwrap-faces-requires : goal.unwrap-faces-requires
+unwrap-faces-requires c = front_some _ c.requires (group ++ (vertices ∷ textures ∷ [])) (faces ∷ []) _ refl c.textures_end.ensures
 
 pub returns : goal.returns
-returns c = laid _ c.requires
-    (ends_at c.group_end.ensures c.in-At.is)
-    (ends_at c.vertices_end.ensures c.in-At-vertices_end.is)
-    (ends_at c.textures_end.ensures c.in-At-textures_end.is)
+returns c = laid _ c.requires (ends_at c.group_end.ensures c.unwrap-vertices.ensures) (ends_at c.vertices_end.ensures c.unwrap-textures.ensures) (ends_at c.textures_end.ensures c.unwrap-faces.ensures)

@@ -1,9 +1,7 @@
 -- How many of so many faces and holes are faces.
+use Prim.Native.Nat.{◌-◌}
 use Rattle.cob_meshes.proofs.Faces.{Counted}
 use Rattle.cob_meshes.proofs.count_faces.Given as goal
 
-abbrev pub invariant-loop-left : goal.invariant-loop-left
-invariant-loop-left l = Counted l.s l.at l.count l.o l.left l.n
-
-abbrev pub decreases-loop-left : goal.decreases-loop-left
-decreases-loop-left l = l.left
+abbrev pub invariant-loop : goal.invariant-loop
+invariant-loop l = Counted l.s l.at l.count l.o (l.count - l.counter) l.n

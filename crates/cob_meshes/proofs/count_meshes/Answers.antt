@@ -1,9 +1,8 @@
-use Prim.Native.Nat.{◌-◌}
 use mathlib.Core.Path.{sym, ap, ◌∙◌}
 use native.Mathlib.Omega.{arith}
 use Rattle.cob_rules.specs.Kinds.{is_end}
 use Rattle.cob_tables.proofs.Chunks.{head_whole, here-stated, here-long}
-use Rattle.cob_meshes.proofs.Passed.{at_small, counting_starts, counting_on, counting_ends}
+use Rattle.cob_meshes.proofs.Passed.{counting_starts, counting_on, counting_ends}
 use Rattle.cob_meshes.proofs.count_meshes.Goals as goal
 
 pub loop-n-init : goal.loop-n-init
@@ -14,11 +13,6 @@ kind_at-requires c = head_whole c.loop-n.invariant.passed.passing
 
 pub count_mesh-n-requires : goal.count_mesh-n-requires
 count_mesh-n-requires c = head_whole c.loop-n.invariant.passed.passing
-
-pub overflow_add-n : goal.overflow_add-n
-overflow_add-n c =
-    let r = c.loop-n.invariant in
-    omega (arith, r.counted, r.passed.meshes-few, at_small r.passed, c.count_mesh-n.ensures.1)
 
 pub chunk_end-at-requires : goal.chunk_end-at-requires
 chunk_end-at-requires c = here-stated c.loop-n.invariant.passed.passing (ap is_end (sym c.kind_at.ensures) ∙ sym c.is_end.ensures ∙ c.loop-n-test.true)

@@ -1,9 +1,8 @@
-use Prim.Native.Nat.{◌-◌}
 use mathlib.Core.Path.{sym, ap, ◌∙◌}
 use native.Mathlib.Omega.{arith}
 use Rattle.cob_rules.specs.Kinds.{is_end}
 use Rattle.cob_tables.proofs.Chunks.{head_whole, here-stated, here-long}
-use Rattle.cob_meshes.proofs.Passed.{at_small, filling_starts, filling_ends, mesh-at, filling_on}
+use Rattle.cob_meshes.proofs.Passed.{filling_starts, filling_ends, mesh-at, filling_on}
 use Rattle.cob_meshes.proofs.fill.Goals as goal
 
 pub loop-next-init : goal.loop-next-init
@@ -21,11 +20,6 @@ put_mesh-to-requires c = mesh-at c.loop-next.invariant (ap is_end (sym c.kind_at
 pub count_record-number-requires : goal.count_record-number-requires
 count_record-number-requires c = head_whole c.loop-next.invariant.passed.passing
 
-pub overflow_add-number : goal.overflow_add-number
-overflow_add-number c =
-    let r = c.loop-next.invariant.passed in
-    omega (arith, r.numbers-few, at_small r, c.count_record-number.ensures.1)
-
 pub loop-next-smaller : goal.loop-next-smaller
 loop-next-smaller c =
     let r = c.loop-next.invariant.passed.passing in
@@ -34,9 +28,6 @@ loop-next-smaller c =
 pub loop-next-preserved : goal.loop-next-preserved
 loop-next-preserved c =
     filling_on c.loop-next.invariant (ap is_end (sym c.kind_at.ensures) ∙ sym c.is_end.ensures ∙ c.loop-next-test.true) _ c.chunk_end-next.ensures _ c.count_record-number.ensures.0 c.count_record-number.ensures.1 c.put_mesh-to.ensures (omega arith)
-
-pub shape_of-row : goal.shape_of-row
-shape_of-row c = c.loop-next.invariant.same
 
 pub returns : goal.returns
 returns c = filling_ends c.loop-next.invariant (ap is_end (sym c.kind_at.ensures) ∙ sym c.is_end.ensures ∙ c.loop-next-test.false)

@@ -1,6 +1,5 @@
 -- The numbers of a mesh, or nothing.
 use mathlib.Core.Path.{sym, ap, ◌∙◌}
-use mathlib.Core.Bool.{true, false}
 use native.Mathlib.Omega.{arith}
 use Rattle.cob_rules.specs.Kinds.{is_mesh}
 use Rattle.cob_meshes.proofs.Puts.{mesh-none, mesh-put, body-long}
