@@ -1,5 +1,5 @@
 -- The parts of the verdict, one after another.
-use Rattle.std.specs.Prelude.{Ok, Err}
+use Rattle.std.specs.Prelude.{Result, Ok, Err}
 use mathlib.Core.Path.{◌≡◌, ◌∙◌}
 use Prim.Native.Nat.{ℕ, ◌-◌, ◌<◌, ◌≤◌}
 use mathlib.Core.Bool.{true, false}
@@ -16,8 +16,7 @@ use Rattle.c4d_rules.specs.Rules.{start}
 use Rattle.c4d_rules.specs.Read.{walk}
 use Rattle.c4d_rules.specs.Walk.{chunk_grammar, verdict}
 use Rattle.c4d_rules.specs.Calls.{c4d_check_call}
-use Rattle.c4d_chunks.specs.declared.Figure.{Figure}
-use Rattle.c4d_chunks.specs.declared.Checked.{Checked}
+use Rattle.c4d_objects.specs.declared.Figure.{Figure}
 use Rattle.c4d_chunks.specs.Steps.{Walks}
 use Rattle.c4d_check.specs.Reads.{Judged, Reads}
 
@@ -35,9 +34,9 @@ module _ (s : List ℕ) where
     unfolding verdict broken
     verdict-walk = rw (le-leb (length s) limit l, e)
 
-    pub reads : (notes₀ notes : List ℕ) (r : Checked) → Walks s notes₀ notes r → Reads s notes₀ notes r
-    reads notes₀ notes (Checked.Refused x) w = verdict-walk ∙ w
-    reads notes₀ notes (Checked.Good f) w = record { layout = w.layout; is = verdict-walk ∙ w.walked; counts = w.counts; noted = w.noted; short = l }
+    pub reads : (notes₀ notes : List ℕ) (r : Result Figure Refusal) → Walks s notes₀ notes r → Reads s notes₀ notes r
+    reads notes₀ notes (Err x) w = verdict-walk ∙ w
+    reads notes₀ notes (Ok f) w = record { layout = w.layout; is = verdict-walk ∙ w.walked; counts = w.counts; noted = w.noted; short = l }
 
   -- ---- the check
 

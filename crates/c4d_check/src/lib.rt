@@ -8,7 +8,8 @@ ghost use Rattle.c4d_rules.specs.Layout.{file_header};
 ghost use Rattle.c4d_rules.specs.Calls.{c4d_check_call};
 ghost use Rattle.c4d_check.specs.Reads.{Reads};
 
-use c4d_chunks::{Checked, chunks};
+use c4d_chunks::chunks;
+use c4d_objects::Figure;
 use shared_big_endian::long_at;
 use shared_words::Refusal;
 
@@ -24,27 +25,21 @@ fn is_form(file: &[u8]) -> bool
     ensures is { result ≡ same (take 12 file.now) (file_header (length file.now - 8)) }
     ensures long { result ≡ true → 12 ≤ length file.now }
 {
-    if file.len() < 12 {
-        return false;
-    }
-    if long_at(file, 0) != FORM {
-        return false;
-    }
-    if long_at(file, 4) != file.len() - 8 {
-        return false;
-    }
-    long_at(file, 8) == MC4D
+    12 <= file.len()
+        && long_at(file, 0) == FORM
+        && long_at(file, 4) == file.len() - 8
+        && long_at(file, 8) == MC4D
 }
 
 // The first fault, or how many objects and textures there are. The objects of an accepted file are noted, where there is room.
-pub fn read(file: &[u8], notes: &mut [u32]) -> Checked
+pub fn read(file: &[u8], notes: &mut [u32]) -> Result<Figure, Refusal>
     ensures { Reads file.now notes.old notes.new result }
 {
     if LIMIT < file.len() {
-        return Checked::Refused(Refusal::TooLong);
+        return Err(Refusal::TooLong);
     }
     if !is_form(file) {
-        return Checked::Refused(Refusal::Form);
+        return Err(Refusal::Form);
     }
     chunks(file, notes)
 }
@@ -54,8 +49,6 @@ pub fn check(file: &[u8]) -> Result<usize, Refusal>
     ensures { result ≡ c4d_check_call file.now }
 {
     let mut no_notes = [0u32; 0];
-    match read(file, &mut no_notes) {
-        Checked::Refused(r) => Err(r),
-        Checked::Good(figure) => Ok(figure.objects),
-    }
+    let figure = read(file, &mut no_notes)?;
+    Ok(figure.objects)
 }

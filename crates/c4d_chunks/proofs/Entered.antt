@@ -1,14 +1,11 @@
 -- A chunk entered: its order, what is inside, and what is then known.
 use mathlib.Core.Path.{◌≡◌, refl, sym, ap, ◌∙◌, subst}
-use Prim.Native.Nat.{ℕ, zero, suc, ◌+◌, ◌≤◌}
-use native.Mathlib.Numerals.{add-one}
+use Prim.Native.Nat.{ℕ, ◌+◌, ◌≤◌}
 use native.Mathlib.Omega.{arith}
-use mathlib.Core.Bool.{Bool, true, false, ◌&&◌, cond, true≢false}
+use mathlib.Core.Bool.{Bool, true, false, not, ◌&&◌, true≢false}
 use mathlib.Core.List.{List, append-nil}
 use mathlib.Core.Option.{none, some}
-use lib.Dec.{eqb}
 use lib.ListN.{length}
-use borrow.Author.Tests.{ne_eqb}
 use lib.Seq.{slice}
 use Rattle.shared_words.specs.declared.Refusal.{Refusal}
 use Rattle.shared_words.specs.declared.Refusal.TheVariants.{Order}
@@ -23,40 +20,18 @@ use Rattle.c4d_rules.specs.Gives.{Object, objects_from}
 use Rattle.c4d_rules.specs.Calls.{all_materials}
 use Rattle.c4d_blocks.specs.Headers.{block_in, Tells}
 use Rattle.c4d_blocks.proofs.Steps.{head_long, body_is}
-use Rattle.c4d_materials.specs.declared.Nexts.{Nexts}
+use Rattle.std.specs.Prelude.{Option, Some, None, Ok, Err}
+use Rattle.std.specs.Option.{is_some}
 use Rattle.c4d_materials.specs.Counted.{counted_from}
-use Rattle.c4d_held.specs.Held.{last_of}
 use Rattle.c4d_object.specs.Ahead.{given, ahead}
-use Rattle.c4d_objects.specs.declared.Tally.{Tally}
+use Rattle.c4d_objects.specs.declared.Figure.{Figure}
 use Rattle.c4d_objects.specs.Notes.{tallied, Noted, Notes}
 use Rattle.c4d_chunks.specs.declared.State.{State}
-use Rattle.c4d_chunks.specs.Steps.{is_listed, Counts, Known, NextIs}
-
--- ---- the three identifiers
-
-module _ (id : ℕ) (n : id ≡ 0x504C_5446 → ⊥) (m : id ≡ 0x4D41_5434 → ⊥) where
-  kind-left : kind_of id ≡ cond (eqb id 0x4F42_4A35) Objects Other
-  kind-left = rw (ne_eqb id 0x504C_5446 n, ne_eqb id 0x4D41_5434 m)
-
-  pub listed-is : is_listed (kind_of id) ≡ eqb id 0x4F42_4A35
-  listed-is = ap is_listed kind-left ∙ go (eqb id 0x4F42_4A35)
-    where
-      go : (q : Bool) → is_listed (cond q Objects Other) ≡ q
-      go true = refl
-      go false = refl
-
-  pub objects-left : is_listed (kind_of id) ≡ true → kind_of id ≡ Objects
-  objects-left h = kind-left ∙ ap (λ (q : Bool). cond q Objects Other) (sym listed-is ∙ h)
-
-pub is_other : (k : Kind) → is_listed k ≡ false → k ≡ Other
-is_other Platform e = absurd (true≢false e)
-is_other Materials e = absurd (true≢false e)
-is_other Objects e = absurd (true≢false e)
-is_other Other e = refl
+use Rattle.c4d_chunks.specs.Steps.{last_in, Counts, Known, NextIs}
 
 -- ---- what the runs answer, said of their walks
 
-counted-refused : (n : ℕ) (w : Answer (List Block)) (r : Refusal) → Nexts.Refused r ≡ counted_from n w → w ≡ refused r
+counted-refused : (n : ℕ) (w : Answer (List Block)) (r : Refusal) → Err r ≡ counted_from n w → w ≡ refused r
 counted-refused n (refused x) r e = let z : x ≡ r = cc in rw z
 counted-refused n (accepted bs) r e = let z : ◌≡◌ {A = ℕ} 0 1 = cc in absurd (omega arith)
 
@@ -65,39 +40,34 @@ pub record Counted (w : Answer (List Block)) (n : ℕ) : Type 0 where
   pub is : w ≡ accepted blocks
   pub count : n ≡ nexts blocks
 
-counted-all : (w : Answer (List Block)) (n : ℕ) → Nexts.Count n ≡ counted_from 0 w → Counted w n
+counted-all : (w : Answer (List Block)) (n : ℕ) → Ok n ≡ counted_from 0 w → Counted w n
 counted-all (refused x) n e = let z : ◌≡◌ {A = ℕ} 0 1 = cc in absurd (omega arith)
 counted-all (accepted bs) n e = let z : n ≡ 0 + nexts bs = cc in record { blocks = bs; is = refl; count = omega arith }
 
 module _ (begun : ℕ) (held : Open) (o : ℕ) where
-  tally-refused : (w : Answer (List Block)) (r : Refusal) → Tally.Refused r ≡ tallied (given begun held o w) → w ≡ refused r
+  tally-refused : (w : Answer (List Block)) (r : Refusal) → Err r ≡ tallied (given begun held o w) → w ≡ refused r
   tally-refused (refused x) r e = let z : x ≡ r = cc in rw z
   tally-refused (accepted bs) r e = let z : ◌≡◌ {A = ℕ} 0 1 = cc in absurd (omega arith)
 
-  pub record Tallied (s : List ℕ) (w : Answer (List Block)) (n m : ℕ) (notes notes' : List ℕ) : Type 0 where
+  pub record Tallied (s : List ℕ) (w : Answer (List Block)) (f : Figure) (notes notes' : List ℕ) : Type 0 where
     pub blocks : List Block
     pub is : w ≡ accepted blocks
-    pub counts : Counts record { objects = n; textures = m } (objects_from begun held o blocks)
+    pub counts : Counts f (objects_from begun held o blocks)
     pub noted : Noted s (objects_from begun held o blocks) notes notes'
 
-  tally-all : (s : List ℕ) (w : Answer (List Block)) (n m : ℕ) (notes notes' : List ℕ) → Tally.Count n m ≡ tallied (given begun held o w) → Notes s (given begun held o w) notes notes' →
-      Tallied s w n m notes notes'
-  tally-all s (refused x) n m notes notes' e k = let z : ◌≡◌ {A = ℕ} 0 1 = cc in absurd (omega arith)
-  tally-all s (accepted bs) n m notes notes' e k =
+  tally-all : (s : List ℕ) (w : Answer (List Block)) (f : Figure) (notes notes' : List ℕ) → Ok f ≡ tallied (given begun held o w) → Notes s (given begun held o w) notes notes' →
+      Tallied s w f notes notes'
+  tally-all s (refused x) f notes notes' e k = let z : ◌≡◌ {A = ℕ} 0 1 = cc in absurd (omega arith)
+  tally-all s (accepted bs) f notes notes' e k =
       let rs : List Object = objects_from begun held o bs in
-      let y : n ≡ length rs = cc in
-      let z : m ≡ length (all_materials rs) = cc in
-      record { blocks = bs; is = refl; counts = record { objects_are = y; textures_are = z }; noted = k }
+      let y : f ≡ record { objects = length rs; textures = length (all_materials rs) } = cc in
+      record { blocks = bs; is = refl; counts = record { objects_are = ap (λ (x : Figure). x.objects) y; textures_are = ap (λ (x : Figure). x.textures) y }; noted = k }
 
--- ---- a number that stands for the last material
+-- ---- whether there was a MAT4
 
-no-below : (below : ℕ) → below ≡ 0 → is_none (last_of below) ≡ true
-no-below zero e = refl
-no-below (suc k) e = absurd (omega arith)
-
-some_below : (below : ℕ) → (below ≡ 0 → ⊥) → is_none (last_of below) ≡ false
-some_below zero e = absurd (e refl)
-some_below (suc k) e = refl
+none-is : (last : Option ℕ) → is_none (last_in last) ≡ not (is_some last)
+none-is (Some n) = refl
+none-is None = refl
 
 -- ---- one chunk
 
@@ -127,9 +97,9 @@ module _ (s : List ℕ) (at id len : ℕ) (p : Before) (rs : List Object) (t : T
     -- what is known of materials and objects stays
     stays : {q : Before} → q.last ≡ p.last → q.objects ≡ p.objects → Known s q st rs notes₀ notes
     stays l o = record {
-      below-is = g.below-is ∙ sym l;
-      below_small = g.below_small;
-      seen-is = g.seen-is ∙ sym o;
+      last-is = g.last-is ∙ sym l;
+      last_small = g.last_small;
+      objects-is = g.objects-is ∙ sym o;
       none_yet = λ e. g.none_yet (sym o ∙ e);
       counts = g.counts;
       noted = g.noted;
@@ -159,25 +129,25 @@ module _ (s : List ℕ) (at id len : ℕ) (p : Before) (rs : List Object) (t : T
       inside_materials : is_in_order p Materials ≡ true → chunk_grammar.look p at b ≡ with_subs b.head material_walk
       inside_materials h = in_order Materials e h ∙ ap (λ (x : List ℕ). with_subs b.head (walk (material_grammar at) false (at + 8) x)) (body-here end q)
 
-      pub materials_order : (st.below ≡ 0) → st.seen ≡ false → is_in_order p Materials ≡ true
-      materials_order z n = rw (ap is_none (sym g.below-is) ∙ no-below st.below z, sym g.seen-is ∙ n)
+      pub materials_order : is_some st.last ≡ false → is_some st.figure ≡ false → is_in_order p Materials ≡ true
+      materials_order z n = rw (ap is_none (sym g.last-is) ∙ none-is st.last ∙ ap not z, sym g.objects-is ∙ n)
 
-      pub materials_again : (st.below ≡ 0 → ⊥) → chunk_grammar.look p at b ≡ refused (Order at)
-      materials_again z = out_of_order Materials e (rw (ap is_none (sym g.below-is) ∙ some_below st.below z))
+      pub materials_again : is_some st.last ≡ true → chunk_grammar.look p at b ≡ refused (Order at)
+      materials_again z = out_of_order Materials e (rw (ap is_none (sym g.last-is) ∙ none-is st.last ∙ ap not z))
 
-      pub materials_late : st.seen ≡ true → chunk_grammar.look p at b ≡ refused (Order at)
-      materials_late n = out_of_order Materials e (rw (sym g.seen-is ∙ n) (go (is_none p.last)))
+      pub materials_late : is_some st.figure ≡ true → chunk_grammar.look p at b ≡ refused (Order at)
+      materials_late n = out_of_order Materials e (rw (sym g.objects-is ∙ n) (go (is_none p.last)))
         where
           go : (x : Bool) → (x && false) ≡ false
           go true = refl
           go false = refl
 
-      pub materials_refused : is_in_order p Materials ≡ true → (r : Refusal) → Nexts.Refused r ≡ counted_from 0 material_walk → chunk_grammar.look p at b ≡ refused r
+      pub materials_refused : is_in_order p Materials ≡ true → (r : Refusal) → Err r ≡ counted_from 0 material_walk → chunk_grammar.look p at b ≡ refused r
       materials_refused h r c = inside_materials h ∙ ap (with_subs b.head) (counted-refused 0 material_walk r c)
 
-      pub materials_known : is_in_order p Materials ≡ true → st.seen ≡ false → (n : ℕ) → n ≤ 0x7FFF_FFFF → Nexts.Count n ≡ counted_from 0 material_walk →
-          NextIs s p at b rs notes₀ notes record { below = n + 1; seen = false; figure = st.figure }
-      materials_known h z n l c =
+      pub materials_known : is_in_order p Materials ≡ true → (n : ℕ) → n ≤ 0x7FFF_FFFF → Ok n ≡ counted_from 0 material_walk →
+          NextIs s p at b rs notes₀ notes record { last = Some n; figure = st.figure }
+      materials_known h n l c =
           let k = kind-is Materials e in
           let w = counted-all material_walk n c in
           let y = w.count in
@@ -185,9 +155,9 @@ module _ (s : List ℕ) (at id len : ℕ) (p : Before) (rs : List Object) (t : T
             chunk = opened w.blocks;
             taken = inside_materials h ∙ ap (with_subs b.head) w.is;
             known = rw (k, append-nil rs) record {
-              below-is = ap last_of (add-one n) ∙ ap some y;
-              below_small = omega arith;
-              seen-is = sym z ∙ g.seen-is;
+              last-is = ap some y;
+              last_small = omega arith;
+              objects-is = g.objects-is;
               none_yet = g.none_yet;
               counts = g.counts;
               noted = g.noted;
@@ -200,44 +170,44 @@ module _ (s : List ℕ) (at id len : ℕ) (p : Before) (rs : List Object) (t : T
       abbrev pub object_walk : Answer (List Block)
       object_walk = walk (object_grammar p.last at) none (at + 8) (slice (at + 8) end s)
 
-      inside-objects : st.seen ≡ false → chunk_grammar.look p at b ≡ with_subs b.head object_walk
+      inside-objects : is_some st.figure ≡ false → chunk_grammar.look p at b ≡ with_subs b.head object_walk
       inside-objects z =
-          in_order Objects e (rw (sym g.seen-is ∙ z)) ∙
+          in_order Objects e (rw (sym g.objects-is ∙ z)) ∙
           ap (λ (x : List ℕ). with_subs b.head (walk (object_grammar p.last at) none (at + 8) x)) (body-here end q)
 
-      pub objects-again : st.seen ≡ true → chunk_grammar.look p at b ≡ refused (Order at)
-      objects-again n = out_of_order Objects e (rw (sym g.seen-is ∙ n))
+      pub objects-again : is_some st.figure ≡ true → chunk_grammar.look p at b ≡ refused (Order at)
+      objects-again n = out_of_order Objects e (rw (sym g.objects-is ∙ n))
 
       abbrev objects_ahead : Answer (List Object)
-      objects_ahead = ahead s (last_of st.below) at end (at + 8) none (at + 8)
+      objects_ahead = ahead s (last_in st.last) at end (at + 8) none (at + 8)
 
       ahead-is : objects_ahead ≡ given (at + 8) none (at + 8) object_walk
-      ahead-is = rw g.below-is
+      ahead-is = rw g.last-is
 
-      pub objects-refused : st.seen ≡ false → (r : Refusal) → Tally.Refused r ≡ tallied objects_ahead → chunk_grammar.look p at b ≡ refused r
+      pub objects-refused : is_some st.figure ≡ false → (r : Refusal) → Err r ≡ tallied objects_ahead → chunk_grammar.look p at b ≡ refused r
       objects-refused z r c = inside-objects z ∙ ap (with_subs b.head) (tally-refused (at + 8) none (at + 8) object_walk r (c ∙ ap tallied ahead-is))
 
-      known-with : st.seen ≡ false → (n m : ℕ) {notes' : List ℕ} → Tallied (at + 8) none (at + 8) s object_walk n m notes notes' →
-          NextIs s p at b rs notes₀ notes' record { below = st.below; seen = true; figure = record { objects = n; textures = m } }
-      known-with z n m {notes'} w =
+      known-with : is_some st.figure ≡ false → (f : Figure) {notes' : List ℕ} → Tallied (at + 8) none (at + 8) s object_walk f notes notes' →
+          NextIs s p at b rs notes₀ notes' record { last = st.last; figure = Some f }
+      known-with z f {notes'} w =
           let k = kind-is Objects e in
-          let f = t.fits in
-          let y = g.none_yet (sym g.seen-is ∙ z) in
+          let long = t.fits in
+          let y = g.none_yet (sym g.objects-is ∙ z) in
           let x : length b.head ≡ 8 = head_long chunk_header s at (length s) (omega arith) (omega arith) in
           record {
             chunk = opened w.blocks;
             taken = inside-objects z ∙ ap (with_subs b.head) w.is;
             known = rw (k, y.0, x) record {
-              below-is = g.below-is;
-              below_small = g.below_small;
-              seen-is = refl;
+              last-is = g.last-is;
+              last_small = g.last_small;
+              objects-is = refl;
               none_yet = λ e. absurd (true≢false e);
               counts = w.counts;
               noted = subst (λ (a : List ℕ). Noted s (objects_from (at + 8) none (at + 8) w.blocks) a notes') y.1 w.noted;
             };
           }
 
-      pub objects-known : st.seen ≡ false → (n m : ℕ) (notes' : List ℕ) → Tally.Count n m ≡ tallied objects_ahead → Notes s objects_ahead notes notes' →
-          NextIs s p at b rs notes₀ notes' record { below = st.below; seen = true; figure = record { objects = n; textures = m } }
-      objects-known z n m notes' c o =
-          known-with z n m (tally-all (at + 8) none (at + 8) s object_walk n m notes notes' (c ∙ ap tallied ahead-is) (subst (λ (a : Answer (List Object)). Notes s a notes notes') ahead-is o))
+      pub objects-known : is_some st.figure ≡ false → (f : Figure) (notes' : List ℕ) → Ok f ≡ tallied objects_ahead → Notes s objects_ahead notes notes' →
+          NextIs s p at b rs notes₀ notes' record { last = st.last; figure = Some f }
+      objects-known z f notes' c o =
+          known-with z f (tally-all (at + 8) none (at + 8) s object_walk f notes notes' (c ∙ ap tallied ahead-is) (subst (λ (a : Answer (List Object)). Notes s a notes notes') ahead-is o))

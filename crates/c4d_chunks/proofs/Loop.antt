@@ -2,7 +2,7 @@
 use mathlib.Core.Path.{◌≡◌, refl, sym, ap, ◌∙◌, subst}
 use Prim.Native.Nat.{ℕ, ◌+◌, ◌<◌, ◌≤◌}
 use native.Mathlib.Omega.{arith}
-use mathlib.Core.Bool.{false, not}
+use mathlib.Core.Bool.{not}
 use mathlib.Core.List.{List, [], ◌∷◌, ◌++◌, append_assoc, append-nil}
 use mathlib.Core.Option.{some}
 use lib.Dec.{eqb}
@@ -27,7 +27,8 @@ use Rattle.c4d_rules.proofs.PutIn.{any-after}
 use Rattle.c4d_blocks.specs.Headers.{block_in, overrun, Tells}
 use Rattle.c4d_blocks.proofs.Steps.{head_long, block_size, at-end, overruns, refuses, goes_on}
 use Rattle.c4d_chunks.specs.declared.State.{State}
-use Rattle.c4d_chunks.specs.Steps.{Known, NextIs, Accepts}
+use Rattle.c4d_chunks.specs.Steps.{figure_in, Known, NextIs, Accepts}
+use Rattle.std.specs.Prelude.{None}
 
 -- ---- things read before others
 
@@ -93,7 +94,7 @@ pub record On (s notes₀ notes : List ℕ) (at : ℕ) (st : State) : Type 0 whe
 slice_all : (a : ℕ) (s : List ℕ) → slice a (length s) s ≡ drop a s
 slice_all a s = ap (drop a) (take-length s)
 
-pub on-start : (s notes : List ℕ) → 12 ≤ length s → On s notes notes 12 record { below = 0; seen = false; figure = record { objects = 0; textures = 0 } }
+pub on-start : (s notes : List ℕ) → 12 ≤ length s → On s notes notes 12 record { last = None; figure = None }
 unfolding with_all broken
 on-start s notes l = record {
   chunks = [];
@@ -102,9 +103,9 @@ on-start s notes l = record {
   within = l;
   any-is = refl;
   known = record {
-    below-is = refl;
-    below_small = omega arith;
-    seen-is = refl;
+    last-is = refl;
+    last_small = tt;
+    objects-is = refl;
     none_yet = λ e. (refl, refl);
     counts = record { objects_are = refl; textures_are = refl };
     noted = record { each_small = tt; are = λ r. put-none notes 0 };
@@ -152,7 +153,7 @@ module _ (s notes₀ : List ℕ) {notes : List ℕ} (at : ℕ) (st : State) (i :
           same-long = same ∙ i.same-long;
         }
 
-  pub on-end : length s ≤ at → Accepts s notes₀ notes st.figure
+  pub on-end : length s ≤ at → Accepts s notes₀ notes (figure_in st)
   unfolding broken
   on-end l = record {
     layout = i.chunks;

@@ -1,5 +1,5 @@
 -- What code holds of the object that is open, and what its functions promise.
-use Rattle.std.specs.Prelude.{◌≡◌, ℕ, zero, suc, ◌+◌, ◌<◌, Bool, false, not, ◌||◌, cond, List, eqb, length}
+use Rattle.std.specs.Prelude.{◌≡◌, ℕ, zero, suc, ◌+◌, ◌<◌, Bool, false, not, ◌||◌, cond, Result, Ok, Err, List, eqb, length}
 use Rattle.std.proofs.Math.Option.{Option, none, some}
 use Rattle.shared_words.specs.declared.Refusal.{Refusal}
 use Rattle.shared_words.specs.Bytes.{be_at, minus_one}
@@ -11,8 +11,6 @@ use Rattle.c4d_rules.specs.Rules.{Open, object_id, material, up_to}
 use Rattle.c4d_rules.specs.Walk.{object_conditions}
 use Rattle.c4d_parts.specs.Bits.{bits}
 use Rattle.c4d_held.specs.declared.Held.{Held}
-use Rattle.c4d_held.specs.declared.Texture.{Texture}
-use Rattle.c4d_held.specs.declared.Outside.{Outside}
 
 -- of an object with sub-chunks of these identifiers
 abbrev pub held_with : List ℕ → Held
@@ -43,18 +41,18 @@ pub record Is (s : List ℕ) (at id len : ℕ) (b : Block) : Type 0 where
 
 -- ---- a texture in an object, whatever stands before it there
 
-abbrev pub TextureIs : Option ℕ → List Block → ℕ → Block → Texture → Type 0
-TextureIs last bs at b (Texture.Refused r) = fault last (some bs) at b ≡ some r
-TextureIs last bs at b (Texture.Material m) = (fault last (some bs) at b ≡ none) × (length b.body ≡ 64) × (m ≡ material b) × (m < 4294967296)
+abbrev pub TextureIs : Option ℕ → List Block → ℕ → Block → Result ℕ Refusal → Type 0
+TextureIs last bs at b (Err r) = fault last (some bs) at b ≡ some r
+TextureIs last bs at b (Ok m) = (fault last (some bs) at b ≡ none) × (length b.body ≡ 64) × (m ≡ material b) × (m < 4294967296)
 
-abbrev pub JudgesTexture : List ℕ → ℕ → ℕ → ℕ → Texture → Type 0
+abbrev pub JudgesTexture : List ℕ → ℕ → ℕ → ℕ → Result ℕ Refusal → Type 0
 JudgesTexture s at len below r = (b : Block) (bs : List Block) → Is s at t_texture len b → TextureIs (last_of below) bs at b r
 
 -- ---- a sub-chunk between two objects, whatever it is
 
-abbrev pub OutsideIs : Option ℕ → ℕ → Block → Outside → Type 0
-OutsideIs last at b (Outside.Refused r) = fault last none at b ≡ some r
-OutsideIs last at b Outside.Skipped = (fault last none at b ≡ none) × (eqb (object_id b) t_end ≡ false)
+abbrev pub OutsideIs : Option ℕ → ℕ → Block → Result Unit Refusal → Type 0
+OutsideIs last at b (Err r) = fault last none at b ≡ some r
+OutsideIs last at b (Ok u) = (fault last none at b ≡ none) × (eqb (object_id b) t_end ≡ false)
 
-abbrev pub JudgesOutside : ℕ → ℕ → ℕ → Outside → Type 0
+abbrev pub JudgesOutside : ℕ → ℕ → ℕ → Result Unit Refusal → Type 0
 JudgesOutside at id len r = (b : Block) (last : Option ℕ) → object_id b ≡ id → length b.body ≡ len → OutsideIs last at b r

@@ -1,9 +1,10 @@
 // One sub-chunk of OBJ5: whether it may stand where it does, and what is then known of the object that it belongs to.
 #![tactic(auto)]
 
-ghost use Rattle.std.specs.Prelude.{◌≡◌, not, List, [], ◌∷◌, ◌++◌, ℕ, ◌+◌, ◌≤◌, ◌<◌, length};
+ghost use Rattle.std.specs.Prelude.{◌≡◌, not, List, [], ◌∷◌, ◌++◌, ℕ, ◌+◌, ◌≤◌, ◌<◌, length, IfSome};
 ghost use Rattle.c4d_rules.specs.Kinds.{t_object};
 ghost use Rattle.c4d_rules.specs.Combinations.{once_each};
+ghost use Rattle.c4d_parts.specs.Bits.{numbered};
 ghost use Rattle.c4d_held.specs.Held.{held_with, number_of, last_of, is_material, JudgesTexture, JudgesOutside};
 
 use c4d_parts::{combination, is_there, with_part};
@@ -17,23 +18,13 @@ pub struct Held {
     pub present: usize,
 }
 
-// A texture judged: its material, or its fault.
-#[derive(Clone, Copy)]
-pub enum Texture {
-    Material(usize),
-    Refused(Refusal),
-}
+pub const T_END: usize = 0;
 
-// A sub-chunk between two objects judged: it is passed over, or refused.
-#[derive(Clone, Copy)]
-pub enum Outside {
-    Skipped,
-    Refused(Refusal),
-}
+pub const T_OBJECT: usize = 1;
 
-const T_END: usize = 0;
+pub const T_TEXTURE: usize = 23;
 
-const T_TEXTURE: usize = 23;
+const TEXTURE_LENGTH: usize = 64;
 
 const MINUS_ONE: usize = 0xFFFF_FFFF;
 
@@ -66,25 +57,22 @@ pub fn with_one(held: Held, id: usize) -> Held
     requires { held.present < 131072 }
     ensures { (ids : List ℕ) → held ≡ held_with ids → result ≡ held_with (ids ++ (id ∷ [])) }
 {
-    if id < 16 {
-        return held;
-    }
-    if 32 < id {
-        return held;
-    }
-    Held {
-        repeated: repeats(held, id),
-        present: with_part(held.present, id),
+    match id {
+        16..=32 => Held {
+            repeated: repeats(held, id),
+            present: with_part(held.present, id),
+        },
+        _ => held,
     }
 }
 
-// At its T_END: the number of its combination, 0 where it has none or repeats what it may not.
-pub fn combined(held: Held) -> usize
-    ensures is { (ids : List ℕ) → held ≡ held_with ids → result ≡ number_of ids }
-    ensures small { result ≤ 9 }
+// At its T_END: the number of its combination, unless it has none or repeats what it may not.
+pub fn combined(held: Held) -> Option<usize>
+    ensures is { (ids : List ℕ) → held ≡ held_with ids → result ≡ numbered (number_of ids) }
+    ensures small { IfSome result (λ n. n ≤ 9) }
 {
     if held.repeated {
-        return 0;
+        return None;
     }
     combination(held.present)
 }
@@ -94,46 +82,33 @@ fn is_material(material: usize, below: usize) -> bool
     requires { below ≤ 0x8000_0000 }
     ensures { result ≡ is_material (last_of below) material }
 {
-    if material < below {
-        return true;
-    }
-    material == MINUS_ONE
+    material < below || material == MINUS_ONE
 }
 
-// A texture in an object, 64 bytes, of which the last four are its material.
-pub fn judge_texture(file: &[u8], at: usize, len: usize, below: usize) -> Texture
+// The material of a texture in an object: the last four of 64 bytes.
+pub fn judge_texture(file: &[u8], at: usize, len: usize, below: usize) -> Result<usize, Refusal>
     requires { (at + (4 + len) ≤ length file.now) × (below ≤ 0x8000_0000) }
     ensures { JudgesTexture file.now at len below result }
 {
-    if len != 64 {
-        return Texture::Refused(Refusal::Length(at));
+    if len != TEXTURE_LENGTH {
+        return Err(Refusal::Length(at));
     }
     let material = long_at(file, at + 64);
     if !is_material(material, below) {
-        return Texture::Refused(Refusal::Material(at));
+        return Err(Refusal::Material(at));
     }
-    Texture::Material(material)
+    Ok(material)
 }
 
-// A sub-chunk between two objects that begins none.
-pub fn judge_outside(at: usize, id: usize, len: usize) -> Outside
+// A sub-chunk between two objects that begins none: it is passed over, or refused.
+pub fn judge_outside(at: usize, id: usize, len: usize) -> Result<(), Refusal>
     requires { id ≡ t_object → ⊥ }
     ensures { JudgesOutside at id len result }
 {
-    if id == T_END {
-        return Outside::Refused(Refusal::Order(at));
+    match id {
+        T_END => Err(Refusal::Order(at)),
+        T_TEXTURE if len != TEXTURE_LENGTH => Err(Refusal::Length(at)),
+        16..=32 => Err(Refusal::Order(at)),
+        _ => Ok(()),
     }
-    if id < 16 {
-        return Outside::Skipped;
-    }
-    if 32 < id {
-        return Outside::Skipped;
-    }
-    if id != T_TEXTURE {
-        return Outside::Refused(Refusal::Order(at));
-    }
-    if len != 64 {
-        return Outside::Refused(Refusal::Length(at));
-    }
-    Outside::Refused(Refusal::Order(at))
 }

@@ -16,7 +16,7 @@ use Rattle.c4d_rules.specs.Walk.{verdict}
 use Rattle.c4d_rules.specs.Gives.{objects}
 use Rattle.c4d_rules.specs.Calls.{all_materials, object_bytes, two_rows, objects_call, c4d_list_call}
 use Rattle.c4d_objects.specs.Notes.{all_notes}
-use Rattle.c4d_chunks.specs.declared.Figure.{Figure}
+use Rattle.c4d_objects.specs.declared.Figure.{Figure}
 use Rattle.c4d_check.specs.Reads.{Judged}
 use Rattle.c4d_list.specs.Filled.{Fillable, FilledWith}
 

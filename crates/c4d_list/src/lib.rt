@@ -12,7 +12,6 @@ ghost use Rattle.c4d_rules.specs.Calls.{object_bytes, two_rows, c4d_list_call};
 ghost use Rattle.c4d_list.specs.Filled.{Fillable, FilledIs};
 
 use c4d_check::read;
-use c4d_chunks::Checked;
 use shared_numbers::put_long;
 use shared_words::Refusal;
 
@@ -32,10 +31,8 @@ fn put_materials(notes: &[u32], from: usize, to: usize, at: usize, row: &mut [u8
     ensures { Put row.old at (packed 4 (slice from to notes.now)) row.new result }
 {
     let mut behind = at;
-    let mut i = from;
-    while i < to {
-        behind = put_long(notes[i], behind, row);
-        i += 1;
+    for number in &notes[from..to] {
+        behind = put_long(*number, behind, row);
     }
     behind
 }
@@ -45,13 +42,11 @@ fn fill(notes: &[u32], count: usize, objects: &mut [u8], materials: &mut [u8])
     requires { Fillable notes.now count (length objects.old) (length materials.old) }
     ensures { FilledIs notes.now count objects.old materials.old objects.new materials.new }
 {
-    let mut i = 0usize;
     let mut from = 0usize;
     let mut row = 0usize;
     let mut behind = 0usize;
-    while i < count {
+    for _ in 0..count {
         let noted = notes[from] as usize;
-        i += 1;
         if noted / 16 % 2 == 0 {
             row = put_object(noted / 32, noted % 16, 0, row, objects);
             from += 1;
@@ -66,31 +61,31 @@ fn fill(notes: &[u32], count: usize, objects: &mut [u8], materials: &mut [u8])
 }
 
 // The list, with a row for the notes.
-fn list_with(file: &[u8], notes: &mut [u32], objects: &mut [u8], materials: &mut [u8]) -> Result<usize, Refusal>
+fn list_with(
+    file: &[u8],
+    notes: &mut [u32],
+    objects: &mut [u8],
+    materials: &mut [u8],
+) -> Result<usize, Refusal>
     requires { length file.now ≤ limit → length file.now ≤ 8 * length notes.old }
     ensures answer { result ≡ (c4d_list_call object_bytes (number_bytes 4) file.now objects.old materials.old).answer }
     ensures rows { two_rows objects.new materials.new ≡
         (c4d_list_call object_bytes (number_bytes 4) file.now objects.old materials.old).rows }
 {
-    match read(file, notes) {
-        Checked::Refused(r) => Err(r),
-        Checked::Good(figure) => {
-            let n = figure.objects;
-            if objects.len() / 12 < n {
-                return Err(Refusal::NoRoom(n));
-            }
-            let m = figure.textures;
-            if materials.len() / 4 < m {
-                return Err(Refusal::NoRoom(m));
-            }
-            fill(notes, n, objects, materials);
-            Ok(n)
-        }
+    let figure = read(file, notes)?;
+    if objects.len() / 12 < figure.objects {
+        return Err(Refusal::NoRoom(figure.objects));
     }
+    if materials.len() / 4 < figure.textures {
+        return Err(Refusal::NoRoom(figure.textures));
+    }
+    fill(notes, figure.objects, objects, materials);
+    Ok(figure.objects)
 }
 
 // The objects of a file, three numbers each, and the materials of all of them. Answers how many objects there are, or the
 // refusal; a refusal leaves both rows as they were. A short file needs few notes, which are quicker made.
+// The notes have a row of fixed length, since the library has no heap.
 pub fn list(file: &[u8], objects: &mut [u8], materials: &mut [u8]) -> Result<usize, Refusal>
     ensures answer { result ≡ (c4d_list_call object_bytes (number_bytes 4) file.now objects.old materials.old).answer }
     ensures rows { two_rows objects.new materials.new ≡

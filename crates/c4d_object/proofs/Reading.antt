@@ -20,7 +20,7 @@ use Rattle.c4d_rules.specs.Gives.{materials_of}
 use Rattle.c4d_blocks.specs.Headers.{block_in, Tells}
 use Rattle.c4d_parts.proofs.Bits.{bits_below}
 use Rattle.c4d_held.specs.declared.Held.{Held}
-use Rattle.c4d_held.specs.declared.Texture.{Texture}
+use Rattle.std.specs.Prelude.{Ok}
 use Rattle.c4d_held.specs.Held.{held_with, number_of, fault, TextureIs}
 use Rattle.c4d_held.proofs.OneMore.{identifiers_snoc}
 use Rattle.c4d_held.proofs.Conditions.{object-inside, end-mixed, end_fine, inside_fine, not_this, not-combined, is-combined}
@@ -139,7 +139,7 @@ module _ (s : List ℕ) (last : Option ℕ) (chunk from to row : ℕ) (notes₀ 
           }
 
       -- a texture whose material has been noted
-      pub textured : id ≡ t_texture → (m : ℕ) → TextureIs last i.blocks at b (Texture.Material m) → {notes' : List ℕ} → length notes' ≡ length notes → 8 * row + 4 ≤ from →
+      pub textured : id ≡ t_texture → (m : ℕ) → TextureIs last i.blocks at b (Ok m) → {notes' : List ℕ} → length notes' ≡ length notes → 8 * row + 4 ≤ from →
           (row + 2 + textures < length notes → Put notes (row + 2 + textures) (m ∷ []) notes' (row + 2 + textures + 1)) → Reading notes' (at + 68) held' (textures + 1)
       textured n m j {notes'} same near put =
           let q = eq-eqb (object_id b) t_texture (sym t.id-is ∙ n) in

@@ -1,5 +1,5 @@
 -- What the reading of one object promises.
-use Rattle.std.specs.Prelude.{◌≡◌, ℕ, ◌+◌, ◌*◌, ◌≤◌, List, [], ◌∷◌, length}
+use Rattle.std.specs.Prelude.{◌≡◌, ℕ, ◌+◌, ◌*◌, ◌≤◌, Result, Ok, Err, List, [], ◌∷◌, length}
 use Rattle.std.proofs.Math.Option.{Option, none, some}
 use Rattle.shared_words.specs.Conditions.{refused}
 use Rattle.shared_numbers.specs.Put.{Put}
@@ -7,6 +7,7 @@ use Rattle.c4d_rules.specs.Blocks.{Block}
 use Rattle.c4d_rules.specs.Combinations.{is_in, combination}
 use Rattle.c4d_rules.specs.Rules.{identifiers}
 use Rattle.c4d_rules.specs.Gives.{materials_of, object_at}
+use Rattle.shared_words.specs.declared.Refusal.{Refusal}
 use Rattle.c4d_object.specs.declared.One.{One}
 use Rattle.c4d_object.specs.Ahead.{ahead, behind}
 
@@ -25,6 +26,6 @@ pub record Whole (s : List ℕ) (last : Option ℕ) (chunk from to row : ℕ) (n
   pub long : from + 68 * textures + 4 ≤ end
   pub within : end ≤ to
 
-abbrev pub OneIs : List ℕ → Option ℕ → ℕ → ℕ → ℕ → ℕ → List ℕ → List ℕ → One → Type 0
-OneIs s last chunk from to row notes notes' (One.Refused r) = (begun : ℕ) → ahead s last chunk to begun (some []) from ≡ refused r
-OneIs s last chunk from to row notes notes' (One.Whole end number textures) = Whole s last chunk from to row notes notes' end number textures
+abbrev pub OneIs : List ℕ → Option ℕ → ℕ → ℕ → ℕ → ℕ → List ℕ → List ℕ → Result One Refusal → Type 0
+OneIs s last chunk from to row notes notes' (Err r) = (begun : ℕ) → ahead s last chunk to begun (some []) from ≡ refused r
+OneIs s last chunk from to row notes notes' (Ok o) = Whole s last chunk from to row notes notes' o.end o.number o.textures

@@ -7,21 +7,16 @@ ghost use Rattle.shared_numbers.specs.Put.{Put};
 ghost use Rattle.c4d_held.specs.Held.{last_of};
 ghost use Rattle.c4d_object.specs.One.{OneIs};
 
-use c4d_blocks::{Seen, object_at, object_head};
-use c4d_held::{Texture, begun, combined, judge_texture, with_one};
+use c4d_blocks::{Block, object_at, object_head};
+use c4d_held::{T_END, T_OBJECT, T_TEXTURE, begun, combined, judge_texture, with_one};
 use shared_words::Refusal;
 
-const T_END: usize = 0;
-
-const T_OBJECT: usize = 1;
-
-const T_TEXTURE: usize = 23;
-
-// A whole object: the position behind it, its combination, how many textures it has; or the first fault.
+// A whole object: the position behind it, its combination, how many textures it has.
 #[derive(Clone, Copy)]
-pub enum One {
-    Whole(usize, usize, usize),
-    Refused(Refusal),
+pub struct One {
+    pub end: usize,
+    pub number: usize,
+    pub textures: usize,
 }
 
 // Notes a number, where there is room for it.
@@ -44,7 +39,7 @@ pub fn object(
     below: usize,
     row: usize,
     notes: &mut [u32],
-) -> One
+) -> Result<One, Refusal>
     requires { (from ≤ to) × (to ≤ length file.now) × (below ≤ 0x8000_0000) × (8 * row + 4 ≤ from) }
     ensures { OneIs file.now (last_of below) chunk from to row notes.old notes.new result }
 {
@@ -52,21 +47,25 @@ pub fn object(
     let mut held = begun();
     let mut textures = 0usize;
     let mut head = object_head(file, at, to);
+    // a `while`: each chunk's size tells where the next begins
     while at < to {
-        let Seen::Block(id, len) = object_at(head, at, to) else {
-            return One::Refused(Refusal::Overrun(at));
+        let Some(Block { id, len }) = object_at(head, at, to) else {
+            return Err(Refusal::Overrun(at));
         };
         // made at once, since position and size would take two registers
         let next = at + (4 + len);
         if id == T_END {
-            let number = combined(held);
-            if number == 0 {
-                return One::Refused(Refusal::Combination(at));
-            }
-            return One::Whole(next, number, textures);
+            let Some(number) = combined(held) else {
+                return Err(Refusal::Combination(at));
+            };
+            return Ok(One {
+                end: next,
+                number,
+                textures,
+            });
         }
         if id == T_OBJECT {
-            return One::Refused(Refusal::Order(at));
+            return Err(Refusal::Order(at));
         }
         held = with_one(held, id);
         if id != T_TEXTURE {
@@ -74,14 +73,12 @@ pub fn object(
             head = object_head(file, at, to);
             continue;
         }
-        match judge_texture(file, at, len, below) {
-            Texture::Refused(r) => return One::Refused(r),
-            Texture::Material(material) => note(material, row + 2 + textures, notes),
-        }
+        let material = judge_texture(file, at, len, below)?;
+        note(material, row + 2 + textures, notes);
         textures += 1;
         // a texture has 64 bytes: the next step need not wait for its size
         at += 68;
         head = object_head(file, at, to);
     }
-    One::Refused(Refusal::Order(chunk))
+    Err(Refusal::Order(chunk))
 }

@@ -16,13 +16,13 @@ use Rattle.c4d_rules.specs.Kinds.{t_object}
 use Rattle.c4d_rules.specs.Gives.{Object, materials_of, object_at}
 use Rattle.c4d_rules.specs.Calls.{all_materials}
 use Rattle.c4d_blocks.specs.Headers.{block_in, Tells}
-use Rattle.c4d_held.specs.declared.Outside.{Outside}
+use Rattle.std.specs.Prelude.{Result, Ok, Err}
 use Rattle.c4d_held.specs.Held.{OutsideIs}
 use Rattle.c4d_held.proofs.Conditions.{object_fine, not_this}
 use Rattle.c4d_object.specs.Ahead.{ahead, behind}
 use Rattle.c4d_object.specs.One.{Roomy, Whole}
 use Rattle.c4d_object.proofs.Ahead.{behind-none, behind-both, closed-at-end, faulty, begins, passes}
-use Rattle.c4d_objects.specs.declared.Tally.{Tally}
+use Rattle.c4d_objects.specs.declared.Figure.{Figure}
 use Rattle.c4d_objects.specs.Notes.{front, notes_of, all_notes, Small, tallied, Noted, Notes}
 use Rattle.c4d_objects.proofs.Notes.{materials_more, notes_more, front-short, noted-object}
 
@@ -64,14 +64,14 @@ module _ (s : List ℕ) (last : Option ℕ) (chunk to : ℕ) (notes₀ : List �
 
   -- ---- what the whole answers
 
-  abbrev pub Answered : List ℕ → Tally → Type 0
+  abbrev pub Answered : List ℕ → Result Figure Refusal → Type 0
   Answered notes r = (r ≡ tallied all) × Notes s all notes₀ notes
 
-  pub with_refusal : (notes : List ℕ) (r : Refusal) → all ≡ refused r → Answered notes (Tally.Refused r)
+  pub with_refusal : (notes : List ℕ) (r : Refusal) → all ≡ refused r → Answered notes (Err r)
   with_refusal notes r e = (sym (ap tallied e), subst (λ (w : Answer (List Object)). Notes s w notes₀ notes) (sym e) tt)
 
   module _ {notes : List ℕ} {at count textures row : ℕ} (i : Walking notes at count textures row) (k : to ≤ length s) where
-    pub at_its_end : at ≡ to → Answered notes (Tally.Count count textures)
+    pub at_its_end : at ≡ to → Answered notes (Ok record { objects = count; textures = textures })
     at_its_end e =
         let z : all ≡ accepted i.done =
         i.goes ∙ ap (behind i.done) (closed-at-end s last chunk to k i.begun at e) ∙ ap accepted (append-nil i.done) in
@@ -87,10 +87,10 @@ module _ (s : List ℕ) (last : Option ℕ) (chunk to : ℕ) (notes₀ : List �
 
       -- ---- no object begins
 
-      pub outside : (r : Refusal) → OutsideIs last at b (Outside.Refused r) → all ≡ refused r
+      pub outside : (r : Refusal) → OutsideIs last at b (Err r) → all ≡ refused r
       outside r e = fault-there r (faulty s last chunk to k i.begun none at l id len t r e)
 
-      pub skipped : (id ≡ t_object → ⊥) → OutsideIs last at b Outside.Skipped → Walking notes (at + (4 + len)) count textures row
+      pub skipped : (id ≡ t_object → ⊥) → OutsideIs last at b (Ok tt) → Walking notes (at + (4 + len)) count textures row
       skipped o e =
           let f = t.fits in
           let x = i.short in

@@ -1,12 +1,13 @@
 -- What is noted of the objects of an OBJ5, for the list, and what their reading promises.
-use Rattle.std.specs.Prelude.{ℕ, ◌+◌, ◌*◌, ◌≤◌, cond, List, [], ◌∷◌, ◌++◌, eqb, length}
+use Rattle.std.specs.Prelude.{ℕ, ◌+◌, ◌*◌, ◌≤◌, cond, Result, Ok, Err, List, [], ◌∷◌, ◌++◌, eqb, length}
 use Rattle.shared_words.specs.Conditions.{Answer, refused, accepted}
 use Rattle.shared_words.specs.Lists.{All}
 use Rattle.shared_numbers.specs.Put.{Put}
 use Rattle.c4d_rules.specs.Gives.{Object}
 use Rattle.c4d_rules.specs.Calls.{all_materials}
 use Rattle.c4d_object.specs.One.{Roomy}
-use Rattle.c4d_objects.specs.declared.Tally.{Tally}
+use Rattle.shared_words.specs.declared.Refusal.{Refusal}
+use Rattle.c4d_objects.specs.declared.Figure.{Figure}
 
 -- in front of an object's materials: its offset and its combination as one number, in which 16 tells that it has textures; and how many,
 -- if it has any. (So an object of eight bytes takes one number.)
@@ -27,9 +28,9 @@ Small r = r.combination ≤ 9
 -- ---- of the whole OBJ5
 
 -- how many objects and textures
-abbrev pub tallied : Answer (List Object) → Tally
-tallied (refused r) = Tally.Refused r
-tallied (accepted rs) = Tally.Count (length rs) (length (all_materials rs))
+abbrev pub tallied : Answer (List Object) → Result Figure Refusal
+tallied (refused r) = Err r
+tallied (accepted rs) = Ok record { objects = length rs; textures = length (all_materials rs) }
 
 -- the notes are those of all its objects, where there is room
 pub record Noted (s : List ℕ) (rs : List Object) (notes notes' : List ℕ) : Type 0 where

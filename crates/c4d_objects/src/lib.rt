@@ -9,21 +9,20 @@ ghost use Rattle.c4d_held.specs.Held.{last_of};
 ghost use Rattle.c4d_object.specs.Ahead.{ahead};
 ghost use Rattle.c4d_objects.specs.Notes.{front, tallied, Notes};
 
-use c4d_blocks::{Seen, object_at, object_head};
-use c4d_held::{Outside, judge_outside};
-use c4d_object::{One, note, object};
+use c4d_blocks::{Block, object_at, object_head};
+use c4d_held::{T_OBJECT, judge_outside};
+use c4d_object::{note, object};
 use shared_words::Refusal;
-
-const T_OBJECT: usize = 1;
 
 // How many objects and textures there are.
 #[derive(Clone, Copy)]
-pub enum Tally {
-    Count(usize, usize),
-    Refused(Refusal),
+pub struct Figure {
+    pub objects: usize,
+    pub textures: usize,
 }
 
-// Notes an object in front of its materials, and answers the place behind these.
+// Notes an object in front of its materials, and answers the place behind these. (Its offset, a mark that textures follow and its
+// combination are one number: the notes are a row of fixed length, since the library has no heap.)
 fn note_object(
     offset: usize,
     number: usize,
@@ -46,7 +45,13 @@ fn note_object(
 }
 
 // The OBJ5 at a position, which ends at another, in a file whose materials are below a number.
-pub fn objects(file: &[u8], chunk: usize, to: usize, below: usize, notes: &mut [u32]) -> Tally
+pub fn objects(
+    file: &[u8],
+    chunk: usize,
+    to: usize,
+    below: usize,
+    notes: &mut [u32],
+) -> Result<Figure, Refusal>
     requires { (chunk + 8 ≤ to) × (to ≤ length file.now) × (to ≤ limit) × (below ≤ 0x8000_0000) }
     ensures is { result ≡ tallied (ahead file.now (last_of below) chunk to (chunk + 8) none (chunk + 8)) }
     ensures noted { Notes file.now (ahead file.now (last_of below) chunk to (chunk + 8) none (chunk + 8)) notes.old
@@ -57,31 +62,27 @@ pub fn objects(file: &[u8], chunk: usize, to: usize, below: usize, notes: &mut [
     let mut textures = 0usize;
     let mut row = 0usize;
     let mut head = object_head(file, at, to);
+    // a `while`: each chunk's size tells where the next begins
     while at < to {
-        let Seen::Block(id, len) = object_at(head, at, to) else {
-            return Tally::Refused(Refusal::Overrun(at));
+        let Some(Block { id, len }) = object_at(head, at, to) else {
+            return Err(Refusal::Overrun(at));
         };
         let next = at + (4 + len);
         if id != T_OBJECT {
-            if let Outside::Refused(r) = judge_outside(at, id, len) {
-                return Tally::Refused(r);
-            }
+            judge_outside(at, id, len)?;
             at = next;
             head = object_head(file, at, to);
             continue;
         }
-        match object(file, chunk, next, to, below, row, notes) {
-            One::Refused(r) => {
-                return Tally::Refused(r);
-            }
-            One::Whole(end, number, more) => {
-                row = note_object(at, number, more, row, notes);
-                textures += more;
-                at = end;
-            }
-        }
+        let one = object(file, chunk, next, to, below, row, notes)?;
+        row = note_object(at, one.number, one.textures, row, notes);
+        textures += one.textures;
+        at = one.end;
         count += 1;
         head = object_head(file, at, to);
     }
-    Tally::Count(count, textures)
+    Ok(Figure {
+        objects: count,
+        textures,
+    })
 }

@@ -1,5 +1,5 @@
 -- Sets of sub-chunks as the bits of a number, and the sets that are combinations.
-use Rattle.std.specs.Prelude.{ℕ, zero, suc, ◌+◌, ◌*◌, ◌/◌, ◌%◌, Bool, cond, List, [], ◌∷◌, eqb}
+use Rattle.std.specs.Prelude.{ℕ, zero, suc, ◌+◌, ◌*◌, ◌/◌, ◌%◌, Bool, cond, Option, Some, None, List, [], ◌∷◌, eqb}
 use Rattle.c4d_rules.specs.Kinds.{t_points, t_triangles, t_quadrangles, t_edges, t_polygon, t_light, t_camera, t_ground, t_sky, t_sphere, t_environment, t_hermite}
 use Rattle.c4d_rules.specs.Combinations.{is_in}
 
@@ -51,3 +51,7 @@ among n (r ∷ rs) = cond (eqb n (bits_from (is_in r.set) 16 17)) r.combination 
 -- 0 where it is none of them
 unfoldable pub looked_up : ℕ → ℕ
 looked_up n = among n table
+
+-- a combination's number, of which 0 is none
+abbrev pub numbered : ℕ → Option ℕ
+numbered n = cond (eqb n 0) None (Some n)

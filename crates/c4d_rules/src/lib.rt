@@ -1,5 +1,3 @@
-// What the calls of the Cinema 4D reader answer. The definitions in specs/ speak of these types.
+// What a Cinema 4D file is, and what the calls of its reader answer: the definitions stand in specs/, theorems about them in proofs/;
+// there is no function.
 #![tactic(auto)]
-
-use shared_words::Refusal;
-

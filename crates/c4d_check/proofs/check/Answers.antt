@@ -1,19 +1,13 @@
 -- A refusal stays; of a figure the count is answered.
-use mathlib.Core.Path.{sym, subst}
-use Rattle.c4d_check.specs.Reads.{Reads}
+use mathlib.Core.Path.{sym}
+use Rattle.std.proofs.lemmas.Result.{err_from_is_err_and}
 use Rattle.c4d_check.proofs.Verdict.{checked_refused, checked_good}
 use Rattle.c4d_check.proofs.check.Goals as goal
 
-pub returns-in-Refused : goal.returns-in-Refused
-returns-in-Refused c =
-    let s = c.args.file.now in
-    let ran = c.read in
-    let g = c.in-Refused in
-    sym (checked_refused s g.r (subst (Reads s _ ran.new.notes) g.is ran.ensures))
+pub returns-in_err-figure : goal.returns-in_err-figure
+returns-in_err-figure c =
+    let p = err_from_is_err_and c.from_residual.result c.from_residual.ensures.1 in
+    rw (p.1, p.2) (sym (checked_refused c.args.file.now c.in_err-figure.field-0.0 c.in_err-figure.ensures))
 
-pub returns-in-Good : goal.returns-in-Good
-returns-in-Good c =
-    let s = c.args.file.now in
-    let ran = c.read in
-    let g = c.in-Good in
-    sym (checked_good s _ ran.new.notes g.figure (subst (Reads s _ ran.new.notes) g.is ran.ensures))
+pub returns : goal.returns
+returns c = sym (checked_good c.args.file.now _ c.read.new.notes c.in_ok-figure.figure c.in_ok-figure.ensures)

@@ -22,31 +22,22 @@ skipped b last at id i s e u = (
   not_this b t_end i e,
 )
 
-pub returns-then-id-eq-T_END : goal.returns-then-id-eq-T_END
-returns-then-id-eq-T_END c = λ b last i l. end-outside b last none c.args.at (i ∙ c.if-id-eq-T_END.true) refl
+pub returns-in-0 : goal.returns-in-0
+returns-in-0 c = λ b last i l. end-outside b last none c.args.at (i ∙ c.in-0.is) refl
 
-pub returns-then-id-lt16 : goal.returns-then-id-lt16
-returns-then-id-lt16 c = λ b last i l.
-    let a = c in
-    skipped b last a.args.at a.args.id i a.requires c.if-id-eq-T_END.false (λ k. absurd (omega arith))
+pub returns-in-23 : goal.returns-in-23
+returns-in-23 c = λ b last i l. texture-long b last none c.args.at (i ∙ c.in-23.is) (ne_eqb _ 64 (λ e. c.if-len-ne-TEXTURE_LENGTH.true (sym l ∙ e)))
 
-pub returns-then-id-gt32 : goal.returns-then-id-gt32
-returns-then-id-gt32 c = λ b last i l.
-    let a = c in
-    skipped b last a.args.at a.args.id i a.requires c.if-id-eq-T_END.false (λ k. omega arith)
+pub returns-in_default : goal.returns-in_default
+returns-in_default c = λ b last i l. skipped b last c.args.at c.args.id i c.requires (λ e. omega arith) (λ k. omega arith)
 
-pub returns-then-id-ne-T_TEXTURE : goal.returns-then-id-ne-T_TEXTURE
-returns-then-id-ne-T_TEXTURE c = λ b last i l.
-    let a = c in
-    part-outside b last none a.args.at (not_this b t_texture i c.if-id-ne-T_TEXTURE.true) (not_this b t_object i a.requires) (not_this b t_end i c.if-id-eq-T_END.false)
-    (ap listed i ∙ listed-part a.args.id (omega arith) (omega arith)) refl
+pub returns-in_default-2 : goal.returns-in_default-2
+returns-in_default-2 c = λ b last i l. skipped b last c.args.at c.args.id i c.requires (λ e. omega arith) (λ k. omega arith)
 
-pub returns-then-len-ne64 : goal.returns-then-len-ne64
-returns-then-len-ne64 c = λ b last i l.
-    let a = c in
-    texture-long b last none a.args.at (i ∙ c.if-id-ne-T_TEXTURE.false) (ne_eqb _ 64 (λ e. c.if-len-ne64.true (sym l ∙ e)))
+pub returns-in-16-to-32 : goal.returns-in-16-to-32
+returns-in-16-to-32 c = λ b last i l. texture-outside b last none c.args.at (i ∙ c.in-23.is) (eq-eqb _ 64 (l ∙ c.if-len-ne-TEXTURE_LENGTH.false)) refl
 
-pub returns : goal.returns
-returns c = λ b last i l.
-    let a = c in
-    texture-outside b last none a.args.at (i ∙ c.if-id-ne-T_TEXTURE.false) (eq-eqb _ 64 (l ∙ c.if-len-ne64.false)) refl
+pub returns-in-16-to-32-2 : goal.returns-in-16-to-32-2
+returns-in-16-to-32-2 c = λ b last i l.
+    part-outside b last none c.args.at (not_this b t_texture i (λ e. omega arith)) (not_this b t_object i c.requires) (not_this b t_end i (λ e. omega arith))
+    (ap listed i ∙ listed-part c.args.id (omega arith) (omega arith)) refl

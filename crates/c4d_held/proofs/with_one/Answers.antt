@@ -12,14 +12,14 @@ use Rattle.c4d_held.proofs.with_one.Goals as goal
 unknown : (ids : List ℕ) (id : ℕ) → (16 ≤ id → 32 < id) → held_with (ids ++ (id ∷ [])) ≡ held_with ids
 unknown ids id u = rw (once_unknown ids id u, bits_other ids id u)
 
-pub returns-then-id-lt16 : goal.returns-then-id-lt16
-returns-then-id-lt16 c = λ ids e. e ∙ sym (unknown ids c.args.id (λ k. absurd (omega arith)))
+pub returns-in_default : goal.returns-in_default
+returns-in_default c = λ ids e. e ∙ sym (unknown ids c.args.id (λ k. omega arith))
 
-pub returns-then-id-gt32 : goal.returns-then-id-gt32
-returns-then-id-gt32 c = λ ids e. e ∙ sym (unknown ids c.args.id (λ k. omega arith))
+pub returns-in_default-2 : goal.returns-in_default-2
+returns-in_default-2 c = λ ids e. e ∙ sym (unknown ids c.args.id (λ k. omega arith))
 
-pub returns : goal.returns
-returns c = λ ids e.
+pub returns-in-16-to-32 : goal.returns-in-16-to-32
+returns-in-16-to-32 c = λ ids e.
     let p = c.with_part.ensures ids (ap (λ (h : Held). h.present) e) in
     let q = c.repeats.ensures ids e in
     rw (p, q)

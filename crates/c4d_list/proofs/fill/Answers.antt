@@ -1,5 +1,5 @@
 use mathlib.Core.Path.{◌≡◌, refl, ap}
-use Prim.Native.Nat.{ℕ, ◌+◌, ◌-◌, ◌/◌, ◌%◌, ◌<◌, ◌≤◌}
+use Prim.Native.Nat.{ℕ, ◌+◌, ◌/◌, ◌%◌, ◌<◌, ◌≤◌}
 use native.Mathlib.Omega.{arith}
 use mathlib.Core.List.{List, [], ◌∷◌}
 use lib.ListN.{length, get_or}
@@ -7,7 +7,7 @@ use Rattle.shared_numbers.proofs.Put.{put-none}
 use Rattle.c4d_objects.specs.Notes.{front}
 use Rattle.c4d_objects.proofs.Notes.{front_alone, front-some}
 use Rattle.c4d_list.specs.Filled.{Fillable}
-use Rattle.c4d_list.proofs.Filling.{Filling, filling_none, all-filled, Next, next, reaches, offset_is, number_is, none-there, count-there, two-before, materials_there, object-room, material-room, one_more}
+use Rattle.c4d_list.proofs.Filling.{Filling, all-filled, Next, next, reaches, offset_is, number_is, none-there, count-there, two-before, materials_there, object-room, material-room, one_more}
 use Rattle.c4d_list.proofs.fill.Goals as goal
 
 no-materials : (ms : List ℕ) → length ms ≡ 0 → ms ≡ []
@@ -44,43 +44,35 @@ module _ (notes objects₀ materials₀ : List ℕ) (count : ℕ) (g : Fillable 
       next-there : from + 2 + get_or notes (from + 1) 0 ≤ length notes
       next-there = omega (arith, reaches objects₀ materials₀ g f one, two-before', count-is')
 
-pub loop-i-init : goal.loop-i-init
-loop-i-init c = λ g. filling_none c.args.objects.now c.args.materials.now g
-
 pub offset_bounds-notes-from : goal.offset_bounds-notes-from
 offset_bounds-notes-from c =
     let a = c.args in
-    let l = c.loop-i in
+    let l = c.loop in
     omega (arith, first-there a.notes.now a.objects.now a.materials.now a.count c.requires (l.invariant c.requires) (omega arith))
 
 pub bounds-notes-from : goal.bounds-notes-from
 bounds-notes-from c =
     let a = c.args in
-    let l = c.loop-i in
+    let l = c.loop in
     first-there a.notes.now a.objects.now a.materials.now a.count c.requires (l.invariant c.requires) (omega arith)
-
-pub overflow_cast-noted : goal.overflow_cast-noted
-overflow_cast-noted c =
-    let l = c.loop-i in
-    omega (arith, c.type_inv.notes l.from)
 
 pub put_object-row-requires : goal.put_object-row-requires
 put_object-row-requires c =
     let a = c.args in
-    let l = c.loop-i in
+    let l = c.loop in
     let b = c.type_inv.notes l.from in
     (room-there a.notes.now a.objects.now a.materials.now a.count c.requires (l.invariant c.requires) (omega arith), omega arith, omega arith, omega arith)
 
 pub overflow_add-from : goal.overflow_add-from
 overflow_add-from c =
     let a = c.args in
-    let l = c.loop-i in
+    let l = c.loop in
     omega (arith, first-there a.notes.now a.objects.now a.materials.now a.count c.requires (l.invariant c.requires) (omega arith))
 
-pub loop-i-preserved-then-noted-eq0 : goal.loop-i-preserved-then-noted-eq0
-loop-i-preserved-then-noted-eq0 c = λ g.
+pub loop-preserved-then-noted-eq0 : goal.loop-preserved-then-noted-eq0
+loop-preserved-then-noted-eq0 c = λ g.
     let a = c.args in
-    let l = c.loop-i in
+    let l = c.loop in
     let n = one a.notes.now a.objects.now a.materials.now a.count g (l.invariant g) (omega arith) in
     let z = none-there a.objects.now a.materials.now g (l.invariant g) n (get_or a.notes.now l.from 0) refl c.if-noted-eq0.true in
     let e = no-materials n.r.materials z in
@@ -90,68 +82,33 @@ loop-i-preserved-then-noted-eq0 c = λ g.
     one_more a.objects.now a.materials.now g (l.invariant g) n (l.from + 1) (omega arith)
     (rw (← o, ← p, z) c.put_object-row.ensures) (rw e (put-none l.materials l.behind)) c.put_object-row.auto.row refl
 
-pub overflow_add-textures : goal.overflow_add-textures
-overflow_add-textures c =
+pub bounds-notes-from-in-loop : goal.bounds-notes-from-in-loop
+bounds-notes-from-in-loop c =
     let a = c.args in
-    let l = c.loop-i in
-    omega (arith, first-there a.notes.now a.objects.now a.materials.now a.count c.requires (l.invariant c.requires) (omega arith))
-
-pub offset_bounds-notes-from-in-loop-i : goal.offset_bounds-notes-from-in-loop-i
-offset_bounds-notes-from-in-loop-i c =
-    let a = c.args in
-    let l = c.loop-i in
+    let l = c.loop in
     omega (arith, next-there a.notes.now a.objects.now a.materials.now a.count c.requires (l.invariant c.requires) (omega arith) c.if-noted-eq0.false)
 
-pub bounds-notes-from-in-loop-i : goal.bounds-notes-from-in-loop-i
-bounds-notes-from-in-loop-i c =
+pub put_object-row-requires-in-loop : goal.put_object-row-requires-in-loop
+put_object-row-requires-in-loop c =
     let a = c.args in
-    let l = c.loop-i in
-    omega (arith, next-there a.notes.now a.objects.now a.materials.now a.count c.requires (l.invariant c.requires) (omega arith) c.if-noted-eq0.false)
-
-pub overflow_cast-textures : goal.overflow_cast-textures
-overflow_cast-textures c =
-    let l = c.loop-i in
-    omega (arith, c.type_inv.notes (l.from + 1))
-
-pub overflow_add-next : goal.overflow_add-next
-overflow_add-next c =
-    let a = c.args in
-    let l = c.loop-i in
-    omega (arith, next-there a.notes.now a.objects.now a.materials.now a.count c.requires (l.invariant c.requires) (omega arith) c.if-noted-eq0.false)
-
-pub overflow_add-next-in-loop-i : goal.overflow_add-next-in-loop-i
-overflow_add-next-in-loop-i c =
-    let a = c.args in
-    let l = c.loop-i in
-    omega (arith, next-there a.notes.now a.objects.now a.materials.now a.count c.requires (l.invariant c.requires) (omega arith) c.if-noted-eq0.false)
-
-pub put_object-row-requires-in-loop-i : goal.put_object-row-requires-in-loop-i
-put_object-row-requires-in-loop-i c =
-    let a = c.args in
-    let l = c.loop-i in
+    let l = c.loop in
     let b = c.type_inv.notes l.from in
     let t = c.type_inv.notes (l.from + 1) in
     (room-there a.notes.now a.objects.now a.materials.now a.count c.requires (l.invariant c.requires) (omega arith), omega arith, omega arith, omega arith)
 
-pub overflow_add-from-in-loop-i : goal.overflow_add-from-in-loop-i
-overflow_add-from-in-loop-i c =
-    let a = c.args in
-    let l = c.loop-i in
-    omega (arith, next-there a.notes.now a.objects.now a.materials.now a.count c.requires (l.invariant c.requires) (omega arith) c.if-noted-eq0.false)
-
 pub put_materials-behind-requires : goal.put_materials-behind-requires
 put_materials-behind-requires c =
     let a = c.args in
-    let l = c.loop-i in
+    let l = c.loop in
     let z = c.if-noted-eq0.false in
     let n = one a.notes.now a.objects.now a.materials.now a.count c.requires (l.invariant c.requires) (omega arith) in
     let k = count-is' a.notes.now a.objects.now a.materials.now a.count c.requires (l.invariant c.requires) (omega arith) z in
     (omega arith, next-there a.notes.now a.objects.now a.materials.now a.count c.requires (l.invariant c.requires) (omega arith) z, omega (arith, material-room a.objects.now a.materials.now c.requires (l.invariant c.requires) n))
 
-pub loop-i-preserved : goal.loop-i-preserved
-loop-i-preserved c = λ g.
+pub loop-preserved : goal.loop-preserved
+loop-preserved c = λ g.
     let a = c.args in
-    let l = c.loop-i in
+    let l = c.loop in
     let n = one a.notes.now a.objects.now a.materials.now a.count g (l.invariant g) (omega arith) in
     let z = c.if-noted-eq0.false in
     let k = count-is' a.notes.now a.objects.now a.materials.now a.count g (l.invariant g) (omega arith) z in
@@ -160,15 +117,9 @@ loop-i-preserved c = λ g.
     let o = offset-is' a.notes.now a.objects.now a.materials.now a.count g (l.invariant g) (omega arith) in
     let p = number-is' a.notes.now a.objects.now a.materials.now a.count g (l.invariant g) (omega arith) in
     one_more a.objects.now a.materials.now g (l.invariant g) n (l.from + 2 + get_or a.notes.now (l.from + 1) 0) (omega arith)
-    (rw (← o, ← p, ← k) c.put_object-row-in-loop-i.ensures)
+    (rw (← o, ← p, ← k) c.put_object-row-in-loop.ensures)
     (rw (← m) c.put_materials-behind.ensures)
-    c.put_object-row-in-loop-i.auto.row c.put_materials-behind.auto.row
-
-pub shape_of-objects : goal.shape_of-objects
-shape_of-objects c = (c.loop-i.invariant c.requires).objects-long
-
-pub shape_of-materials : goal.shape_of-materials
-shape_of-materials c = (c.loop-i.invariant c.requires).materials_long
+    c.put_object-row-in-loop.auto.row c.put_materials-behind.auto.row
 
 pub returns : goal.returns
-returns c = λ g. all-filled c.args.objects.now c.args.materials.now g (c.loop-i.invariant g) (omega arith)
+returns c = λ g. all-filled c.args.objects.now c.args.materials.now g (c.loop.invariant g) (omega arith)

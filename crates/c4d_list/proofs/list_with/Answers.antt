@@ -1,13 +1,12 @@
 -- A refused file stays refused; the objects of an accepted one are put where there is room.
 use Rattle.shared_words.specs.declared.Refusal.{Refusal}
 use Rattle.std.specs.Prelude.{Result}
-use mathlib.Core.Path.{sym, ap, subst}
-use mathlib.Core.List.{List}
+use mathlib.Core.Path.{sym, ap}
 use Prim.Native.Nat.{ℕ}
 use Rattle.shared_words.specs.Effects.{Effect}
 use Rattle.c4d_rules.specs.Calls.{Rows}
-use Rattle.c4d_chunks.specs.declared.Figure.{Figure}
-use Rattle.c4d_check.specs.Reads.{Judged, Reads}
+use Rattle.std.proofs.lemmas.Result.{err_from_is_err_and}
+use Rattle.c4d_check.specs.Reads.{Judged}
 use Rattle.c4d_list.proofs.Calls.{list-refused, few-objects, few_materials, both-filled, fillable}
 use Rattle.c4d_list.proofs.list_with.Goals as goal
 
@@ -17,36 +16,36 @@ answer e = e.answer
 abbrev left : Effect (Result ℕ Refusal) (Rows ℕ ℕ) → Rows ℕ ℕ
 left e = e.rows
 
-pub returns-then-objects-n : goal.returns-then-objects-n
-returns-then-objects-n c =
+pub returns-then-objects-figure : goal.returns-then-objects-figure
+returns-then-objects-figure c =
     let a = c.args in
-    let j : Judged a.file.now a.notes.now c.read.new.notes c.in-Good.figure = c.in-Good.ensures in
-    let q = few-objects a.file.now a.objects.now a.materials.now c.in-Good.figure j c.if-objects-n.true in record { answer = sym (ap answer q); rows = sym (ap left q) }
+    let j : Judged a.file.now a.notes.now c.read.new.notes c.in_ok-figure.figure = c.in_ok-figure.ensures in
+    let q = few-objects a.file.now a.objects.now a.materials.now c.in_ok-figure.figure j c.if-objects-figure.true in record { answer = sym (ap answer q); rows = sym (ap left q) }
 
-pub returns-then-materials-m : goal.returns-then-materials-m
-returns-then-materials-m c =
+pub returns-then-materials-figure : goal.returns-then-materials-figure
+returns-then-materials-figure c =
     let a = c.args in
-    let j : Judged a.file.now a.notes.now c.read.new.notes c.in-Good.figure = c.in-Good.ensures in
-    let q = few_materials a.file.now a.objects.now a.materials.now c.in-Good.figure j c.if-objects-n.false c.if-materials-m.true in record { answer = sym (ap answer q); rows = sym (ap left q) }
+    let j : Judged a.file.now a.notes.now c.read.new.notes c.in_ok-figure.figure = c.in_ok-figure.ensures in
+    let q = few_materials a.file.now a.objects.now a.materials.now c.in_ok-figure.figure j c.if-objects-figure.false c.if-materials-figure.true in record { answer = sym (ap answer q); rows = sym (ap left q) }
 
 pub fill-requires : goal.fill-requires
 fill-requires c =
     let a = c.args in
-    let j : Judged a.file.now a.notes.now c.read.new.notes c.in-Good.figure = c.in-Good.ensures in
-    fillable a.file.now a.objects.now a.materials.now c.in-Good.figure j c.if-objects-n.false c.if-materials-m.false (c.requires j.short)
+    let j : Judged a.file.now a.notes.now c.read.new.notes c.in_ok-figure.figure = c.in_ok-figure.ensures in
+    fillable a.file.now a.objects.now a.materials.now c.in_ok-figure.figure j c.if-objects-figure.false c.if-materials-figure.false (c.requires j.short)
 
-pub returns-in-Refused : goal.returns-in-Refused
-returns-in-Refused c =
+pub returns-in_err-figure : goal.returns-in_err-figure
+returns-in_err-figure c =
     let a = c.args in
-    let ran = c.read in
-    let g = c.in-Refused in
-    let q = list-refused a.file.now a.objects.now a.materials.now g.r (subst (Reads a.file.now a.notes.now ran.new.notes) g.is ran.ensures) in record { answer = sym (ap answer q); rows = sym (ap left q) }
+    let q = list-refused a.file.now a.objects.now a.materials.now c.in_err-figure.field-0.0 c.in_err-figure.ensures in
+    let p = err_from_is_err_and c.from_residual.result c.from_residual.ensures.1 in
+    rw (p.1, p.2) record { answer = sym (ap answer q); rows = sym (ap left q) }
 
-pub returns-else-materials-m : goal.returns-else-materials-m
-returns-else-materials-m c =
+pub returns : goal.returns
+returns c =
     let a = c.args in
-    let j : Judged a.file.now a.notes.now c.read.new.notes c.in-Good.figure = c.in-Good.ensures in
-    let k = c.if-objects-n.false in
-    let m = c.if-materials-m.false in
-    let g = fillable a.file.now a.objects.now a.materials.now c.in-Good.figure j k m (c.requires j.short) in
-    let q = both-filled a.file.now a.objects.now a.materials.now c.in-Good.figure j k m (c.fill.ensures g) in record { answer = sym (ap answer q); rows = sym (ap left q) }
+    let j : Judged a.file.now a.notes.now c.read.new.notes c.in_ok-figure.figure = c.in_ok-figure.ensures in
+    let k = c.if-objects-figure.false in
+    let m = c.if-materials-figure.false in
+    let g = fillable a.file.now a.objects.now a.materials.now c.in_ok-figure.figure j k m (c.requires j.short) in
+    let q = both-filled a.file.now a.objects.now a.materials.now c.in_ok-figure.figure j k m (c.fill.ensures g) in record { answer = sym (ap answer q); rows = sym (ap left q) }

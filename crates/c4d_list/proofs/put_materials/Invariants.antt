@@ -1,10 +1,8 @@
 -- One number after another.
-use Prim.Native.Nat.{◌-◌}
-use Rattle.c4d_list.proofs.Putting.{Putting}
+use lib.ListN.{take}
+use Rattle.shared_words.specs.Bytes.{packed}
+use Rattle.shared_numbers.specs.Put.{Put}
 use Rattle.c4d_list.proofs.put_materials.Given as goal
 
-abbrev pub invariant-loop-i : goal.invariant-loop-i
-invariant-loop-i l = Putting l.notes l.from l.to l.at l.initial.row l.row l.behind l.i
-
-abbrev pub decreases-loop-i : goal.decreases-loop-i
-decreases-loop-i l = l.to - l.i
+abbrev pub invariant-loop-number : goal.invariant-loop-number
+invariant-loop-number l = Put l.initial.row l.at (packed 4 (take l.number-index l.number-items)) l.row l.behind

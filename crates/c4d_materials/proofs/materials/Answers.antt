@@ -3,8 +3,7 @@ use mathlib.Core.Bool.{Bool, true, false, cond}
 use mir.Val.{bool_byte}
 use lib.Dec.{eqb}
 use mathlib.Core.List.{List}
-use lib.ListN.{length}
-use Prim.Native.Nat.{ℕ, ◌-◌, ◌≤◌}
+use Prim.Native.Nat.{ℕ}
 use native.Mathlib.Omega.{arith}
 use Rattle.shared_words.proofs.Bools.{bit_small}
 use Rattle.c4d_rules.specs.Blocks.{material_header}
@@ -40,33 +39,33 @@ pub returns-then-ended : goal.returns-then-ended
 returns-then-ended c =
     let a = c.args in
     let l = c.loop-at in
-    let g = c.in-Block in
+    let g = c.in-Some.field-0 in
     let i = on a.file.now a.chunk a.to l.at l.ended true l.nexts c.if-ended.true l.invariant in
-    record { is = sym (on-after a.file.now a.chunk a.to l.at c.requires.1 l.nexts g.id g.len i (omega arith) g.ensures); few = tt }
+    record { is = sym (on-after a.file.now a.chunk a.to l.at c.requires.1 l.nexts g.id g.len i (omega arith) c.in-Some.ensures); few = tt }
 
 pub overflow_add-nexts : goal.overflow_add-nexts
 overflow_add-nexts c =
     let l = c.loop-at in
-    let id = c.in-Block.id in
+    let id = c.in-Some.field-0.id in
     let e = bit_is (eqb id 65) in
     omega (arith, bit_small (eqb id 65), l.invariant.few, l.invariant.within)
 
 pub overflow_add-at-in-loop-at : goal.overflow_add-at-in-loop-at
-overflow_add-at-in-loop-at c = let t : Tells material_header c.args.file.now c.loop-at.at c.args.to c.in-Block.id c.in-Block.len = c.in-Block.ensures in omega (arith, t.fits)
+overflow_add-at-in-loop-at c = let t : Tells material_header c.args.file.now c.loop-at.at c.args.to c.in-Some.field-0.id c.in-Some.field-0.len = c.in-Some.ensures in omega (arith, t.fits)
 
 pub overflow_add-at-in-loop-at-2 : goal.overflow_add-at-in-loop-at-2
-overflow_add-at-in-loop-at-2 c = let t : Tells material_header c.args.file.now c.loop-at.at c.args.to c.in-Block.id c.in-Block.len = c.in-Block.ensures in omega (arith, t.fits)
+overflow_add-at-in-loop-at-2 c = let t : Tells material_header c.args.file.now c.loop-at.at c.args.to c.in-Some.field-0.id c.in-Some.field-0.len = c.in-Some.ensures in omega (arith, t.fits)
 
 pub loop-at-smaller : goal.loop-at-smaller
-loop-at-smaller c = let t : Tells material_header c.args.file.now c.loop-at.at c.args.to c.in-Block.id c.in-Block.len = c.in-Block.ensures in omega (arith, t.fits)
+loop-at-smaller c = let t : Tells material_header c.args.file.now c.loop-at.at c.args.to c.in-Some.field-0.id c.in-Some.field-0.len = c.in-Some.ensures in omega (arith, t.fits)
 
 pub loop-at-preserved : goal.loop-at-preserved
 loop-at-preserved c =
     let a = c.args in
     let l = c.loop-at in
-    let g = c.in-Block in
+    let g = c.in-Some.field-0 in
     let i = on a.file.now a.chunk a.to l.at l.ended false l.nexts c.if-ended.false l.invariant in
-    rw (bit_is (eqb g.id 65)) (on-more a.file.now a.chunk a.to l.at c.requires.1 l.nexts g.id g.len i (omega arith) g.ensures)
+    rw (bit_is (eqb g.id 65)) (on-more a.file.now a.chunk a.to l.at c.requires.1 l.nexts g.id g.len i (omega arith) c.in-Some.ensures)
 
 pub returns-then-not-ended : goal.returns-then-not-ended
 returns-then-not-ended c =
