@@ -10,7 +10,6 @@ use Rattle.shared_words.specs.Bytes.{packed}
 use Rattle.shared_words.specs.Lists.{every}
 use Rattle.shared_words.specs.Floats.{finite, float}
 use Rattle.shared_numbers.specs.Put.{Put}
-use Rattle.studio_rules.specs.declared.Boxed.{Boxed}
 use Rattle.studio_rules.specs.declared.Corner.{Corner}
 use Rattle.studio_rules.specs.declared.BoundingBox.{BoundingBox}
 use Rattle.studio_rules.specs.Box.{bounding_box_of, centre_of}
@@ -18,6 +17,7 @@ use Rattle.studio_rules.specs.Within.{Number, Numbers, BoxNumbers}
 use Rattle.studio_rules.specs.Gives.{Mesh}
 use Rattle.studio_mesh_box.proofs.FiniteBox.{box-is-finite}
 use Rattle.studio_meshes_rules.specs.Boxes.{nine, mesh_box}
+use Rattle.studio_rules.specs.Calls.{box_answer}
 
 -- ---- no box
 
@@ -31,7 +31,7 @@ zero_number : Number (float 0)
 unfolding finite of_bits to_bits is_nan
 zero_number = record { not-nan = tt; finite-bits = refl; read_back = refl }
 
-pub zero-numbers : BoxNumbers (Boxed.Around none zero)
+pub zero-numbers : BoxNumbers (box_answer none zero)
 zero-numbers = let c : Numbers zero = record { x = zero_number; y = zero_number; z = zero_number } in (c, c, c)
 
 zeros : nine none zero ≡ replicate 9 0
@@ -44,7 +44,7 @@ none-there m e = zeros ∙ rw (eq-eqb m.vertex_count 0 e)
 -- ---- a box
 
 module _ (n : ℕ) (vertices : List ℕ) (b : BoundingBox) (c : Corner) (e : b ≡ bounding_box_of n vertices) (f : c ≡ centre_of b) where
-  pub box-numbers : every finite vertices ≡ true → BoxNumbers (Boxed.Around b c)
+  pub box-numbers : every finite vertices ≡ true → BoxNumbers (box_answer b c)
   box-numbers h = let q = box-is-finite n vertices h in rw (f, e) (q.low, q.high, q.centre)
 
   pub box-there : (m : Mesh) → n ≡ m.vertex_count → m.vertices ≡ vertices → (n ≡ 0 → ⊥) → nine b c ≡ mesh_box m

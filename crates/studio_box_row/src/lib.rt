@@ -6,7 +6,7 @@ ghost use Rattle.shared_words.specs.Bytes.{packed, numbers};
 ghost use Rattle.shared_words.specs.Lists.{every};
 ghost use Rattle.shared_words.specs.Floats.{finite};
 ghost use Rattle.shared_numbers.specs.Put.{Put};
-ghost use Rattle.studio_rules.specs.declared.Boxed.{Boxed};
+ghost use Rattle.studio_rules.specs.Calls.{box_answer};
 ghost use Rattle.studio_rules.specs.Within.{Numbers, BoxNumbers};
 ghost use Rattle.studio_rules.specs.Gives.{Mesh};
 ghost use Rattle.studio_meshes_rules.specs.Boxes.{three, nine, mesh_box};
@@ -27,7 +27,7 @@ fn put_corner(c: Corner, at: usize, row: &mut [u8]) -> usize
 
 // A box and its centre at a position; answers the position behind them.
 fn put_around(b: BoundingBox, centre: Corner, at: usize, row: &mut [u8]) -> usize
-    requires { BoxNumbers (Boxed.Around b centre) × (at + 36 ≤ length row.old) }
+    requires { BoxNumbers (box_answer b centre) × (at + 36 ≤ length row.old) }
     ensures { Put row.old at (packed 4 (nine b centre)) row.new result }
 {
     let high = put_corner(b.low, at, row);

@@ -1,5 +1,5 @@
 -- What is asked of a file: the refusal of the check, or of the search, or the mesh.
-use Rattle.std.specs.Prelude.{Err}
+use Rattle.std.specs.Prelude.{Result, Ok, Err}
 use mathlib.Core.Path.{◌≡◌, refl, sym, subst}
 use mathlib.Core.List.{List}
 use mathlib.Core.Option.{Option}
@@ -7,7 +7,6 @@ use Prim.Native.Nat.{ℕ}
 use native.Mathlib.Omega.{arith}
 use lib.ListN.{length, get_elem?}
 use Rattle.shared_words.specs.declared.Refusal.{Refusal}
-use Rattle.shared_words.specs.declared.Refusal.TheVariants.{NoSuchMesh}
 use Rattle.shared_words.specs.Picked.{pick_mesh}
 use Rattle.studio_rules.specs.declared.Counts.{Counts}
 use Rattle.shared_words.specs.Conditions.{Answer, refused, accepted}
@@ -16,23 +15,21 @@ use Rattle.studio_rules.specs.Gives.{Mesh, meshes}
 use Rattle.studio_rules.specs.Calls.{check_of, check_call}
 use Rattle.studio_check.proofs.Accepted.{Accepted}
 use Rattle.studio_mesh_find.specs.declared.Place.{Place}
-use Rattle.studio_mesh_find.specs.declared.Found.{Found}
 use Rattle.studio_mesh_find.specs.Places.{PlaceIs, FoundIs}
-use Rattle.studio_mesh_asked.specs.declared.Asked.{Asked}
 use Rattle.studio_mesh_asked.specs.Choices.{Choice, no, yes, choose, ChoiceIs, AskedIs}
 use Rattle.studio_rules.specs.Layout.{Run}
 
 -- ---- from a choice, and back to it
 
 module _ {s : List ℕ} {pick : Mesh → Choice} {mesh : ℕ} where
-  pub is-no : {x : Refusal} → choose pick mesh (verdict s) ≡ no x → AskedIs s pick mesh (Asked.Refused x)
-  is-no {x} e = record { is = subst (λ (y : Choice). ChoiceIs s y (Asked.Refused x)) (sym e) refl }
+  pub is-no : {x : Refusal} → choose pick mesh (verdict s) ≡ no x → AskedIs s pick mesh (Err x)
+  is-no {x} e = record { is = subst (λ (y : Choice). ChoiceIs s y (Err x)) (sym e) refl }
 
-  pub is-yes : {m : Mesh} {place : Place} → choose pick mesh (verdict s) ≡ yes m → PlaceIs s m place → AskedIs s pick mesh (Asked.Mesh place)
-  is-yes {m} {place} e p = record { is = subst (λ (y : Choice). ChoiceIs s y (Asked.Mesh place)) (sym e) (place, refl, p) }
+  pub is-yes : {m : Mesh} {place : Place} → choose pick mesh (verdict s) ≡ yes m → PlaceIs s m place → AskedIs s pick mesh (Ok place)
+  is-yes {m} {place} e p = record { is = subst (λ (y : Choice). ChoiceIs s y (Ok place)) (sym e) (place, refl, p) }
 
-module _ {s : List ℕ} {pick : Mesh → Choice} {mesh : ℕ} {r : Asked} (a : AskedIs s pick mesh r) where
-  pub asked-no : {x : Refusal} → r ≡ Asked.Refused x → choose pick mesh (verdict s) ≡ no x
+module _ {s : List ℕ} {pick : Mesh → Choice} {mesh : ℕ} {r : Result Place Refusal} (a : AskedIs s pick mesh r) where
+  pub asked-no : {x : Refusal} → r ≡ Err x → choose pick mesh (verdict s) ≡ no x
   asked-no {x} e = go (choose pick mesh (verdict s)) a.is
     where
       go : (y : Choice) → ChoiceIs s y r → y ≡ no x
@@ -44,7 +41,7 @@ module _ {s : List ℕ} {pick : Mesh → Choice} {mesh : ℕ} {r : Asked} (a : A
     pub is : choose pick mesh (verdict s) ≡ yes mesh-is
     pub placed : PlaceIs s mesh-is place
 
-  pub asked-yes : {place : Place} → r ≡ Asked.Mesh place → Chosen place
+  pub asked-yes : {place : Place} → r ≡ Ok place → Chosen place
   asked-yes {place} e = go (choose pick mesh (verdict s)) refl a.is
     where
       go : (y : Choice) → choose pick mesh (verdict s) ≡ y → ChoiceIs s y r → Chosen place
@@ -53,7 +50,7 @@ module _ {s : List ℕ} {pick : Mesh → Choice} {mesh : ℕ} {r : Asked} (a : A
 
 -- ---- by the check
 
-pub file-refused : (s : List ℕ) (mesh : ℕ) {r : Refusal} → check_call s ≡ Err r → AskedIs s yes mesh (Asked.Refused r)
+pub file-refused : (s : List ℕ) (mesh : ℕ) {r : Refusal} → check_call s ≡ Err r → AskedIs s yes mesh (Err r)
 unfolding check_call
 file-refused s mesh {r} e = is-no (go (verdict s) e)
   where
@@ -67,13 +64,6 @@ module _ (s : List ℕ) (mesh : ℕ) {counts : Counts} (l : Accepted s counts) w
   chosen : {x : Option Mesh} → get_elem? (meshes l.kids) mesh ≡ x → choose yes mesh (verdict s) ≡ pick_mesh no yes (length (meshes l.kids)) x
   chosen e = rw (l.verdict-is, e)
 
-  module _ (f : Found) (h : FoundIs s (meshes l.kids) mesh f) where
-    pub mesh-there : {place : Place} → f ≡ Found.Mesh place → AskedIs s yes mesh (Asked.Mesh place)
-    mesh-there {place} e =
-        let (m, g, p) = subst (FoundIs s (meshes l.kids) mesh) e h in
-        is-yes (chosen g) p
-
-    pub mesh-nowhere : {n : ℕ} → f ≡ Found.Meshes n → AskedIs s yes mesh (Asked.Refused (NoSuchMesh n))
-    mesh-nowhere {n} e =
-        let (g, q) = subst (FoundIs s (meshes l.kids) mesh) e h in
-        rw q (is-no (chosen g))
+  pub mesh-asked : (f : Result Place Refusal) → FoundIs s (meshes l.kids) mesh f → AskedIs s yes mesh f
+  mesh-asked (Ok place) (m, g, p) = is-yes (chosen g) p
+  mesh-asked (Err x) (g, q) = rw q (is-no (chosen g))

@@ -1,8 +1,9 @@
 -- Room for the tables of a mesh: too little for the vertices, for the corners, for the mapping, or enough for all.
+use Rattle.std.specs.Prelude.{Option, Result, Ok, Err}
 use mathlib.Core.Path.{◌≡◌, refl, sym, ap, ◌∙◌}
 use mathlib.Core.Bool.{Bool, true, false, cond}
 use mathlib.Core.List.{List}
-use mathlib.Core.Option.{Option, none, some}
+use mathlib.Core.Option.{Option as Maybe, none, some}
 use Prim.Native.Nat.{ℕ, ◌*◌}
 use native.Mathlib.Omega.{arith}
 use lib.ListN.{length, drop, get_elem?}
@@ -18,12 +19,26 @@ use Rattle.studio_rules.specs.Walk.{verdict}
 use Rattle.studio_rules.specs.Gives.{Mesh, meshes}
 use Rattle.studio_mesh_find.specs.declared.Place.{Place}
 use Rattle.studio_mesh_find.specs.Places.{PlaceIs}
-use Rattle.studio_mesh_asked.specs.declared.Asked.{Asked}
-use Rattle.studio_mesh_asked.specs.declared.Lent.{Lent}
 use Rattle.studio_mesh_asked.specs.Choices.{no, yes, room_for, fitting, choose, AskedIs}
 use Rattle.studio_mesh_asked.proofs.Asks.{is-no, is-yes, asked-yes}
 use Rattle.studio_mesh_asked.proofs.Choices.{any-refused, any-goes-on}
 use Rattle.studio_rules.specs.Layout.{Run}
+
+-- room that is needed is refused exactly where it is not there
+module _ (b : Bool) (n : ℕ) {r : Result Unit Refusal} (e : r ≡ cond b (Ok tt) (Err (NoRoom n))) where
+  pub room-short : {x : Refusal} → r ≡ Err x → (b ≡ false) × (x ≡ NoRoom n)
+  room-short {x} f = go b e
+    where
+      go : (d : Bool) → r ≡ cond d (Ok tt) (Err (NoRoom n)) → (d ≡ false) × (x ≡ NoRoom n)
+      go true g = absurd (let z : ◌≡◌ {A = ℕ} 0 1 = cc in omega arith)
+      go false g = (refl, cc)
+
+  pub room-enough : {u : Unit} → r ≡ Ok u → b ≡ true
+  room-enough f = go b e
+    where
+      go : (d : Bool) → r ≡ cond d (Ok tt) (Err (NoRoom n)) → d ≡ true
+      go true g = refl
+      go false g = absurd (let z : ◌≡◌ {A = ℕ} 0 1 = cc in omega arith)
 
 module _ {s : List ℕ} {m : Mesh} {place : Place} (p : PlaceIs s m place) where
   vertex-numbers : length m.vertices ≡ 3 * place.vertices.count
@@ -38,34 +53,34 @@ module _ {s : List ℕ} {m : Mesh} {place : Place} (p : PlaceIs s m place) where
       ap length p.mapping_is ∙
       length-filled-up (2 * place.mapping.pairs) given (omega (arith, length-numbers 4 (2 * place.mapping.count) (drop place.mapping.at s), p.mapping_fits))
 
-module _ (s : List ℕ) (mesh : ℕ) (v c w : Lent) where
-  pub room-refused : {r : Refusal} → choose yes mesh (verdict s) ≡ no r → AskedIs s (fitting v c w) mesh (Asked.Refused r)
+module _ (s : List ℕ) (mesh : ℕ) (v c w : Option ℕ) where
+  pub room-refused : {r : Refusal} → choose yes mesh (verdict s) ≡ no r → AskedIs s (fitting v c w) mesh (Err r)
   room-refused e = is-no (any-refused no (fitting v c w) mesh (verdict s) e)
 
   module _ {m : Mesh} {place : Place} (e : choose yes mesh (verdict s) ≡ yes m) (p : PlaceIs s m place) where
     goes_on : choose (fitting v c w) mesh (verdict s) ≡ fitting v c w m
     goes_on = any-goes-on no (fitting v c w) mesh (verdict s) e
 
-    pub no-room-vertices : room_for v (3 * place.vertices.count) ≡ false → AskedIs s (fitting v c w) mesh (Asked.Refused (NoRoom (3 * place.vertices.count)))
+    pub no-room-vertices : room_for v (3 * place.vertices.count) ≡ false → AskedIs s (fitting v c w) mesh (Err (NoRoom (3 * place.vertices.count)))
     no-room-vertices l = is-no (goes_on ∙ rw (vertex-numbers p, l))
 
     module _ (a : room_for v (3 * place.vertices.count) ≡ true) where
-      pub no-room-corners : room_for c (3 * place.faces.count) ≡ false → AskedIs s (fitting v c w) mesh (Asked.Refused (NoRoom (3 * place.faces.count)))
+      pub no-room-corners : room_for c (3 * place.faces.count) ≡ false → AskedIs s (fitting v c w) mesh (Err (NoRoom (3 * place.faces.count)))
       no-room-corners l = is-no (goes_on ∙ rw (vertex-numbers p, a, corner-numbers p, l))
 
       module _ (b : room_for c (3 * place.faces.count) ≡ true) where
-        pub no-room_mapping : room_for w (2 * place.mapping.pairs) ≡ false → AskedIs s (fitting v c w) mesh (Asked.Refused (NoRoom (2 * place.mapping.pairs)))
+        pub no-room_mapping : room_for w (2 * place.mapping.pairs) ≡ false → AskedIs s (fitting v c w) mesh (Err (NoRoom (2 * place.mapping.pairs)))
         no-room_mapping l = is-no (goes_on ∙ rw (vertex-numbers p, a, corner-numbers p, b, mapping_numbers_lem p, l))
 
-        pub room-there : room_for w (2 * place.mapping.pairs) ≡ true → AskedIs s (fitting v c w) mesh (Asked.Mesh place)
+        pub room-there : room_for w (2 * place.mapping.pairs) ≡ true → AskedIs s (fitting v c w) mesh (Ok place)
         room-there l = is-yes (goes_on ∙ rw (vertex-numbers p, a, corner-numbers p, b, mapping_numbers_lem p, l)) p
 
 -- ---- what fits has room
 
-abbrev Fits : Lent → Lent → Lent → Mesh → Type 0
+abbrev Fits : Option ℕ → Option ℕ → Option ℕ → Mesh → Type 0
 Fits v c w m = (room_for v (length m.vertices) ≡ true) × (room_for c (length m.corners) ≡ true) × (room_for w (length m.mapping) ≡ true)
 
-fits : (v c w : Lent) (mesh : ℕ) (a : Answer Run) {m : Mesh} → choose (fitting v c w) mesh a ≡ yes m → Fits v c w m
+fits : (v c w : Option ℕ) (mesh : ℕ) (a : Answer Run) {m : Mesh} → choose (fitting v c w) mesh a ≡ yes m → Fits v c w m
 fits v c w mesh (refused r) e = absurd (let z : ◌≡◌ {A = ℕ} 0 1 = cc in omega arith)
 fits v c w mesh (accepted kids) {m} e = go (get_elem? (meshes kids) mesh) e
   where
@@ -76,11 +91,11 @@ fits v c w mesh (accepted kids) {m} e = go (get_elem? (meshes kids) mesh) e
     room k true f false g z h e = absurd (let z : ◌≡◌ {A = ℕ} 0 1 = cc in omega arith)
     room k false f y g z h e = absurd (let z : ◌≡◌ {A = ℕ} 0 1 = cc in omega arith)
 
-    go : (x : Option Mesh) → pick_mesh no (fitting v c w) (length (meshes kids)) x ≡ yes m → Fits v c w m
+    go : (x : Maybe Mesh) → pick_mesh no (fitting v c w) (length (meshes kids)) x ≡ yes m → Fits v c w m
     go none e = absurd (let z : ◌≡◌ {A = ℕ} 0 1 = cc in omega arith)
     go (some k) e = room k (room_for v (length k.vertices)) refl (room_for c (length k.corners)) refl (room_for w (length k.mapping)) refl e
 
-pub has_room : {s : List ℕ} (v c w : Lent) {mesh : ℕ} {r : Asked} {place : Place} → AskedIs s (fitting v c w) mesh r → r ≡ Asked.Mesh place →
+pub has_room : {s : List ℕ} (v c w : Option ℕ) {mesh : ℕ} {r : Result Place Refusal} {place : Place} → AskedIs s (fitting v c w) mesh r → r ≡ Ok place →
     (room_for v (3 * place.vertices.count) ≡ true) × (room_for c (3 * place.faces.count) ≡ true) × (room_for w (2 * place.mapping.pairs) ≡ true)
 has_room {s} v c w {mesh} a e =
     let q = asked-yes a e in

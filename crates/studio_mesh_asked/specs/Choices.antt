@@ -1,6 +1,6 @@
 -- What all calls about one mesh begin with: a refusal, or the mesh. (`choose` is `of_mesh` of crate studio_rules with nothing done
 -- with either.)
-use Rattle.std.specs.Prelude.{◌≡◌, Bool, true, cond, List, ℕ, leb, length}
+use Rattle.std.specs.Prelude.{◌≡◌, Bool, true, cond, List, ℕ, leb, length, Option, Some, None, Result, Ok, Err}
 use Rattle.shared_words.specs.declared.Refusal.{Refusal}
 use Rattle.shared_words.specs.declared.Refusal.TheVariants.{NoRoom}
 use Rattle.shared_words.specs.Conditions.{Answer}
@@ -9,8 +9,6 @@ use Rattle.studio_rules.specs.Gives.{Mesh}
 use Rattle.studio_rules.specs.Calls.{of_mesh}
 use Rattle.studio_mesh_find.specs.declared.Place.{Place}
 use Rattle.studio_mesh_find.specs.Places.{PlaceIs}
-use Rattle.studio_mesh_asked.specs.declared.Asked.{Asked}
-use Rattle.studio_mesh_asked.specs.declared.Lent.{Lent}
 use Rattle.studio_rules.specs.Layout.{Run}
 
 pub data Choice : Type 0 where
@@ -18,12 +16,12 @@ pub data Choice : Type 0 where
   yes : Mesh → Choice
 
 -- there is room for n numbers; always for a table that is not asked for
-abbrev pub room_for : Lent → ℕ → Bool
-room_for (Lent.Numbers k) n = leb n k
-room_for Lent.Unasked n = true
+abbrev pub room_for : Option ℕ → ℕ → Bool
+room_for (Some k) n = leb n k
+room_for None n = true
 
 -- a mesh, where there is room for its vertices, its corners and its mapping
-abbrev pub fitting : Lent → Lent → Lent → Mesh → Choice
+abbrev pub fitting : Option ℕ → Option ℕ → Option ℕ → Mesh → Choice
 fitting v c p m =
     cond (room_for v (length m.vertices))
     (cond (room_for c (length m.corners))
@@ -35,9 +33,9 @@ fitting v c p m =
 abbrev pub choose : (Mesh → Choice) → ℕ → Answer Run → Choice
 choose pick mesh a = of_mesh no pick mesh a
 
-abbrev pub ChoiceIs : List ℕ → Choice → Asked → Type 0
-ChoiceIs s (no x) r = r ≡ Asked.Refused x
-ChoiceIs s (yes m) r = (place : Place) × (r ≡ Asked.Mesh place) × PlaceIs s m place
+abbrev pub ChoiceIs : List ℕ → Choice → Result Place Refusal → Type 0
+ChoiceIs s (no x) r = r ≡ Err x
+ChoiceIs s (yes m) r = (place : Place) × (r ≡ Ok place) × PlaceIs s m place
 
-pub record AskedIs (s : List ℕ) (pick : Mesh → Choice) (mesh : ℕ) (r : Asked) : Type 0 where
+pub record AskedIs (s : List ℕ) (pick : Mesh → Choice) (mesh : ℕ) (r : Result Place Refusal) : Type 0 where
   pub is : ChoiceIs s (choose pick mesh (verdict s)) r

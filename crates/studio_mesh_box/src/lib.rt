@@ -62,11 +62,8 @@ pub fn box_of(s: &[u8], at: usize, n: usize) -> BoundingBox
         low: first,
         high: first,
     };
-    let mut k = 1usize;
-    while k < n {
-        let v = vertex_at(s, at + 12 * k);
-        b = with_vertex(b, v);
-        k += 1;
+    for k in 1..n {
+        b = with_vertex(b, vertex_at(s, at + 12 * k));
     }
     b
 }

@@ -3,7 +3,6 @@ use mathlib.Core.Path.{◌≡◌}
 use mathlib.Core.Bool.{true}
 use mathlib.Core.List.{List}
 use Prim.Native.Nat.{ℕ}
-use Rattle.studio_rules.specs.declared.Boxed.{Boxed}
 use Rattle.studio_rules.specs.declared.Corner.{Corner}
 use Rattle.studio_rules.specs.declared.BoundingBox.{BoundingBox}
 use Rattle.shared_words.specs.Lists.{every}
@@ -11,8 +10,9 @@ use Rattle.shared_words.specs.Floats.{finite}
 use Rattle.studio_rules.specs.Box.{bounding_box_of, centre_of}
 use Rattle.studio_rules.specs.Within.{BoxNumbers}
 use Rattle.studio_mesh_box.proofs.FiniteBox.{box-is-finite}
+use Rattle.studio_rules.specs.Calls.{box_answer}
 
-pub box-numbers : (n : ℕ) (vertices : List ℕ) → every finite vertices ≡ true → {box : BoundingBox} {centre : Corner} → box ≡ bounding_box_of n vertices → centre ≡ centre_of box → BoxNumbers (Boxed.Around box centre)
+pub box-numbers : (n : ℕ) (vertices : List ℕ) → every finite vertices ≡ true → {box : BoundingBox} {centre : Corner} → box ≡ bounding_box_of n vertices → centre ≡ centre_of box → BoxNumbers (box_answer box centre)
 box-numbers n vertices h e f =
     let q = box-is-finite n vertices h in
     rw (f, e) (q.low, q.high, q.centre)

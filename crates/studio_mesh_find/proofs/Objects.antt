@@ -4,13 +4,13 @@ use mathlib.Core.List.{List, [], ◌∷◌, ◌++◌, map, append-nil}
 use Prim.Native.Nat.{ℕ, ◌+◌, ◌-◌, ◌≤◌, ◌<◌}
 use native.Mathlib.Omega.{arith}
 use lib.ListN.{length}
+use Rattle.std.specs.Prelude.{Ok}
 use Rattle.studio_rules.specs.Layout.{Run, known, size, offset_of}
 use Rattle.studio_rules.specs.Rules.{Parent, inside}
 use Rattle.studio_rules.specs.Gives.{mesh_of}
 use Rattle.studio_meshes_rules.specs.Standing.{Standing, mesh_in, standing_of, mesh_numbers}
 use Rattle.studio_mesh_find.specs.declared.Object.{Object}
 use Rattle.studio_mesh_find.specs.declared.Place.{Place}
-use Rattle.studio_mesh_find.specs.declared.Found.{Found}
 use Rattle.studio_child.specs.Runs.{Spans, Begins}
 use Rattle.studio_mesh_find.specs.Places.{ObjectIs, PlaceIs, place_numbers, FoundIs}
 use Rattle.studio_child.proofs.Runs.{kids_here, after-known, First, offset_after}
@@ -95,7 +95,7 @@ module _ (p : Parent) (i : p.id ≡ 0x3D3D) (t : Run) (s : List ℕ) (from stop 
       begins-here = mesh-begins p e.own e.kids e.rest s at stop e.spans o found m
 
       pub mesh-found : (r : Place) → ((p : Parent) (own : List ℕ) (kids rest : Run) (stop : ℕ) → Spans p (known 0x4100 own kids rest) s o.mesh stop → PlaceIs s (mesh_of (at + 6) o.size kids) r) →
-          (k : ℕ) → length done ≡ k → FoundIs s (map mesh_in (standing_of from a n t)) k (Found.Mesh r)
+          (k : ℕ) → length done ≡ k → FoundIs s (map mesh_in (standing_of from a n t)) k (Ok r)
       mesh-found r placed k b =
           let x : Standing = stood p e.own e.kids e.rest s at stop e.spans o found m in (
             mesh_in x,

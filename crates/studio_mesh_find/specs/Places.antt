@@ -1,10 +1,12 @@
 -- Where a mesh stands in the file, in the words of crate studio_rules.
-use Rattle.std.specs.Prelude.{◌≡◌, true, List, [], ◌∷◌, ℕ, ◌+◌, ◌-◌, ◌*◌, ◌≤◌, length, drop}
+use Rattle.std.specs.Prelude.{◌≡◌, true, List, [], ◌∷◌, ℕ, ◌+◌, ◌-◌, ◌*◌, ◌≤◌, length, drop, Result, Ok, Err}
 use Rattle.std.proofs.Math.Option.{none, some}
 use Rattle.std.proofs.Math.ListN.{get_elem?}
 use Rattle.std.proofs.Math.Seq.{slice}
 use Rattle.shared_words.specs.Bytes.{numbers}
 use Rattle.shared_words.specs.Lists.{every}
+use Rattle.shared_words.specs.declared.Refusal.{Refusal}
+use Rattle.shared_words.specs.declared.Refusal.TheVariants.{NoSuchMesh}
 use Rattle.shared_words.specs.Floats.{finite}
 use Rattle.studio_rules.specs.OwnData.{count, corners}
 use Rattle.studio_rules.specs.Layout.{Run, size, child, offset_of}
@@ -13,7 +15,6 @@ use Rattle.studio_mesh_find.specs.declared.Elements.{Elements}
 use Rattle.studio_mesh_find.specs.declared.Mapping.{Mapping}
 use Rattle.studio_mesh_find.specs.declared.Object.{Object}
 use Rattle.studio_mesh_find.specs.declared.Place.{Place}
-use Rattle.studio_mesh_find.specs.declared.Found.{Found}
 
 -- the elements of own data that is a count word and so many times k bytes
 pub record ElementsAre (k : ℕ) (own s : List ℕ) (r : Elements) : Type 0 where
@@ -55,6 +56,6 @@ abbrev pub place_numbers : Place → List ℕ
 place_numbers r = r.name ∷ r.size ∷ r.vertices.count ∷ r.vertices.at ∷ r.faces.count ∷ r.faces.at ∷ r.mapping.count ∷ r.mapping.at ∷ []
 
 -- the mesh of a number among the meshes of a file
-abbrev pub FoundIs : List ℕ → List Mesh → ℕ → Found → Type 0
-FoundIs s ms number (Found.Mesh r) = (m : Mesh) × (get_elem? ms number ≡ some m) × PlaceIs s m r
-FoundIs s ms number (Found.Meshes n) = (get_elem? ms number ≡ none) × (n ≡ length ms)
+abbrev pub FoundIs : List ℕ → List Mesh → ℕ → Result Place Refusal → Type 0
+FoundIs s ms number (Ok r) = (m : Mesh) × (get_elem? ms number ≡ some m) × PlaceIs s m r
+FoundIs s ms number (Err e) = (get_elem? ms number ≡ none) × (e ≡ NoSuchMesh (length ms))

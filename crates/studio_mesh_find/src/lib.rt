@@ -14,6 +14,7 @@ ghost use Rattle.studio_mesh_find.specs.Runs.{SomeObjects, IsCounted, ObjectsAt}
 ghost use Rattle.studio_mesh_find.specs.Places.{ElementsAre, MappingIs, ObjectIs, PlaceIs, place_numbers, FoundIs};
 
 use shared_numbers::{long_at, word_at};
+use shared_words::Refusal;
 use studio_child::next_child;
 
 // The elements of counted own data: where they begin, and how many there are.
@@ -56,13 +57,6 @@ pub struct Place {
 pub struct Between {
     pub from: usize,
     pub stop: usize,
-}
-
-// The mesh asked for, or how many there are.
-#[derive(Clone, Copy)]
-pub enum Found {
-    Mesh(Place),
-    Meshes(usize),
 }
 
 // The elements of the first chunk of an identifier among those from at to stop; none, where there is no such chunk.
@@ -140,25 +134,26 @@ pub fn object_at(file: &[u8], at: usize) -> Object
     }
 }
 
-// The mesh of a number among the objects from `from` to `stop`, which are children of 3D3D.
-fn find_among(file: &[u8], from: usize, stop: usize, mesh: usize) -> Found
-    requires { SomeObjects file.now from stop }
-    ensures { (p : Parent) (t : Run) (a n : ℕ) → p.id ≡ 0x3D3D → Spans p t file.now from stop →
-        FoundIs file.now (map mesh_in (standing_of from a n t)) mesh result }
+// The mesh of a number among the objects of a figure, which are children of 3D3D; or how many meshes there are.
+fn find_among(file: &[u8], objects: Between, mesh: usize) -> Result<Place, Refusal>
+    requires { SomeObjects file.now objects.from objects.stop }
+    ensures { (p : Parent) (t : Run) (a n : ℕ) → p.id ≡ 0x3D3D → Spans p t file.now objects.from objects.stop →
+        FoundIs file.now (map mesh_in (standing_of objects.from a n t)) mesh result }
 {
     let mut before = 0usize;
-    let mut at = next_child(file, 0x4000, from, stop);
-    while at < stop {
+    let mut at = next_child(file, 0x4000, objects.from, objects.stop);
+    // a `while`: each object tells where the next is looked for
+    while at < objects.stop {
         let object = object_at(file, at);
         if object.mesh < object.stop {
             if before == mesh {
-                return Found::Mesh(place_of(file, object.mesh, at + 6, object.size));
+                return Ok(place_of(file, object.mesh, at + 6, object.size));
             }
             before += 1;
         }
-        at = next_child(file, 0x4000, object.stop, stop);
+        at = next_child(file, 0x4000, object.stop, objects.stop);
     }
-    Found::Meshes(before)
+    Err(Refusal::NoSuchMesh(before))
 }
 
 // Where the objects stand: from the first of them to the end of the one 3D3D.
@@ -172,11 +167,11 @@ pub fn find_objects(file: &[u8]) -> Between
     Between { from, stop }
 }
 
-// The mesh of a number in an accepted file.
-pub fn find_mesh(file: &[u8], mesh: usize) -> Found
+// The mesh of a number in an accepted file; or how many there are.
+pub fn find_mesh(file: &[u8], mesh: usize) -> Result<Place, Refusal>
     requires { Accepted file.now }
     ensures { (kids : Run) → Meets file.now kids → FoundIs file.now (meshes kids) mesh result }
 {
     let objects = find_objects(file);
-    find_among(file, objects.from, objects.stop, mesh)
+    find_among(file, objects, mesh)
 }

@@ -10,15 +10,13 @@ ghost use Rattle.studio_rules.specs.Gives.{filled_up};
 
 use studio_mesh_rows::{fill_float_bytes, fill_floats};
 
-// Zeros into a row, from a position to another.
-fn fill_zeros(from: usize, to: usize, row: &mut [f32])
+// A value into a row, from a position to another.
+fn fill<T: Copy>(value: T, from: usize, to: usize, row: &mut [T])
     requires { (from ≤ to) × (to ≤ length row.old) }
-    ensures { row.new ≡ filled (take from row.old ++ replicate (to - from) (float 0)) row.old }
+    ensures { row.new ≡ filled (take from row.old ++ replicate (to - from) value) row.old }
 {
-    let mut i = from;
-    while i < to {
-        row[i] = 0.0;
-        i += 1;
+    for i in from..to {
+        row[i] = value;
     }
 }
 
@@ -28,19 +26,7 @@ pub fn fill_pairs(s: &[u8], at: usize, m: usize, n: usize, row: &mut [f32])
     ensures { row.new ≡ filled (map float (filled_up (2 * n) (numbers 4 (2 * m) (drop at s.now)))) row.old }
 {
     fill_floats(s, at, 2 * m, row);
-    fill_zeros(2 * m, 2 * n, row);
-}
-
-// Zero bytes into a row, from a position to another.
-fn fill_zero_bytes(from: usize, to: usize, row: &mut [u8])
-    requires { (from ≤ to) × (to ≤ length row.old) }
-    ensures { row.new ≡ filled (take from row.old ++ replicate (to - from) 0) row.old }
-{
-    let mut i = from;
-    while i < to {
-        row[i] = 0;
-        i += 1;
-    }
+    fill(0.0, 2 * m, 2 * n, row);
 }
 
 // The same as bytes, four a number.
@@ -49,5 +35,5 @@ pub fn fill_pair_bytes(s: &[u8], at: usize, m: usize, n: usize, row: &mut [u8])
     ensures { row.new ≡ filled (packed 4 (filled_up (2 * n) (numbers 4 (2 * m) (drop at s.now)))) row.old }
 {
     fill_float_bytes(s, at, 2 * m, row);
-    fill_zero_bytes(8 * m, 8 * n, row);
+    fill(0, 8 * m, 8 * n, row);
 }

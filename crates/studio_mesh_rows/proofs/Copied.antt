@@ -1,26 +1,16 @@
 -- Numbers of the file, given out as bytes: they are the bytes that stand there.
 use mathlib.Core.Path.{◌≡◌, ap, ◌∙◌}
 use mathlib.Core.List.{List, ◌++◌}
-use Prim.Native.Nat.{ℕ, ◌+◌, ◌*◌, ◌<◌, ◌≤◌}
-use native.Mathlib.Numerals.{add-one}
+use Prim.Native.Nat.{ℕ, ◌+◌, ◌*◌, ◌≤◌}
 use native.Mathlib.Omega.{arith}
-use lib.ListN.{length, set, take, drop, get_or, length-drop}
-use lib.Seq.{drop-drop, take-add, take-suc, get_or-drop, length-take-le}
+use lib.ListN.{length, take, drop, length-drop}
+use lib.Seq.{drop-drop, take-add}
 use Rattle.shared_words.specs.Bytes.{value, le, packed, numbers, Bytes}
 use Rattle.studio_rules.specs.OwnData.{corners}
-use Rattle.shared_words.specs.Effects.{filled}
 use Rattle.shared_words.proofs.Bytes.{bytes_drop, packed_append}
 use Rattle.shared_words.proofs.Numbers.{front, numbers-bytes}
 use Rattle.shared_numbers.specs.Numbers.{word_at, long_at}
 use Rattle.studio_scan.proofs.Lists.{faces-more}
-use Rattle.shared_words.proofs.Effects.{fill-at}
-
--- one byte more in a row
-pub byte_more : (s : List ℕ) (at i : ℕ) (row : List ℕ) → at + i < length s → i < length row →
-    set (filled (take i (drop at s)) row) i (get_or s (at + i) 0) ≡ filled (take (i + 1) (drop at s)) row
-byte_more s at i row h l =
-    let d : i < length (drop at s) = omega (arith, length-drop at s) in
-    rw (add-one i, take-suc (drop at s) i 0 d, get_or-drop at s i 0) (fill-at (take i (drop at s)) row (get_or s (at + i) 0) i (length-take-le i (drop at s) (omega arith)) l)
 
 -- ---- corners
 

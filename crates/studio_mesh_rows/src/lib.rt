@@ -16,10 +16,8 @@ pub fn fill_floats(s: &[u8], at: usize, n: usize, row: &mut [f32])
     requires { (at + 4 * n ≤ length s.now) × (n ≤ length row.old) × (every finite (numbers 4 n (drop at s.now)) ≡ true) }
     ensures { row.new ≡ filled (map float (numbers 4 n (drop at s.now))) row.old }
 {
-    let mut i = 0usize;
-    while i < n {
+    for i in 0..n {
         row[i] = float_at(s, at + 4 * i);
-        i += 1;
     }
 }
 
@@ -28,25 +26,11 @@ pub fn fill_corners(s: &[u8], at: usize, n: usize, row: &mut [u16])
     requires { (at + 8 * n ≤ length s.now) × (3 * n ≤ length row.old) }
     ensures { row.new ≡ filled (corners n (drop at s.now)) row.old }
 {
-    let mut i = 0usize;
-    while i < n {
+    for i in 0..n {
         let face = at + 8 * i;
         row[3 * i] = word_at(s, face) as u16;
         row[3 * i + 1] = word_at(s, face + 2) as u16;
         row[3 * i + 2] = word_at(s, face + 4) as u16;
-        i += 1;
-    }
-}
-
-// The n bytes at a position, into the front of a row.
-fn copy(s: &[u8], at: usize, n: usize, row: &mut [u8])
-    requires { (at + n ≤ length s.now) × (n ≤ length row.old) }
-    ensures { row.new ≡ filled (take n (drop at s.now)) row.old }
-{
-    let mut i = 0usize;
-    while i < n {
-        row[i] = s[at + i];
-        i += 1;
     }
 }
 
@@ -55,7 +39,7 @@ pub fn fill_float_bytes(s: &[u8], at: usize, n: usize, row: &mut [u8])
     requires { (at + 4 * n ≤ length s.now) × (4 * n ≤ length row.old) }
     ensures { row.new ≡ filled (packed 4 (numbers 4 n (drop at s.now))) row.old }
 {
-    copy(s, at, 4 * n, row);
+    row[..4 * n].copy_from_slice(&s[at..at + 4 * n]);
 }
 
 // The bytes of the corners of the n faces at a position, into the front of a row: six of the eight of each face. The first
@@ -65,11 +49,9 @@ pub fn fill_corner_bytes(s: &[u8], at: usize, n: usize, row: &mut [u8])
     ensures { row.new ≡ filled (packed 2 (corners n (drop at s.now))) row.old }
 {
     let mut next = 0usize;
-    let mut i = 0usize;
-    while i < n {
+    for i in 0..n {
         let first = at + 8 * i;
         let third = put_long(long_at(s, first), next, row);
         next = put_word(word_at(s, first + 4) as u16, third, row);
-        i += 1;
     }
 }

@@ -1,10 +1,10 @@
 -- The tables of a mesh: refused, or all rows filled. For whichever tables are asked for, and every way in which the numbers
 -- stand in the rows.
-use Rattle.std.specs.Prelude.{Result, Ok, Err}
+use Rattle.std.specs.Prelude.{Option, Some, None, Result, Ok, Err}
 use mathlib.Core.Path.{◌≡◌, refl, sym, ap, ◌∙◌}
 use mathlib.Core.Bool.{Bool, true, false, cond}
 use mathlib.Core.List.{List}
-use mathlib.Core.Option.{Option, none, some}
+use mathlib.Core.Option.{Option as Maybe, none, some}
 use Prim.Native.Nat.{ℕ, ◌*◌, ◌≤◌}
 use native.Mathlib.Omega.{arith}
 use lib.ListN.{length, drop}
@@ -22,7 +22,6 @@ use Rattle.shared_words.specs.Effects.{Effect, leaving}
 use Rattle.studio_rules.specs.Calls.{Rows, Tables, fits, tabled, sizes_of, rows_with, tables_of, tables_call}
 use Rattle.studio_mesh_find.specs.declared.Place.{Place}
 use Rattle.studio_mesh_find.specs.Places.{PlaceIs}
-use Rattle.studio_mesh_asked.specs.declared.Lent.{Lent}
 use Rattle.studio_mesh_asked.specs.Choices.{Choice, no, yes, room_for, fitting, choose}
 use Rattle.studio_mesh_asked.proofs.Choices.{with_choice, call-refused, call-goes-on}
 use Rattle.studio_mesh_tables.specs.Rows.{rows, sizes_at}
@@ -40,11 +39,11 @@ pub within : {s : List ℕ} {m : Mesh} {place : Place} {sizes : Sizes} → Place
 within p l e = rw e (omega (arith, p.vertices_stay), omega (arith, p.faces_stay), omega (arith, p.vertices_stay, p.pairs_fit_lem))
 
 -- what a row is to the functions that ask for room
-abbrev pub lent : {A : Type 0} → Option (Encoding ℕ A) → List A → Lent
-lent none row = Lent.Unasked
-lent (some e) row = Lent.Numbers (e.room (length row))
+abbrev pub lent : {A : Type 0} → Maybe (Encoding ℕ A) → List A → Option ℕ
+lent none row = None
+lent (some e) row = Some (e.room (length row))
 
-room-is : {A : Type 0} (e : Option (Encoding ℕ A)) (numbers : List ℕ) (row : List A) → fits e numbers row ≡ room_for (lent e row) (length numbers)
+room-is : {A : Type 0} (e : Maybe (Encoding ℕ A)) (numbers : List ℕ) (row : List A) → fits e numbers row ≡ room_for (lent e row) (length numbers)
 room-is none numbers row = refl
 room-is (some e) numbers row = refl
 

@@ -6,12 +6,12 @@ ghost use Rattle.studio_rules.specs.Calls.{in_numbers, in_bytes, mapping_in_byte
 ghost use Rattle.studio_rules.specs.Within.{SizesWithin};
 ghost use Rattle.studio_mesh_tables.specs.Rows.{rows, two_rows, mapping_row, sizes_at};
 
-use studio_mesh_asked::{Asked, Lent, ask_with_room};
+use shared_words::Refusal;
+use studio_mesh_asked::ask_with_room;
 use studio_mesh_find::Place;
 use studio_mesh_pairs::{fill_pair_bytes, fill_pairs};
 use studio_mesh_rows::{fill_corner_bytes, fill_corners, fill_float_bytes, fill_floats};
 use studio_rules::Sizes;
-use shared_words::Refusal;
 
 // How many vertices, faces and pairs a mesh has.
 fn sizes_of(place: Place) -> Sizes
@@ -38,39 +38,36 @@ pub fn tables(
     ensures filled { rows vertices.new corners.new mapping.new ≡
         (tables_call in_numbers file.now mesh (rows vertices.old corners.old mapping.old)).rows }
 {
-    let v = Lent::Numbers(vertices.len());
-    let c = Lent::Numbers(corners.len());
-    let p = Lent::Numbers(mapping.len());
-    match ask_with_room(file, mesh, v, c, p) {
-        Asked::Refused(r) => Err(r),
-        Asked::Mesh(place) => {
-            fill_floats(file, place.vertices.at, 3 * place.vertices.count, vertices);
-            fill_corners(file, place.faces.at, place.faces.count, corners);
-            let m = place.mapping;
-            fill_pairs(file, m.at, m.count, m.pairs, mapping);
-            Ok(sizes_of(place))
-        }
-    }
+    let v = Some(vertices.len());
+    let c = Some(corners.len());
+    let p = Some(mapping.len());
+    let place = ask_with_room(file, mesh, v, c, p)?;
+    fill_floats(file, place.vertices.at, 3 * place.vertices.count, vertices);
+    fill_corners(file, place.faces.at, place.faces.count, corners);
+    let m = place.mapping;
+    fill_pairs(file, m.at, m.count, m.pairs, mapping);
+    Ok(sizes_of(place))
 }
 
 // The vertices and corners as little-endian bytes: four a number of a vertex, two a corner. A part of a number at a slice's
 // end is no room.
-pub fn tables_bytes(file: &[u8], mesh: u32, vertices: &mut [u8], corners: &mut [u8]) -> Result<Sizes, Refusal>
+pub fn tables_bytes(
+    file: &[u8],
+    mesh: u32,
+    vertices: &mut [u8],
+    corners: &mut [u8],
+) -> Result<Sizes, Refusal>
     ensures answer { result ≡ (tables_call in_bytes file.now mesh (two_rows vertices.old corners.old)).answer }
     ensures filled { two_rows vertices.new corners.new ≡
         (tables_call in_bytes file.now mesh (two_rows vertices.old corners.old)).rows }
     ensures within { SizesWithin result }
 {
-    let v = Lent::Numbers(vertices.len() / 4);
-    let c = Lent::Numbers(corners.len() / 2);
-    match ask_with_room(file, mesh, v, c, Lent::Unasked) {
-        Asked::Refused(r) => Err(r),
-        Asked::Mesh(place) => {
-            fill_float_bytes(file, place.vertices.at, 3 * place.vertices.count, vertices);
-            fill_corner_bytes(file, place.faces.at, place.faces.count, corners);
-            Ok(sizes_of(place))
-        }
-    }
+    let v = Some(vertices.len() / 4);
+    let c = Some(corners.len() / 2);
+    let place = ask_with_room(file, mesh, v, c, None)?;
+    fill_float_bytes(file, place.vertices.at, 3 * place.vertices.count, vertices);
+    fill_corner_bytes(file, place.faces.at, place.faces.count, corners);
+    Ok(sizes_of(place))
 }
 
 // The mapping as little-endian bytes, four a number.
@@ -79,13 +76,9 @@ pub fn mapping_bytes(file: &[u8], mesh: u32, mapping: &mut [u8]) -> Result<Sizes
     ensures filled { mapping_row mapping.new ≡ (tables_call mapping_in_bytes file.now mesh (mapping_row mapping.old)).rows }
     ensures within { SizesWithin result }
 {
-    let p = Lent::Numbers(mapping.len() / 4);
-    match ask_with_room(file, mesh, Lent::Unasked, Lent::Unasked, p) {
-        Asked::Refused(r) => Err(r),
-        Asked::Mesh(place) => {
-            let m = place.mapping;
-            fill_pair_bytes(file, m.at, m.count, m.pairs, mapping);
-            Ok(sizes_of(place))
-        }
-    }
+    let p = Some(mapping.len() / 4);
+    let place = ask_with_room(file, mesh, None, None, p)?;
+    let m = place.mapping;
+    fill_pair_bytes(file, m.at, m.count, m.pairs, mapping);
+    Ok(sizes_of(place))
 }

@@ -21,10 +21,7 @@ use Rattle.studio_mesh_find.specs.Places.{ObjectIs, PlaceIs, place_numbers}
 use Rattle.studio_mesh_find.specs.Runs.{ObjectsAt}
 use Rattle.studio_mesh_find.proofs.Meshes.{MeshesBefore, none_before, all-before, Here, here}
 use Rattle.studio_mesh_find.proofs.Objects.{one_on}
-use Rattle.studio_meshes.specs.declared.Wanted.{Wanted}
-use Rattle.studio_meshes.specs.Wanted.{wanted_bytes}
 use Rattle.studio_meshes.specs.Fit.{Small, held_in}
-use Rattle.studio_meshes.proofs.InRow.{wanted_none, wanted_append}
 
 -- ---- the numbers of one mesh
 
@@ -65,48 +62,48 @@ module _ (s : List ℕ) (kids : Run) (from stop : ℕ) (q : ObjectsAt s kids fro
 
   -- ---- in a row
 
-  module _ (wanted : Wanted) (row₀ : List ℕ) where
+  module _ (bytes : List Standing → List ℕ) (row₀ : List ℕ) where
     pub record Filling (row : List ℕ) (next at : ℕ) : Type 0 where
       pub done : List Standing
       pub before : Before done at
-      pub put : Put row₀ 0 (wanted_bytes wanted done) row next
+      pub put : Put row₀ 0 (bytes done) row next
       pub same : length row ≡ length row₀
 
-    pub fill_none : (at : ℕ) → at ≡ offset_of 0x4000 from q.t → Filling row₀ 0 at
-    fill_none at e = record { done = []; before = before-none at e; put = rw (wanted_none wanted) (put-none row₀ 0); same = refl }
+    pub fill_none : bytes [] ≡ [] → (at : ℕ) → at ≡ offset_of 0x4000 from q.t → Filling row₀ 0 at
+    fill_none none at e = record { done = []; before = before-none at e; put = rw none (put-none row₀ 0); same = refl }
 
     module _ (row : List ℕ) (next at : ℕ) (w : Filling row next at) where
-      pub fill-all : stop ≤ at → row ≡ filled (wanted_bytes wanted (standing kids)) row₀
-      fill-all l = put_front w.put ∙ ap (λ (ms : List Standing). filled (wanted_bytes wanted ms) row₀) (sym (before-all w.done at w.before l))
+      pub fill-all : stop ≤ at → row ≡ filled (bytes (standing kids)) row₀
+      fill-all l = put_front w.put ∙ ap (λ (ms : List Standing). filled (bytes ms) row₀) (sym (before-all w.done at w.before l))
 
-      module _ (l : at < stop) where
+      module _ (l : at < stop) (more : (ms ns : List Standing) → bytes (ms ++ ns) ≡ bytes ms ++ bytes ns) where
         abbrev pub held : List Standing
         held = held_in at (hand w.done at w.before l).own (hand w.done at w.before l).kids
 
         -- there is room for what the object at hand holds
-        pub fill-fits : length (wanted_bytes wanted (standing kids)) ≤ length row₀ → next + length (wanted_bytes wanted held) ≤ length row
+        pub fill-fits : length (bytes (standing kids)) ≤ length row₀ → next + length (bytes held) ≤ length row
         fill-fits room =
             let behind : List Standing =
             standing_of (at + (6 + length (hand w.done at w.before l).own + size (hand w.done at w.before l).kids)) q.name_at q.name_length (hand w.done at w.before l).rest in
-            let all : wanted_bytes wanted (standing kids) ≡ wanted_bytes wanted w.done ++ (wanted_bytes wanted held ++ wanted_bytes wanted behind) =
-            ap (wanted_bytes wanted) (q.meshes_in ∙ (hand w.done at w.before l).split) ∙ wanted_append wanted w.done (held ++ behind) ∙
-            ap (λ (x : List ℕ). wanted_bytes wanted w.done ++ x) (wanted_append wanted held behind) in
+            let all : bytes (standing kids) ≡ bytes w.done ++ (bytes held ++ bytes behind) =
+            ap bytes (q.meshes_in ∙ (hand w.done at w.before l).split) ∙ more w.done (held ++ behind) ∙
+            ap (λ (x : List ℕ). bytes w.done ++ x) (more held behind) in
             omega (
               arith,
               room,
               w.put.ends,
               w.same,
               ap length all,
-              length-append (wanted_bytes wanted w.done) (wanted_bytes wanted held ++ wanted_bytes wanted behind),
-              length-append (wanted_bytes wanted held) (wanted_bytes wanted behind),
+              length-append (bytes w.done) (bytes held ++ bytes behind),
+              length-append (bytes held) (bytes behind),
             )
 
         module _ (o : Object) (is : (p : Parent) (own : List ℕ) (kids rest : Run) (stop : ℕ) → Spans p (known 0x4000 own kids rest) s at stop → ObjectIs at own kids o) where
-          pub fill_more : (row' : List ℕ) (next' : ℕ) → Put row next (wanted_bytes wanted held) row' next' → next + length (wanted_bytes wanted held) ≤ length row →
+          pub fill_more : (row' : List ℕ) (next' : ℕ) → Put row next (bytes held) row' next' → next + length (bytes held) ≤ length row →
               (at' : ℕ) → at' ≡ offset_of 0x4000 o.stop (hand w.done at w.before l).rest → Filling row' next' at'
           fill_more row' next' p fits at' e = record {
             done = w.done ++ held;
             before = before_more w.done at w.before l o is at' e;
-            put = rw (wanted_append wanted w.done held) (put_then (omega arith) w.put p);
-            same = ap length (put-sets fits p) ∙ length-sets row next (wanted_bytes wanted held) ∙ w.same;
+            put = rw (more w.done held) (put_then (omega arith) w.put p);
+            same = ap length (put-sets fits p) ∙ length-sets row next (bytes held) ∙ w.same;
           }

@@ -1,4 +1,5 @@
 pub mod InPlace
 pub mod Wanted
+pub mod Laws
 pub mod Fit
 pub mod Asked

@@ -3,7 +3,7 @@
 // boxes, one over all vertices.
 #![tactic(auto)]
 
-ghost use Rattle.std.specs.Prelude.{◌≡◌, List, [], ◌∷◌, ℕ, ◌+◌, ◌/◌, ◌≤◌, ◌<◌, ◌^◌, length};
+ghost use Rattle.std.specs.Prelude.{◌≡◌, refl, List, [], ◌∷◌, ◌++◌, ℕ, ◌+◌, ◌/◌, ◌≤◌, ◌<◌, ◌^◌, length};
 ghost use Rattle.shared_words.specs.Bytes.{packed};
 ghost use Rattle.shared_words.specs.Effects.{filled};
 ghost use Rattle.shared_numbers.specs.Put.{Put};
@@ -15,7 +15,8 @@ ghost use Rattle.studio_meshes_rules.specs.Boxes.{box_bytes, boxes_call};
 ghost use Rattle.studio_child.specs.Runs.{Spans};
 ghost use Rattle.studio_mesh_find.specs.Runs.{ObjectsAt};
 ghost use Rattle.studio_mesh_find.specs.Places.{place_numbers, ObjectIs, PlaceIs};
-ghost use Rattle.studio_meshes.specs.Wanted.{wanted_bytes};
+ghost use Rattle.studio_meshes.specs.Wanted.{numbers_of, boxes_of};
+ghost use Rattle.studio_meshes.specs.Laws.{numbers_append, boxes_append};
 ghost use Rattle.studio_meshes.specs.Fit.{Small, held_in, Placed, RoomFor, SomeObjectsAt, Room, SomeRoom};
 ghost use Rattle.studio_meshes.specs.Asked.{AskedIs};
 
@@ -23,7 +24,7 @@ use shared_numbers::put_long;
 use shared_words::Refusal;
 use studio_box_row::put_box;
 use studio_child::next_child;
-use studio_mesh_find::{Elements, Object, Place, find_objects, object_at, place_of};
+use studio_mesh_find::{Between, Elements, Object, Place, find_objects, object_at, place_of};
 
 // How many elements there are and where they begin, at a position; answers the position behind the two numbers.
 fn put_elements(elements: Elements, at: usize, row: &mut [u8]) -> usize
@@ -50,107 +51,117 @@ fn put_place(place: Place, at: usize, row: &mut [u8]) -> usize
     put_elements(given, pairs, row)
 }
 
-// What is wanted of each mesh: its eight numbers, or those of its box.
-#[derive(Clone, Copy)]
-enum Wanted {
-    Numbers,
-    Boxes,
+// What is wanted of each mesh: how it stands in a row of bytes, and the step that puts it there.
+trait Wanted {
+    ghost bytes: { List Standing → List ℕ };
+
+    // What is wanted of a mesh, at a position of the row; answers the position behind it.
+    fn put(file: &[u8], place: Place, at: usize, row: &mut [u8]) -> usize
+        requires { Placed file.now place bytes at (length row.old) }
+        ensures { (m : Standing) → PlaceIs file.now (mesh_in m) place → place_numbers place ≡ mesh_numbers m →
+            Put row.old at (bytes (m ∷ [])) row.new result };
+
+    // Meshes stand one behind another.
+    ghost none: { bytes [] ≡ [] };
+
+    ghost more: { (ms ns : List Standing) → bytes (ms ++ ns) ≡ bytes ms ++ bytes ns };
 }
 
-// What is wanted of a mesh at a position of the row; answers the position behind it.
-fn put_wanted(file: &[u8], place: Place, wanted: Wanted, at: usize, row: &mut [u8]) -> usize
-    requires { Placed file.now place wanted at (length row.old) }
-    ensures { (m : Standing) → PlaceIs file.now (mesh_in m) place → place_numbers place ≡ mesh_numbers m →
-        Put row.old at (wanted_bytes wanted (m ∷ [])) row.new result }
-{
-    match wanted {
-        Wanted::Numbers => put_place(place, at, row),
-        Wanted::Boxes => put_box(file, place.vertices.at, place.vertices.count, at, row),
+// The eight numbers of each mesh.
+struct Numbers;
+
+impl Wanted for Numbers {
+    ghost bytes = { numbers_of };
+
+    ghost none = { refl };
+
+    ghost more = { numbers_append };
+
+    fn put(_file: &[u8], place: Place, at: usize, row: &mut [u8]) -> usize {
+        put_place(place, at, row)
+    }
+}
+
+// The nine numbers of the box of each mesh.
+struct Boxes;
+
+impl Wanted for Boxes {
+    ghost bytes = { boxes_of };
+
+    ghost none = { refl };
+
+    ghost more = { boxes_append };
+
+    fn put(file: &[u8], place: Place, at: usize, row: &mut [u8]) -> usize {
+        put_box(file, place.vertices.at, place.vertices.count, at, row)
     }
 }
 
 // The mesh in the object at a position of the file, if it has one, at a position of the row; answers the position behind it.
-fn put_held(
-    file: &[u8],
-    at: usize,
-    object: Object,
-    wanted: Wanted,
-    next: usize,
-    row: &mut [u8],
-) -> usize
-    requires { RoomFor file.now at object wanted next (length row.old) }
+fn put_held<W: Wanted>(file: &[u8], at: usize, object: Object, next: usize, row: &mut [u8]) -> usize
+    requires { RoomFor file.now at object W.bytes next (length row.old) }
     ensures { (p : Parent) (own : List ℕ) (kids rest : Run) (stop : ℕ) → Spans p (known 0x4000 own kids rest) file.now at stop →
-        ObjectIs at own kids object → Put row.old next (wanted_bytes wanted (held_in at own kids)) row.new result }
+        ObjectIs at own kids object → Put row.old next (W.bytes (held_in at own kids)) row.new result }
 {
     if object.mesh < object.stop {
         let place = place_of(file, object.mesh, at + 6, object.size);
-        return put_wanted(file, place, wanted, next, row);
+        return W::put(file, place, next, row);
     }
     next
 }
 
-// How many meshes there are in the objects from from to stop.
-fn count_meshes(file: &[u8], from: usize, stop: usize) -> usize
-    requires { SomeObjectsAt file.now from stop }
-    ensures { (kids : Run) → ObjectsAt file.now kids from stop → result ≡ length (standing kids) }
+// How many meshes there are in the objects of a figure.
+fn count_meshes(file: &[u8], objects: Between) -> usize
+    requires { SomeObjectsAt file.now objects.from objects.stop }
+    ensures { (kids : Run) → ObjectsAt file.now kids objects.from objects.stop → result ≡ length (standing kids) }
 {
     let mut n = 0usize;
-    let mut at = next_child(file, 0x4000, from, stop);
-    while at < stop {
+    let mut at = next_child(file, 0x4000, objects.from, objects.stop);
+    // a `while`: each object tells where the next is looked for
+    while at < objects.stop {
         let object = object_at(file, at);
         if object.mesh < object.stop {
             n += 1;
         }
-        at = next_child(file, 0x4000, object.stop, stop);
+        at = next_child(file, 0x4000, object.stop, objects.stop);
     }
     n
 }
 
-// What is wanted of the meshes in the objects from from to stop, at the front of a row.
-fn fill(file: &[u8], from: usize, stop: usize, wanted: Wanted, row: &mut [u8])
-    requires { SomeRoom file.now from stop wanted (length row.old) }
-    ensures { (kids : Run) → Room file.now kids from stop wanted (length row.old) →
-        row.new ≡ filled (wanted_bytes wanted (standing kids)) row.old }
+// What is wanted of the meshes in the objects of a figure, at the front of a row.
+fn fill<W: Wanted>(file: &[u8], objects: Between, row: &mut [u8])
+    requires { SomeRoom file.now objects.from objects.stop W.bytes (length row.old) }
+    ensures { (kids : Run) → Room file.now kids objects.from objects.stop W.bytes (length row.old) →
+        row.new ≡ filled (W.bytes (standing kids)) row.old }
 {
     let mut next = 0usize;
-    let mut at = next_child(file, 0x4000, from, stop);
-    while at < stop {
+    let mut at = next_child(file, 0x4000, objects.from, objects.stop);
+    // a `while`: each object tells where the next is looked for
+    while at < objects.stop {
         let object = object_at(file, at);
-        next = put_held(file, at, object, wanted, next, row);
-        at = next_child(file, 0x4000, object.stop, stop);
+        next = put_held::<W>(file, at, object, next, row);
+        at = next_child(file, 0x4000, object.stop, objects.stop);
     }
 }
 
-// Where the objects stand and how many meshes there are; or the refusal of the file, or of the room.
+// Where the objects stand and how many meshes there are in them.
 #[derive(Clone, Copy)]
-enum Asked {
-    Refused(Refusal),
-    Meshes {
-        from: usize,
-        stop: usize,
-        count: usize,
-    },
+struct Counted {
+    objects: Between,
+    count: usize,
 }
 
-// The meshes of a file that is checked first, where there is room for so many.
-fn ask(file: &[u8], room: usize) -> Asked
+// The meshes of a file that is checked first, where there is room for so many; or the refusal of the file, or of the room.
+fn ask(file: &[u8], room: usize) -> Result<Counted, Refusal>
     ensures { AskedIs file.now room result }
 {
-    match studio_check::check(file) {
-        Err(r) => Asked::Refused(r),
-        Ok(_) => {
-            let objects = find_objects(file);
-            let count = count_meshes(file, objects.from, objects.stop);
-            if room < count {
-                return Asked::Refused(Refusal::NoRoom(count));
-            }
-            Asked::Meshes {
-                from: objects.from,
-                stop: objects.stop,
-                count,
-            }
-        }
+    studio_check::check(file)?;
+    let objects = find_objects(file);
+    let count = count_meshes(file, objects);
+    if room < count {
+        return Err(Refusal::NoRoom(count));
     }
+    Ok(Counted { objects, count })
 }
 
 // The meshes of a figure, in file order, eight numbers each, four bytes a number. Answers how many there are, or the refusal; a
@@ -159,13 +170,9 @@ pub fn meshes_bytes(file: &[u8], row: &mut [u8]) -> Result<usize, Refusal>
     ensures answer { result ≡ (meshes_call mesh_bytes file.now row.old).answer }
     ensures filled { row.new ≡ (meshes_call mesh_bytes file.now row.old).rows }
 {
-    match ask(file, row.len() / 32) {
-        Asked::Refused(r) => Err(r),
-        Asked::Meshes { from, stop, count } => {
-            fill(file, from, stop, Wanted::Numbers, row);
-            Ok(count)
-        }
-    }
+    let meshes = ask(file, row.len() / 32)?;
+    fill::<Numbers>(file, meshes.objects, row);
+    Ok(meshes.count)
 }
 
 // The boxes of the meshes of a figure and their centres, in file order, nine floats each; nine zeros for a mesh without vertices.
@@ -174,11 +181,7 @@ pub fn boxes_bytes(file: &[u8], row: &mut [u8]) -> Result<usize, Refusal>
     ensures answer { result ≡ (boxes_call box_bytes file.now row.old).answer }
     ensures filled { row.new ≡ (boxes_call box_bytes file.now row.old).rows }
 {
-    match ask(file, row.len() / 36) {
-        Asked::Refused(r) => Err(r),
-        Asked::Meshes { from, stop, count } => {
-            fill(file, from, stop, Wanted::Boxes, row);
-            Ok(count)
-        }
-    }
+    let meshes = ask(file, row.len() / 36)?;
+    fill::<Boxes>(file, meshes.objects, row);
+    Ok(meshes.count)
 }

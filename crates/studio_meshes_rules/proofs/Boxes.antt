@@ -1,13 +1,13 @@
 -- Each of all boxes is the box of its mesh.
-use Rattle.std.specs.Prelude.{Ok}
+use Rattle.std.specs.Prelude.{Ok, Result, Err}
 use mathlib.Core.Path.{◌≡◌, refl, sym, ap, ◌∙◌}
 use mathlib.Core.Bool.{Bool, true, false, cond}
 use mathlib.Core.List.{List, [], ◌∷◌, ◌++◌, append_assoc}
 use mathlib.Core.Option.{some}
-use Prim.Native.Nat.{ℕ, zero, suc, ◌+◌, ◌*◌, ◌≤◌, ◌<◌}
+use Prim.Native.Nat.{ℕ, zero, suc, ◌+◌, ◌*◌, ◌<◌}
 use native.Mathlib.Omega.{arith}
 use lib.Dec.{eqb, leb}
-use lib.ListN.{length, take, drop, get_elem?, length-append}
+use lib.ListN.{length, take, drop, get_elem?}
 use lib.Seq.{take_at, drop-append-add}
 use Rattle.shared_words.specs.Bytes.{packed}
 use Rattle.shared_words.specs.Conditions.{Answer, refused, accepted}
@@ -20,7 +20,7 @@ use Rattle.studio_rules.specs.Layout.{Run}
 use Rattle.studio_rules.specs.Walk.{verdict}
 use Rattle.studio_rules.specs.Gives.{Mesh, meshes}
 use Rattle.studio_rules.specs.Box.{bounding_box_of, centre_of}
-use Rattle.studio_rules.specs.Calls.{of_mesh, around_of, box_call, all_of}
+use Rattle.studio_rules.specs.Calls.{around_of, box_call, all_of, box_answer}
 use Rattle.studio_meshes_rules.specs.Standing.{flattened}
 use Rattle.studio_meshes_rules.specs.Boxes.{box_numbers, mesh_box, box_bytes, boxes_call}
 use Rattle.studio_meshes_rules.specs.Theorems.{BoxAt, EachBox}
@@ -29,15 +29,15 @@ use Rattle.studio_meshes_rules.specs.Theorems.{BoxAt, EachBox}
 pub nine-each : (m : Mesh) → length (mesh_box m) ≡ 9
 nine-each m = go (eqb m.vertex_count 0)
   where
-    go : (b : Bool) → length (box_numbers (cond b (Boxed.Refused Empty) (Boxed.Around (bounding_box_of m.vertex_count m.vertices) (centre_of (bounding_box_of m.vertex_count m.vertices))))) ≡ 9
+    go : (b : Bool) → length (box_numbers (cond b (Err Empty) (box_answer (bounding_box_of m.vertex_count m.vertices) (centre_of (bounding_box_of m.vertex_count m.vertices))))) ≡ 9
     go true = refl
     go false = refl
 
 -- a mesh has a box, or none for want of vertices
-none_but_empty : (m : Mesh) (r : Refusal) → around_of m ≡ Boxed.Refused r → r ≡ Empty
+none_but_empty : (m : Mesh) (r : Refusal) → around_of m ≡ Err r → r ≡ Empty
 none_but_empty m r e = go (eqb m.vertex_count 0) e
   where
-    go : (b : Bool) → cond b (Boxed.Refused Empty) (Boxed.Around (bounding_box_of m.vertex_count m.vertices) (centre_of (bounding_box_of m.vertex_count m.vertices))) ≡ Boxed.Refused r → r ≡ Empty
+    go : (b : Bool) → cond b (Err Empty) (box_answer (bounding_box_of m.vertex_count m.vertices) (centre_of (bounding_box_of m.vertex_count m.vertices))) ≡ Err r → r ≡ Empty
     go true q = cc
     go false q = absurd (let z : ◌≡◌ {A = ℕ} 0 1 = cc in omega arith)
 
@@ -97,7 +97,7 @@ box-at s row i kids v l f =
     let r = nth (meshes kids) (drop (length (box_bytes.encode (meshes kids))) row) i l in
     let box = box_of s i kids v r.mesh r.is in
     record {
-      is = ap (λ (x : List ℕ). take 36 (drop (36 * i) x)) f ∙ r.there ∙ ap (λ (x : Boxed). packed 4 (box_numbers x)) (sym box);
+      is = ap (λ (x : List ℕ). take 36 (drop (36 * i) x)) f ∙ r.there ∙ ap (λ (x : Result Boxed Refusal). packed 4 (box_numbers x)) (sym box);
       or_empty = λ x q. none_but_empty r.mesh x (sym box ∙ q);
     }
 

@@ -1,7 +1,7 @@
 -- The boxes of all meshes of a figure in one call, nine floats each: what it answers and leaves in the lent row, for every file and
 -- every row.
 use Rattle.shared_words.specs.declared.Refusal.{Refusal}
-use Rattle.std.specs.Prelude.{ℕ, ◌/◌, List, [], ◌∷◌, ◌++◌, map, replicate, Result}
+use Rattle.std.specs.Prelude.{ℕ, ◌/◌, List, [], ◌∷◌, ◌++◌, map, replicate, Result, Ok, Err}
 use Rattle.std.specs.Float.{binary32}
 use Rattle.std.specs.Float.Ieee.{to_bits}
 use Rattle.shared_words.specs.Bytes.{packed}
@@ -24,9 +24,9 @@ abbrev pub nine : BoundingBox → Corner → List ℕ
 nine box centre = three box.low ++ (three box.high ++ three centre)
 
 -- "a mesh without vertices has nine zeros"
-abbrev pub box_numbers : Boxed → List ℕ
-box_numbers (Boxed.Around box centre) = nine box centre
-box_numbers (Boxed.Refused r) = replicate 9 0
+abbrev pub box_numbers : Result Boxed Refusal → List ℕ
+box_numbers (Ok b) = nine b.around b.centre
+box_numbers (Err r) = replicate 9 0
 
 -- those of a mesh
 abbrev pub mesh_box : Mesh → List ℕ

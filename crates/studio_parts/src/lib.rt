@@ -9,38 +9,26 @@ ghost use Rattle.studio_parts.specs.Asked.{AskedIs};
 
 use shared_words::Refusal;
 use studio_parts_fill::{fill_bytes, fill_numbers};
-use studio_parts_find::{count_parts, find_parts};
+use studio_parts_find::{Between, count_parts, find_parts};
 
-// Where the parts stand and how many there are; or the refusal of the file, or of the room.
+// Where the parts stand and how many there are.
 #[derive(Clone, Copy)]
-enum Asked {
-    Refused(Refusal),
-    Parts {
-        from: usize,
-        stop: usize,
-        count: usize,
-    },
+struct Counted {
+    run: Between,
+    count: usize,
 }
 
-// The parts of a file that is checked first, where there is room for so many.
-fn ask(file: &[u8], room: usize) -> Asked
+// The parts of a file that is checked first, where there is room for so many; or the refusal of the file, or of the room.
+fn ask(file: &[u8], room: usize) -> Result<Counted, Refusal>
     ensures { AskedIs file.now room result }
 {
-    match studio_check::check(file) {
-        Err(r) => Asked::Refused(r),
-        Ok(_) => {
-            let run = find_parts(file);
-            let count = count_parts(file, run.from, run.stop);
-            if room < count {
-                return Asked::Refused(Refusal::NoRoom(count));
-            }
-            Asked::Parts {
-                from: run.from,
-                stop: run.stop,
-                count,
-            }
-        }
+    studio_check::check(file)?;
+    let run = find_parts(file);
+    let count = count_parts(file, run);
+    if room < count {
+        return Err(Refusal::NoRoom(count));
     }
+    Ok(Counted { run, count })
 }
 
 // The parts of a figure, in file order, two numbers each: the father's number, or 65535 for none, and the depth. Answers how
@@ -49,13 +37,9 @@ pub fn parts(file: &[u8], row: &mut [u32]) -> Result<usize, Refusal>
     ensures answer { result ≡ (parts_call part_row file.now row.old).answer }
     ensures filled { row.new ≡ (parts_call part_row file.now row.old).rows }
 {
-    match ask(file, row.len() / 2) {
-        Asked::Refused(r) => Err(r),
-        Asked::Parts { from, stop, count } => {
-            fill_numbers(file, from, stop, row);
-            Ok(count)
-        }
-    }
+    let parts = ask(file, row.len() / 2)?;
+    fill_numbers(file, parts.run, row);
+    Ok(parts.count)
 }
 
 // The same as bytes: two numbers a part, four bytes a number.
@@ -63,11 +47,7 @@ pub fn parts_bytes(file: &[u8], row: &mut [u8]) -> Result<usize, Refusal>
     ensures answer { result ≡ (parts_call part_bytes file.now row.old).answer }
     ensures filled { row.new ≡ (parts_call part_bytes file.now row.old).rows }
 {
-    match ask(file, row.len() / 8) {
-        Asked::Refused(r) => Err(r),
-        Asked::Parts { from, stop, count } => {
-            fill_bytes(file, from, stop, row);
-            Ok(count)
-        }
-    }
+    let parts = ask(file, row.len() / 8)?;
+    fill_bytes(file, parts.run, row);
+    Ok(parts.count)
 }

@@ -13,7 +13,7 @@ ghost use Rattle.studio_parts_fill.specs.Depths.{InRow, InBytes, depth_in, depth
 
 use shared_numbers::{long_at, put_long};
 use studio_child::next_child;
-use studio_parts_find::{father_at, next_part};
+use studio_parts_find::{Between, father_at, next_part};
 
 // The depth of a part by its father's, which stands in the row: a root has depth 0.
 fn depth_in(row: &[u32], father: u32) -> u32
@@ -58,30 +58,33 @@ fn put_bytes(father: u32, at: usize, row: &mut [u8]) -> usize
     put_long(depth, behind, row)
 }
 
-// The parts of the B000 whose children stand from from to stop, as numbers at the front of a row.
-pub fn fill_numbers(file: &[u8], from: usize, stop: usize, row: &mut [u32])
-    requires { SomeFit file.now from stop (length row.old / 2) }
-    ensures { (kids : Run) → Fit file.now kids from stop (length row.old / 2) →
+// The parts of the B000 whose children stand in a run, as numbers at the front of a row. (One function over both rows would need a
+// trait of how a number is put and read back, with the laws of `Way`: longer than the loop that it saves.)
+pub fn fill_numbers(file: &[u8], run: Between, row: &mut [u32])
+    requires { SomeFit file.now run.from run.stop (length row.old / 2) }
+    ensures { (kids : Run) → Fit file.now kids run.from run.stop (length row.old / 2) →
         row.new ≡ filled (part_row.encode (parts kids)) row.old }
 {
     let mut next = 0usize;
-    let mut at = next_child(file, 0xB002, from, stop);
-    while at < stop {
+    let mut at = next_child(file, 0xB002, run.from, run.stop);
+    // a `while`: each part tells where the next is looked for
+    while at < run.stop {
         next = put_numbers(father_at(file, at), next, row);
-        at = next_part(file, at, stop);
+        at = next_part(file, at, run.stop);
     }
 }
 
 // The same as bytes.
-pub fn fill_bytes(file: &[u8], from: usize, stop: usize, row: &mut [u8])
-    requires { SomeFit file.now from stop (length row.old / 8) }
-    ensures { (kids : Run) → Fit file.now kids from stop (length row.old / 8) →
+pub fn fill_bytes(file: &[u8], run: Between, row: &mut [u8])
+    requires { SomeFit file.now run.from run.stop (length row.old / 8) }
+    ensures { (kids : Run) → Fit file.now kids run.from run.stop (length row.old / 8) →
         row.new ≡ filled (part_bytes.encode (parts kids)) row.old }
 {
     let mut next = 0usize;
-    let mut at = next_child(file, 0xB002, from, stop);
-    while at < stop {
+    let mut at = next_child(file, 0xB002, run.from, run.stop);
+    // a `while`: each part tells where the next is looked for
+    while at < run.stop {
         next = put_bytes(father_at(file, at), next, row);
-        at = next_part(file, at, stop);
+        at = next_part(file, at, run.stop);
     }
 }

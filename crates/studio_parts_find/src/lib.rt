@@ -61,16 +61,17 @@ pub fn next_part(file: &[u8], at: usize, stop: usize) -> usize
     next_child(file, 0xB002, at + long_at(file, at + 2) as usize, stop)
 }
 
-// How many parts there are, in the B000 whose children stand from from to stop.
-pub fn count_parts(file: &[u8], from: usize, stop: usize) -> usize
-    requires { SomeParts file.now from stop }
-    ensures { (kids : Run) → PartsAt file.now kids from stop → result ≡ length (parts kids) }
+// How many parts there are, in the B000 whose children stand in a run.
+pub fn count_parts(file: &[u8], run: Between) -> usize
+    requires { SomeParts file.now run.from run.stop }
+    ensures { (kids : Run) → PartsAt file.now kids run.from run.stop → result ≡ length (parts kids) }
 {
     let mut n = 0usize;
-    let mut at = next_child(file, 0xB002, from, stop);
-    while at < stop {
+    let mut at = next_child(file, 0xB002, run.from, run.stop);
+    // a `while`: each part tells where the next is looked for
+    while at < run.stop {
         n += 1;
-        at = next_part(file, at, stop);
+        at = next_part(file, at, run.stop);
     }
     n
 }

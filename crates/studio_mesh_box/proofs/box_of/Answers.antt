@@ -1,5 +1,5 @@
 use mathlib.Core.Path.{◌≡◌, refl, ap, ◌∙◌}
-use Prim.Native.Nat.{ℕ, ◌+◌, ◌-◌, ◌*◌}
+use Prim.Native.Nat.{ℕ, ◌+◌, ◌*◌}
 use native.Mathlib.Omega.{arith}
 use lib.ListN.{drop}
 use Rattle.shared_words.specs.Bytes.{numbers}
@@ -16,10 +16,10 @@ vertex_at-first-requires c =
 pub loop-k-init : goal.loop-k-init
 loop-k-init c =
     let x = c in
-    (omega arith, omega arith, rw c.vertex_at-first.ensures (box-one x.args.s.now x.args.at x.args.n (omega arith)))
+    rw c.vertex_at-first.ensures (box-one x.args.s.now x.args.at x.args.n (omega arith))
 
-pub vertex_at-v-requires : goal.vertex_at-v-requires
-vertex_at-v-requires c =
+pub vertex_at-requires : goal.vertex_at-requires
+vertex_at-requires c =
     let x = c in
     let f = vertex-finite x.args.s.now x.args.at x.args.n x.requires.2 c.loop-k.k (x.args.at + 12 * c.loop-k.k) c.loop-k-test.true refl in
     (omega arith, f.0, f.1, f.2)
@@ -30,13 +30,10 @@ with_vertex-b-requires c = tt
 pub loop-k-preserved : goal.loop-k-preserved
 loop-k-preserved c =
     let x = c in
-    let l = c.loop-k in (
-      omega arith,
-      omega arith,
-      rw (c.with_vertex-b.ensures, l.invariant.2, c.vertex_at-v.ensures) (box-more x.args.s.now x.args.at x.args.n l.k l.invariant.0 c.loop-k-test.true),
-    )
+    let l = c.loop-k in
+    rw (c.with_vertex-b.ensures, l.invariant, c.vertex_at.ensures) (box-more x.args.s.now x.args.at x.args.n l.k (omega arith) c.loop-k-test.true)
 
 pub returns : goal.returns
 returns c =
     let e : c.loop-k.k ≡ c.args.n = omega arith in
-    c.loop-k.invariant.2 ∙ ap (λ (i : ℕ). bounding_box_of i (numbers 4 (3 * c.args.n) (drop c.args.at c.args.s.now))) e
+    c.loop-k.invariant ∙ ap (λ (i : ℕ). bounding_box_of i (numbers 4 (3 * c.args.n) (drop c.args.at c.args.s.now))) e

@@ -14,9 +14,15 @@ word_at-requires c =
 pub returns-then-o-stop : goal.returns-then-o-stop
 returns-then-o-stop c =
     let x = c in
-    let o = c.next_child-o in record { are = λ p t k e h. counts-first x.args.id k e p t x.args.file.now x.args.at x.args.stop h o.result (o.ensures p t h) c.if-o-stop.true c.word_at.result c.word_at.ensures.is; begin = λ p t h. begins-first x.args.id x.requires.1.0 x.requires.1.1 p t x.args.file.now x.args.at x.args.stop h o.result (o.ensures p t h) c.if-o-stop.true }
+    let o = c.next_child-o in record {
+      are = λ p t k e h. counts-first x.args.id k e p t x.args.file.now x.args.at x.args.stop h o.result (o.ensures p t h) c.if-o-stop.true c.word_at.result c.word_at.ensures.is;
+      begin = λ p t h. begins-first x.args.id x.requires.1.0 x.requires.1.1 p t x.args.file.now x.args.at x.args.stop h o.result (o.ensures p t h) c.if-o-stop.true;
+    }
 
 pub returns : goal.returns
 returns c =
     let x = c in
-    let o = c.next_child-o in record { are = λ p t k e h. counts-nowhere x.args.id k e p t x.args.file.now x.args.at x.args.stop h o.result (o.ensures p t h) c.if-o-stop.false; begin = λ p t h. begins-nowhere x.args.id x.requires.1.0 x.requires.1.1 p t x.args.file.now x.args.at x.args.stop h o.result (o.ensures p t h) c.if-o-stop.false }
+    let o = c.next_child-o in record {
+      are = λ p t k e h. counts-nowhere x.args.id k e p t x.args.file.now x.args.at x.args.stop h o.result (o.ensures p t h) c.if-o-stop.false;
+      begin = λ p t h. begins-nowhere x.args.id x.requires.1.0 x.requires.1.1 p t x.args.file.now x.args.at x.args.stop h o.result (o.ensures p t h) c.if-o-stop.false;
+    }

@@ -12,7 +12,7 @@ use Rattle.studio_mesh_find.proofs.find_among.Given as goal
 
 abbrev pub invariant-loop-at : goal.invariant-loop-at
 invariant-loop-at l =
-    (l.before ≤ l.mesh) × ((p : Parent) (t : Run) (a n : ℕ) → p.id ≡ 0x3D3D → Spans p t l.file l.from l.stop → (done : List Standing) × (length done ≡ l.before) × MeshesBefore p t l.file l.from l.stop a n done l.at)
+    (l.before ≤ l.mesh) × ((p : Parent) (t : Run) (a n : ℕ) → p.id ≡ 0x3D3D → Spans p t l.file l.objects.from l.objects.stop → (done : List Standing) × (length done ≡ l.before) × MeshesBefore p t l.file l.objects.from l.objects.stop a n done l.at)
 
 abbrev pub decreases-loop-at : goal.decreases-loop-at
-decreases-loop-at l = l.stop - l.at
+decreases-loop-at l = l.objects.stop - l.at

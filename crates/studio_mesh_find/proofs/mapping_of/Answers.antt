@@ -17,9 +17,15 @@ word_at-requires c =
 pub returns-then-o-stop : goal.returns-then-o-stop
 returns-then-o-stop c =
     let x = c in
-    let o = c.next_child-o in record { is = λ p t n h. mapping_first p t x.args.file.now x.args.at x.args.stop h o.result (o.ensures p t h) c.if-o-stop.true c.word_at.result c.word_at.ensures.is x.args.n n; begins = λ p t h. begins-first 0x4140 8 pairs-counted p t x.args.file.now x.args.at x.args.stop h o.result (o.ensures p t h) c.if-o-stop.true }
+    let o = c.next_child-o in record {
+      is = λ p t n h. mapping_first p t x.args.file.now x.args.at x.args.stop h o.result (o.ensures p t h) c.if-o-stop.true c.word_at.result c.word_at.ensures.is x.args.n n;
+      begins = λ p t h. begins-first 0x4140 8 pairs-counted p t x.args.file.now x.args.at x.args.stop h o.result (o.ensures p t h) c.if-o-stop.true;
+    }
 
 pub returns : goal.returns
 returns c =
     let x = c in
-    let o = c.next_child-o in record { is = λ p t n h. mapping_nowhere p t x.args.file.now x.args.at x.args.stop h o.result (o.ensures p t h) c.if-o-stop.false; begins = λ p t h. begins-nowhere 0x4140 8 pairs-counted p t x.args.file.now x.args.at x.args.stop h o.result (o.ensures p t h) c.if-o-stop.false }
+    let o = c.next_child-o in record {
+      is = λ p t n h. mapping_nowhere p t x.args.file.now x.args.at x.args.stop h o.result (o.ensures p t h) c.if-o-stop.false;
+      begins = λ p t h. begins-nowhere 0x4140 8 pairs-counted p t x.args.file.now x.args.at x.args.stop h o.result (o.ensures p t h) c.if-o-stop.false;
+    }

@@ -12,4 +12,4 @@ returns c =
     let a = c.args in
     let xs = numbers 4 (2 * a.m) (drop a.at a.s.now) in
     pair_bytes_filled xs a.row.now _ _ (2 * a.m) (2 * a.n) (8 * a.m) (8 * a.n) (length-numbers 4 (2 * a.m) (drop a.at a.s.now)) (omega arith) (omega arith)
-    c.fill_float_bytes.ensures c.fill_zero_bytes.ensures
+    c.fill_float_bytes.ensures c.fill.ensures

@@ -11,4 +11,4 @@ returns c =
     let a = c.args in
     let xs = numbers 4 (2 * a.m) (drop a.at a.s.now) in
     pairs-filled xs a.row.now _ _ (2 * a.m) (2 * a.n) (length-numbers 4 (2 * a.m) (drop a.at a.s.now))
-    c.fill_floats.ensures c.fill_zeros.ensures
+    c.fill_floats.ensures c.fill.ensures

@@ -1,5 +1,4 @@
 use mathlib.Core.Path.{◌≡◌, refl}
-use Prim.Native.Nat.{◌-◌}
 use native.Mathlib.Omega.{arith}
 use borrow.Author.Rules.{rules}
 use Rattle.shared_words.proofs.Bytes.{length-le, bytes-all}
@@ -8,7 +7,7 @@ use Rattle.studio_mesh_rows.proofs.Copied.{face-bytes-more}
 use Rattle.studio_mesh_rows.proofs.fill_corner_bytes.Goals as goal
 
 pub loop-i-init : goal.loop-i-init
-loop-i-init c = (omega arith, refl, refl, put-none _ _)
+loop-i-init c = (refl, refl, put-none _ _)
 
 pub overflow_cast-word_at : goal.overflow_cast-word_at
 overflow_cast-word_at c = omega (arith, c.word_at.ensures.small)
@@ -30,16 +29,12 @@ loop-i-preserved c =
     let b = bytes-all s (λ i. omega (arith, x.shared_slice_known-1.given i)) in
     let e = length-le 4 g.long_at.result in
     let f = length-le 2 t.word_at.result in (
-      omega arith,
       search rules,
       omega (arith, p.put_long-third.ensures.ends, w.put_word-next.ensures.ends),
-      rw (face-bytes-more s x.args.at l.i b (omega arith) g.long_at.result t.word_at.result g.long_at.ensures.is t.word_at.ensures.is) (put_then (omega arith) l.invariant.3 (put_then (omega arith) p.put_long-third.ensures w.put_word-next.ensures)),
+      rw (face-bytes-more s x.args.at l.i b (omega arith) g.long_at.result t.word_at.result g.long_at.ensures.is t.word_at.ensures.is) (put_then (omega arith) l.invariant.2 (put_then (omega arith) p.put_long-third.ensures w.put_word-next.ensures)),
     )
-
-pub shape_of-row : goal.shape_of-row
-shape_of-row c = c.loop-i.invariant.1
 
 pub returns : goal.returns
 returns c =
     let e : c.loop-i.i ≡ c.args.n = omega arith in
-    rw (← e) (put_front c.loop-i.invariant.3)
+    rw (← e) (put_front c.loop-i.invariant.2)

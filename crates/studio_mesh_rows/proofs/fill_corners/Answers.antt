@@ -1,12 +1,11 @@
-use mathlib.Core.Path.{◌≡◌, refl}
-use Prim.Native.Nat.{◌-◌}
+use mathlib.Core.Path.{refl}
 use native.Mathlib.Omega.{arith}
 use lib.ListN.{length-set}
 use Rattle.studio_mesh_rows.proofs.Fill.{face-more}
 use Rattle.studio_mesh_rows.proofs.fill_corners.Goals as goal
 
 pub loop-i-init : goal.loop-i-init
-loop-i-init c = (omega arith, refl, refl)
+loop-i-init c = (refl, refl)
 
 pub overflow_cast-row : goal.overflow_cast-row
 overflow_cast-row c = omega (arith, c.word_at.ensures.small)
@@ -30,15 +29,6 @@ loop-i-preserved c =
     let a = c.word_at in
     let b = c.word_at-in-loop-i in
     let d = c.word_at-in-loop-i-2 in (
-      omega arith,
-      simp length-set l.invariant.1,
-      rw l.invariant.2 (face-more x.args.s.now x.args.at l.i x.args.row.now (omega arith) a.result b.result d.result a.ensures.is b.ensures.is d.ensures.is),
+      simp length-set l.invariant.0,
+      rw l.invariant.1 (face-more x.args.s.now x.args.at l.i x.args.row.now (omega arith) a.result b.result d.result a.ensures.is b.ensures.is d.ensures.is),
     )
-
-pub shape_of-row : goal.shape_of-row
-shape_of-row c = c.loop-i.invariant.1
-
-pub returns : goal.returns
-returns c =
-    let e : c.loop-i.i ≡ c.args.n = omega arith in
-    rw (← e) c.loop-i.invariant.2

@@ -1,5 +1,4 @@
-use mathlib.Core.Path.{◌≡◌, refl, ◌∙◌}
-use Prim.Native.Nat.{◌-◌}
+use mathlib.Core.Path.{refl, ◌∙◌}
 use native.Mathlib.Omega.{arith}
 use lib.ListN.{length-set}
 use Rattle.shared_words.specs.Floats.{finite}
@@ -8,7 +7,7 @@ use Rattle.studio_mesh_rows.proofs.Fill.{float-more}
 use Rattle.studio_mesh_rows.proofs.fill_floats.Goals as goal
 
 pub loop-i-init : goal.loop-i-init
-loop-i-init c = (omega arith, refl, refl)
+loop-i-init c = (refl, refl)
 
 pub float_at-requires : goal.float_at-requires
 float_at-requires c =
@@ -19,15 +18,6 @@ pub loop-i-preserved : goal.loop-i-preserved
 loop-i-preserved c =
     let x = c in
     let l = c.loop-i in (
-      omega arith,
-      length-set l.row l.i c.float_at.result ∙ l.invariant.1,
-      rw (l.invariant.2, c.float_at.ensures) (float-more x.args.s.now x.args.at l.i x.args.row.now (omega arith)),
+      length-set l.row l.i c.float_at.result ∙ l.invariant.0,
+      rw (l.invariant.1, c.float_at.ensures) (float-more x.args.s.now x.args.at l.i x.args.row.now (omega arith)),
     )
-
-pub shape_of-row : goal.shape_of-row
-shape_of-row c = c.loop-i.invariant.1
-
-pub returns : goal.returns
-returns c =
-    let e : c.loop-i.i ≡ c.args.n = omega arith in
-    rw (← e) c.loop-i.invariant.2

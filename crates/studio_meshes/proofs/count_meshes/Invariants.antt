@@ -10,7 +10,7 @@ use Rattle.studio_meshes.proofs.Filling.{Before}
 use Rattle.studio_meshes.proofs.count_meshes.Given as goal
 
 abbrev pub invariant-loop-at : goal.invariant-loop-at
-invariant-loop-at l = (kids : Run) (q : ObjectsAt l.file kids l.from l.stop) → (done : List Standing) × (length done ≡ l.n) × Before l.file kids l.from l.stop q done l.at
+invariant-loop-at l = (kids : Run) (q : ObjectsAt l.file kids l.objects.from l.objects.stop) → (done : List Standing) × (length done ≡ l.n) × Before l.file kids l.objects.from l.objects.stop q done l.at
 
 abbrev pub decreases-loop-at : goal.decreases-loop-at
-decreases-loop-at l = l.stop - l.at
+decreases-loop-at l = l.objects.stop - l.at

@@ -7,19 +7,17 @@ use Rattle.shared_numbers.proofs.Put.{put-none}
 use Rattle.studio_child.proofs.Runs.{header-here}
 use Rattle.studio_mesh_find.proofs.Objects.{none_in, stood, one_in, mesh-begins, mesh-place, mesh-numbers}
 use Rattle.studio_meshes_rules.specs.Standing.{Standing}
-use Rattle.studio_meshes.specs.Wanted.{wanted_bytes}
-use Rattle.studio_meshes.proofs.InRow.{wanted_none}
 use Rattle.studio_meshes.proofs.Filling.{place_small}
 use Rattle.studio_meshes.proofs.put_held.Goals as goal
 
 pub place_of-place-requires : goal.place_of-place-requires
-place_of-place-requires c =
+place_of-place-requires g₀ c =
     let x = c in
     let g = x.requires in
     mesh-begins g.0 g.1 g.2 g.3 _ _ g.4 g.5 x.args.object g.6 c.if-object.true
 
-pub put_wanted-requires : goal.put_wanted-requires
-put_wanted-requires c =
+pub put-requires : goal.put-requires
+put-requires g₀ c =
     let x = c in
     let g = x.requires in
     let m = c.if-object.true in
@@ -32,22 +30,22 @@ put_wanted-requires c =
       mesh = stood g.0 g.1 g.2 g.3 _ _ g.4 g.5 x.args.object g.6 m;
       is = q;
       small = place_small q s.small (omega (arith, w.six, s.stays, s.small)) (omega (arith, w.ends, s.stays, s.small));
-      room = omega (arith, ap (λ (ms : List Standing). length (wanted_bytes x.args.wanted ms)) one, g.7);
+      room = omega (arith, ap (λ (ms : List Standing). length (g₀.W.Wanted.bytes ms)) one, g.7);
     }
 
 pub returns-then-object : goal.returns-then-object
-returns-then-object c =
+returns-then-object g₀ c =
     let x = c in
     let r = c.place_of-place in
     let m = c.if-object.true in
     λ p own kids rest stop h is.
     rw (one_in p own kids rest _ _ stop h x.args.object is m)
-    (c.put_wanted.ensures (stood p own kids rest _ _ stop h x.args.object is m)
+    (c.put.ensures (stood p own kids rest _ _ stop h x.args.object is m)
     (mesh-place p own kids rest _ _ stop h x.args.object is m r.result r.ensures.is)
     (mesh-numbers p own kids rest _ _ stop h x.args.object is m r.result r.ensures.numbers))
 
 pub returns : goal.returns
-returns c =
+returns g₀ c =
     let x = c in
     λ p own kids rest stop h is.
-    rw (none_in p own kids rest _ _ stop h x.args.object is c.if-object.false, wanted_none x.args.wanted) (put-none _ _)
+    rw (none_in p own kids rest _ _ stop h x.args.object is c.if-object.false, g₀.met.W.Wanted.none) (put-none _ _)

@@ -17,7 +17,7 @@ father_at-requires c =
     let x = c in
     let w = c.loop-at.invariant x.requires.0 x.requires.1.0 x.requires.1.1 in
     let h = hand as_bytes _ _ _ _ x.requires.1.0 _ _ _ _ w c.loop-at-test.true in
-    (x.requires.1.0.p, h.own, h.kids, h.rest, x.args.stop, h.spans)
+    (x.requires.1.0.p, h.own, h.kids, h.rest, x.args.run.stop, h.spans)
 
 pub put_bytes-next-requires : goal.put_bytes-next-requires
 put_bytes-next-requires c =

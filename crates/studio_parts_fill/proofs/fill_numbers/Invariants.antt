@@ -9,7 +9,7 @@ use Rattle.studio_parts_fill.proofs.Filling.{Filling}
 use Rattle.studio_parts_fill.proofs.fill_numbers.Given as goal
 
 abbrev pub invariant-loop-at : goal.invariant-loop-at
-invariant-loop-at l = (kids : Run) (q : PartsAt l.file kids l.from l.stop) → length (parts kids) ≤ length l.initial.row / 2 → Filling as_numbers l.file kids l.from l.stop q l.initial.row l.row l.next l.at
+invariant-loop-at l = (kids : Run) (q : PartsAt l.file kids l.run.from l.run.stop) → length (parts kids) ≤ length l.initial.row / 2 → Filling as_numbers l.file kids l.run.from l.run.stop q l.initial.row l.row l.next l.at
 
 abbrev pub decreases-loop-at : goal.decreases-loop-at
-decreases-loop-at l = l.stop - l.at
+decreases-loop-at l = l.run.stop - l.at
