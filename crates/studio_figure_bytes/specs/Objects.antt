@@ -6,6 +6,7 @@ use Rattle.studio_write_judge.specs.Judged.{finite_float}
 use Rattle.studio_figure_rules.specs.Given.{over}
 use Rattle.studio_figure_rules.specs.Built.{layout, smoothing_chunk}
 use Rattle.studio_figure_rules.specs.Described.{Flat, described}
+use Rattle.studio_figure_rows.specs.declared.FlatRows.{FlatRows}
 use Rattle.studio_figure_rows.specs.Rows.{entry, sum_to, run, part, name_at}
 use Rattle.studio_figure_objects.specs.Sizes.{between, object_bytes}
 use Rattle.studio_figure_chunks.specs.Chunks.{group_bytes, group_in, lists_bytes}
@@ -61,3 +62,11 @@ module _ (names objects : List ℕ) (vertices : List Float) (corners smoothing g
       (object_bytes objects groups i) ++
       (over (λ j. group_bytes (group_in names groups faces from (sum_to 5 4 objects i + j))) (run (λ j. j) 0 (entry 5 4 objects i)) ++
       bytes (smoothing_chunk (part (sum_to 5 3 objects i) (entry 5 3 objects i) smoothing)))
+
+-- ---- the same of the rows that code has
+
+abbrev pub WritableIn : FlatRows → ℕ → ℕ → Type 0
+WritableIn r from i = Writable r.names.now r.objects.now r.vertices.now r.corners.now r.smoothing.now r.groups.now r.faces.now from i
+
+abbrev pub pieces_in : FlatRows → ℕ → ℕ → List ℕ
+pieces_in r from i = pieces r.names.now r.objects.now r.vertices.now r.corners.now r.smoothing.now r.groups.now r.faces.now from i

@@ -1,13 +1,11 @@
 -- Chunks as bytes, piece by piece in the order in which they are put, and how long they are.
 use mathlib.Core.Path.{◌≡◌, refl, sym, ap, ◌∙◌}
-use Prim.Native.Nat.{ℕ, zero, suc, ◌+◌, ◌*◌, ◌≤◌}
+use Prim.Native.Nat.{ℕ, zero, suc, ◌+◌, ◌*◌, ◌<◌, ◌≤◌}
 use native.Mathlib.Omega.{arith}
 use mathlib.Core.List.{List, [], ◌∷◌, ◌++◌, append_assoc, append-nil}
-use lib.ListN.{length, set, length-set}
+use lib.ListN.{length, take, get_or, length-append}
 use Rattle.shared_words.specs.Bytes.{le, packed}
 use Rattle.shared_words.proofs.Bytes.{length-packed}
-use Rattle.shared_numbers.specs.Put.{Put}
-use Rattle.shared_numbers.proofs.Put.{put_byte, put_then}
 use Rattle.studio_rules.specs.Layout.{Run, end, known, header, bytes}
 use Rattle.studio_rules.proofs.Sound.{length-bytes}
 use Rattle.studio_write_bytes.specs.Bare.{name_data}
@@ -21,15 +19,25 @@ use Rattle.studio_figure_rows.specs.Rows.{run}
 use Rattle.studio_figure_objects.specs.Sizes.{size_of_words}
 use Rattle.studio_figure_chunks.specs.Chunks.{material_bytes, group_bytes}
 
--- three stores
-pub three-put : (o : List ℕ) (at x y z : ℕ) → at + 3 ≤ length o → Put o at (x ∷ y ∷ z ∷ []) (set (set (set o at x) (at + 1) y) (at + 2) z) (at + 3)
-three-put o at x y z h =
-    let two : at + 2 ≡ at + 1 + 1 = omega arith in
-    let three : at + 3 ≡ at + 1 + 1 + 1 = omega arith in
-    rw (three, two)
-    (put_then (omega arith) (put_byte o at x (omega arith))
-    (put_then (simp length-set (omega arith)) (put_byte (set o at x) (at + 1) y (simp length-set (omega arith)))
-    (put_byte (set (set o at x) (at + 1) y) (at + 1 + 1) z (simp length-set (omega arith)))))
+-- numbers of one width, each as its bytes
+pub over-le : (w : ℕ) (ns : List ℕ) → over (le w) ns ≡ packed w ns
+over-le w [] = refl
+over-le w (n ∷ ns) = ap (λ (k : List ℕ). le w n ++ k) (over-le w ns)
+
+-- the bytes of the first i + 1 things, no more than those of all
+pub over_more : {A : Type 0} (give : A → List ℕ) (xs : List A) (i : ℕ) (x : A) → i < length xs → x ≡ get_or xs i x → over give (take (i + 1) xs) ≡ over give (take i xs) ++ give x
+over_more give [] i x h e = absurd (omega arith)
+over_more give (y ∷ ys) zero x h e = append-nil (give y) ∙ ap give (sym e)
+over_more give (y ∷ ys) (suc i) x h e =
+    let n : suc i + 1 ≡ suc (i + 1) = omega arith in
+    rw (n, over_more give ys i x (omega arith) e) (sym (append_assoc (give y) (over give (take i ys)) (give x)))
+
+pub over-room : {A : Type 0} (give : A → List ℕ) (xs : List A) (i : ℕ) (x : A) → i < length xs → x ≡ get_or xs i x →
+    length (over give (take i xs)) + length (give x) ≤ length (over give xs)
+over-room give [] i x h e = absurd (omega arith)
+over-room give (y ∷ ys) zero x h e = omega (arith, ap (λ (z : _). length (give z)) e, length-append (give y) (over give ys))
+over-room give (y ∷ ys) (suc i) x h e =
+    omega (arith, over-room give ys i x (omega arith) e, length-append (give y) (over give (take i ys)), length-append (give y) (over give ys))
 
 -- what the first i things give, and the next
 pub over_last : {A : Type 0} (give : A → List ℕ) (thing : ℕ → A) (i : ℕ) → over give (run thing 0 (i + 1)) ≡ over give (run thing 0 i) ++ give (thing i)

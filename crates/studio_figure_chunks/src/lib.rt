@@ -1,9 +1,9 @@
 // The chunks of a figure. Each function puts bytes at a position of out, and answers the position behind them.
 #![tactic(auto)]
 
-ghost use Rattle.std.specs.Prelude.{◌≡◌, true, ℕ, ◌+◌, ◌-◌, ◌*◌, ◌%◌, ◌<◌, ◌≤◌, length, drop};
+ghost use Rattle.std.specs.Prelude.{◌≡◌, true, List, ℕ, ◌+◌, ◌-◌, ◌*◌, ◌%◌, ◌<◌, ◌≤◌, length, drop};
 ghost use Rattle.shared_words.specs.Lists.{every};
-ghost use Rattle.shared_words.specs.Bytes.{packed};
+ghost use Rattle.shared_words.specs.Bytes.{le};
 ghost use Rattle.shared_numbers.specs.Put.{Put};
 ghost use Rattle.studio_rules.specs.Layout.{end, bytes};
 ghost use Rattle.studio_write_judge.specs.Judged.{triples, finite_float};
@@ -26,36 +26,45 @@ fn put_three(row: &[u8], first: usize, at: usize, out: &mut [u8]) -> usize
     requires { (first + 3 ≤ length row.now) × (at + 3 ≤ length out.old) }
     ensures { Put out.old at (rgb (colour (drop first row.now))) out.new result }
 {
-    out[at] = row[first];
-    out[at + 1] = row[first + 1];
-    out[at + 2] = row[first + 2];
-    at + 3
+    let end = at + 3;
+    out[at..end].copy_from_slice(&row[first..first + 3]);
+    end
 }
 
-// Numbers of two bytes.
-fn put_words(row: &[u16], at: usize, out: &mut [u8]) -> usize
-    requires { at + 2 * length row.now ≤ length out.old }
-    ensures { Put out.old at (packed 2 row.now) out.new result }
-{
-    let mut next = at;
-    let mut i = 0usize;
-    while i < row.len() {
-        next = put_word(row[i], next, out);
-        i += 1;
+// A number, and its bytes as they stand in the file.
+trait Number: Copy {
+    ghost bytes: { Self → List ℕ };
+
+    // The bytes at a position of out; answers the position behind them.
+    fn put(self, at: usize, out: &mut [u8]) -> usize
+        requires { at + length (bytes self) ≤ length out.old }
+        ensures { Put out.old at (bytes self) out.new result };
+}
+
+impl Number for u16 {
+    ghost bytes = { le 2 };
+
+    fn put(self, at: usize, out: &mut [u8]) -> usize {
+        put_word(self, at, out)
     }
-    next
 }
 
-// Numbers of four bytes.
-fn put_longs(row: &[u32], at: usize, out: &mut [u8]) -> usize
-    requires { at + 4 * length row.now ≤ length out.old }
-    ensures { Put out.old at (packed 4 row.now) out.new result }
+impl Number for u32 {
+    ghost bytes = { le 4 };
+
+    fn put(self, at: usize, out: &mut [u8]) -> usize {
+        put_long(self, at, out)
+    }
+}
+
+// Numbers one behind another.
+fn put_numbers<N: Number>(row: &[N], at: usize, out: &mut [u8]) -> usize
+    requires { at + length (over N.bytes row.now) ≤ length out.old }
+    ensures { Put out.old at (over N.bytes row.now) out.new result }
 {
     let mut next = at;
-    let mut i = 0usize;
-    while i < row.len() {
-        next = put_long(row[i], next, out);
-        i += 1;
+    for x in row {
+        next = x.put(next, out);
     }
     next
 }
@@ -104,12 +113,10 @@ pub fn put_materials(
 {
     let mut label = first;
     let mut next = at;
-    let mut i = 0usize;
-    while i < materials.len() {
+    for i in 0..materials.len() {
         let end = label + number(materials, 1, 0, i);
         next = put_material(&names[label..end], colours, i, next, out);
         label = end;
-        i += 1;
     }
     next
 }
@@ -149,7 +156,7 @@ fn put_group(name: &[u8], faces: &[u16], at: usize, out: &mut [u8]) -> usize
     let label = put_header(0x4130, 9 + name.len() + 2 * faces.len(), at, out);
     let count = put_name(name, label, out);
     let first = put_word(faces.len() as u16, count, out);
-    put_words(faces, first, out)
+    put_numbers(faces, first, out)
 }
 
 // n groups from number `first` on; where the names of all groups begin, and the name and faces of the first of these.
@@ -175,14 +182,12 @@ pub fn put_groups(
     let mut label = name;
     let mut place = face;
     let mut next = at;
-    let mut i = 0usize;
-    while i < n {
+    for i in 0..n {
         let end = label + number(groups, 2, 0, first + i);
         let last = place + number(groups, 2, 1, first + i);
         next = put_group(&names[label..end], &faces[place..last], next, out);
         label = end;
         place = last;
-        i += 1;
     }
     next
 }
@@ -192,9 +197,9 @@ pub fn put_smoothing(words: &[u32], at: usize, out: &mut [u8]) -> usize
     requires { (length words.now ≤ 1048576) × (at + size_of_words (length words.now) ≤ length out.old) }
     ensures { Put out.old at (bytes (smoothing_chunk words.now)) out.new result }
 {
-    if words.len() == 0 {
+    if words.is_empty() {
         return at;
     }
     let own = put_header(0x4150, 6 + 4 * words.len(), at, out);
-    put_longs(words, own, out)
+    put_numbers(words, own, out)
 }

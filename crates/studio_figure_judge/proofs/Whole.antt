@@ -29,16 +29,6 @@ use Rattle.studio_figure_rows.proofs.Same.{by_position}
 use Rattle.studio_figure_judge.specs.Judged.{names_asked, objects_asked, size_of_rows, size_asked, size_answer}
 use Rattle.studio_figure_judge.proofs.Same.{size-all, asked-same}
 
--- each float of a lent row has 32 bits
-is_true : (b : Bool) → T b → b ≡ true
-is_true true t = refl
-is_true false t = absurd t
-
-pub floats-known : (xs : List Float) → ((i : ℕ) → T (fits binary32 (get_or xs i nan))) → Floats32 xs
-unfolding every
-floats-known [] h = refl
-floats-known (x ∷ xs) h = both (fits binary32 x) (every (fits binary32) xs) (is_true _ (h 0)) (floats-known xs (λ i. h (suc i)))
-
 -- ---- the size
 
 pub sizes-joined : (front first rest size : ℕ) → Capped 0 front 1048576 first → Capped 0 (first + rest) 1048576 size → Capped 0 (front + rest) 1048576 size

@@ -1,6 +1,6 @@
 -- The judgement of flat rows that fit, by position: what is asked of names, of objects and of the size, in the papers' order.
 use Rattle.shared_words.specs.declared.Refusal.{Refusal}
-use Rattle.std.specs.Prelude.{ℕ, ◌+◌, ◌*◌, ◌/◌, Bool, true, false, List, [], ◌∷◌, ◌++◌, leb, Float, length, Result}
+use Rattle.std.specs.Prelude.{ℕ, ◌+◌, ◌*◌, ◌/◌, List, [], ◌∷◌, ◌++◌, leb, Float, length, Result}
 use Rattle.shared_words.specs.declared.Refusal.TheVariants.{TooLong, NoRoom, NoMaterial}
 use Rattle.shared_words.specs.Conditions.{Condition, must, broken}
 use Rattle.shared_words.specs.Refusals.{limit}
@@ -10,6 +10,8 @@ use Rattle.studio_figure_rules.specs.Judged.{one_of, differ}
 use Rattle.shared_words.specs.Lists.{total}
 use Rattle.studio_figure_rows.specs.Rows.{sum_to, run}
 use Rattle.studio_figure_names.specs.Names.{names_in, name_asked}
+use Rattle.studio_figure_names.specs.declared.Question.{Question}
+use Rattle.studio_figure_names.specs.declared.Question.TheVariants.{Zero, Label}
 use Rattle.studio_figure_objects.specs.Asked.{counts, floats, indices}
 use Rattle.studio_figure_objects.specs.Sizes.{object_bytes}
 
@@ -32,9 +34,9 @@ abbrev pub group_names : List ℕ → List ℕ → List ℕ → List ℕ → Lis
 group_names names objects materials groups = names_in 2 groups names (groups_at objects materials) (length groups / 2)
 
 -- 9, or 24
-abbrev pub text_asked : Bool → List ℕ → List ℕ → List ℕ → List Condition
-text_asked text names objects materials =
-    over (name_asked text) (object_names names objects) ++ over (name_asked text) (material_names names objects materials)
+abbrev pub text_asked : Question → List ℕ → List ℕ → List ℕ → List Condition
+text_asked question names objects materials =
+    over (name_asked question) (object_names names objects) ++ over (name_asked question) (material_names names objects materials)
 
 -- 29
 abbrev pub same_asked : List ℕ → List ℕ → List ℕ → List Condition
@@ -47,8 +49,8 @@ material_asked names objects materials groups =
 
 abbrev pub names_asked : List ℕ → List ℕ → List ℕ → List ℕ → List Condition
 names_asked names objects materials groups =
-    text_asked false names objects materials ++
-    (text_asked true names objects materials ++ (same_asked names objects materials ++ material_asked names objects materials groups))
+    text_asked Zero names objects materials ++
+    (text_asked Label names objects materials ++ (same_asked names objects materials ++ material_asked names objects materials groups))
 
 -- ---- objects
 

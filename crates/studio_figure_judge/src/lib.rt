@@ -4,15 +4,16 @@
 ghost use Rattle.std.specs.Prelude.{◌≡◌, ◌+◌, ◌*◌, ◌/◌, ◌<◌, ◌≤◌, length};
 ghost use Rattle.shared_words.specs.Conditions.{answered};
 ghost use Rattle.studio_figure_rules.specs.Described.{judged_flat};
-ghost use Rattle.studio_figure_rows.specs.Rows.{flat, sum_to};
+ghost use Rattle.studio_figure_rows.specs.Rows.{sum_to};
+ghost use Rattle.studio_figure_rows.specs.Given.{given};
 ghost use Rattle.studio_figure_judge.specs.Judged.{groups_at, text_asked, same_asked, material_asked, names_asked, objects_asked, size_of_rows, size_answer};
 
 use shared_words::Refusal;
-use studio_figure_names::{first_unnamed, judge_differ, judge_names};
+use studio_figure_names::{Question, first_unnamed, judge_differ, judge_names};
 use studio_figure_objects::{
     judge_counts, judge_floats, judge_indices, materials_size, objects_size,
 };
-use studio_figure_rows::{fits, sum};
+use studio_figure_rows::{FlatRows, sum};
 
 // The longest file, and more than any sum of lengths of rows.
 const LIMIT: usize = 1048576;
@@ -20,18 +21,19 @@ const LIMIT: usize = 1048576;
 const ANY: usize = 0x7FFF_FFFF_FFFF_FFFF;
 
 // 9, or 24: the names of the objects, then those of the materials.
-fn judge_text(names: &[u8], objects: &[u32], materials: &[u32], text: bool) -> Result<(), Refusal>
+fn judge_text(
+    names: &[u8],
+    objects: &[u32],
+    materials: &[u32],
+    question: Question,
+) -> Result<(), Refusal>
     requires { groups_at objects.now materials.now ≤ length names.now }
-    ensures { result ≡ answered (text_asked text names.now objects.now materials.now) }
+    ensures { result ≡ answered (text_asked question names.now objects.now materials.now) }
 {
     let n = objects.len() / 5;
-    match judge_names(names, 0, objects, 5, n, text) {
-        Err(r) => Err(r),
-        Ok(()) => {
-            let first = sum(objects, 5, 0, 0, n, ANY);
-            judge_names(names, first, materials, 1, materials.len(), text)
-        }
-    }
+    judge_names(names, 0, objects, 5, n, question)?;
+    let first = sum(objects, 5, 0, 0, n, ANY);
+    judge_names(names, first, materials, 1, materials.len(), question)
 }
 
 // 29: likewise.
@@ -40,45 +42,43 @@ fn judge_same(names: &[u8], objects: &[u32], materials: &[u32]) -> Result<(), Re
     ensures { result ≡ answered (same_asked names.now objects.now materials.now) }
 {
     let n = objects.len() / 5;
-    match judge_differ(names, 0, objects, 5, n) {
-        Err(r) => Err(r),
-        Ok(()) => {
-            let first = sum(objects, 5, 0, 0, n, ANY);
-            judge_differ(names, first, materials, 1, materials.len())
-        }
-    }
+    judge_differ(names, 0, objects, 5, n)?;
+    let first = sum(objects, 5, 0, 0, n, ANY);
+    judge_differ(names, first, materials, 1, materials.len())
 }
 
 // 30.
-fn judge_materials(names: &[u8], objects: &[u32], materials: &[u32], groups: &[u32]) -> Result<(), Refusal>
+fn judge_materials(
+    names: &[u8],
+    objects: &[u32],
+    materials: &[u32],
+    groups: &[u32],
+) -> Result<(), Refusal>
     requires { groups_at objects.now materials.now + sum_to 2 0 groups.now (length groups.now / 2) ≤ length names.now }
     ensures { result ≡ answered (material_asked names.now objects.now materials.now groups.now) }
 {
     let first = sum(objects, 5, 0, 0, objects.len() / 5, ANY);
     let from = first + sum(materials, 1, 0, 0, materials.len(), ANY);
-    let n = groups.len() / 2;
-    let group = first_unnamed(names, first, materials, from, groups, n);
-    if group < n {
-        return Err(Refusal::NoMaterial(group));
+    match first_unnamed(names, first, materials, from, groups, groups.len() / 2) {
+        Some(group) => Err(Refusal::NoMaterial(group)),
+        None => Ok(()),
     }
-    Ok(())
 }
 
 // All that is asked of names.
-fn judge_all_names(names: &[u8], objects: &[u32], materials: &[u32], groups: &[u32]) -> Result<(), Refusal>
+fn judge_all_names(
+    names: &[u8],
+    objects: &[u32],
+    materials: &[u32],
+    groups: &[u32],
+) -> Result<(), Refusal>
     requires { groups_at objects.now materials.now + sum_to 2 0 groups.now (length groups.now / 2) ≤ length names.now }
     ensures { result ≡ answered (names_asked names.now objects.now materials.now groups.now) }
 {
-    match judge_text(names, objects, materials, false) {
-        Err(r) => Err(r),
-        Ok(()) => match judge_text(names, objects, materials, true) {
-            Err(r) => Err(r),
-            Ok(()) => match judge_same(names, objects, materials) {
-                Err(r) => Err(r),
-                Ok(()) => judge_materials(names, objects, materials, groups),
-            },
-        },
-    }
+    judge_text(names, objects, materials, Question::Zero)?;
+    judge_text(names, objects, materials, Question::Label)?;
+    judge_same(names, objects, materials)?;
+    judge_materials(names, objects, materials, groups)
 }
 
 // 13, 11, 12 of all objects.
@@ -97,17 +97,18 @@ fn judge_all_objects(
         faces.now) }
 {
     let n = objects.len() / 5;
-    match judge_counts(objects, groups, n) {
-        Err(r) => Err(r),
-        Ok(()) => match judge_floats(objects, vertices, n) {
-            Err(r) => Err(r),
-            Ok(()) => judge_indices(objects, corners, groups, faces, n),
-        },
-    }
+    judge_counts(objects, groups, n)?;
+    judge_floats(objects, vertices, n)?;
+    judge_indices(objects, corners, groups, faces, n)
 }
 
 // 1 and 15, or the size.
-fn judge_size(objects: &[u32], groups: &[u32], materials: &[u32], room: usize) -> Result<usize, Refusal>
+fn judge_size(
+    objects: &[u32],
+    groups: &[u32],
+    materials: &[u32],
+    room: usize,
+) -> Result<usize, Refusal>
     requires { (2 * sum_to 5 4 objects.now (length objects.now / 5) ≤ length groups.now) ×
         (sum_to 1 0 materials.now (length materials.now) < 9223372036854775808) }
     ensures { result ≡ size_answer (size_of_rows objects.now groups.now materials.now) room }
@@ -127,31 +128,17 @@ fn judge_size(objects: &[u32], groups: &[u32], materials: &[u32], room: usize) -
 }
 
 // The answer for a buffer of `room` bytes.
-pub fn judge_figure(
-    names: &[u8],
-    objects: &[u32],
-    vertices: &[f32],
-    corners: &[u16],
-    smoothing: &[u32],
-    groups: &[u32],
-    faces: &[u16],
-    materials: &[u32],
-    colours: &[u8],
-    room: usize,
-) -> Result<usize, Refusal>
-    ensures { result ≡ judged_flat (flat names.now objects.now vertices.now corners.now smoothing.now
-        groups.now faces.now materials.now colours.now) room }
+pub fn judge_figure(rows: &FlatRows, room: usize) -> Result<usize, Refusal>
+    ensures { result ≡ judged_flat (given rows.now) room }
 {
-    match fits(
-        names, objects, vertices, corners, smoothing, groups, faces, materials, colours,
-    ) {
-        Err(r) => Err(r),
-        Ok(()) => match judge_all_names(names, objects, materials, groups) {
-            Err(r) => Err(r),
-            Ok(()) => match judge_all_objects(objects, vertices, corners, groups, faces) {
-                Err(r) => Err(r),
-                Ok(()) => judge_size(objects, groups, materials, room),
-            },
-        },
-    }
+    rows.fits()?;
+    judge_all_names(rows.names, rows.objects, rows.materials, rows.groups)?;
+    judge_all_objects(
+        rows.objects,
+        rows.vertices,
+        rows.corners,
+        rows.groups,
+        rows.faces,
+    )?;
+    judge_size(rows.objects, rows.groups, rows.materials, room)
 }

@@ -1,22 +1,29 @@
 -- The names of flat rows: what is asked of each, and of all of them.
 use Rattle.shared_words.specs.declared.Refusal.{Refusal}
-use Rattle.std.specs.Prelude.{◌≡◌, ℕ, ◌*◌, ◌<◌, ◌≤◌, Bool, true, false, cond, List, [], ltb, length, Result, Ok, Err}
+use Rattle.std.specs.Prelude.{◌≡◌, ℕ, ◌+◌, ◌*◌, ◌<◌, ◌≤◌, Bool, cond, List, [], ltb, length, IfSome, Result, Ok, Err}
+use Rattle.std.specs.Option.{unwrap_or}
 use Rattle.shared_words.specs.declared.Refusal.TheVariants.{SameName}
 use Rattle.shared_words.specs.Lists.{first_fault}
 use Rattle.shared_words.specs.Conditions.{Condition, answered}
 use Rattle.shared_name_tree.specs.Names.{name_of, held, Holds}
 use Rattle.studio_figure_rules.specs.Judged.{without_zero, is_label, one_of, differ}
-use Rattle.studio_figure_rows.specs.Rows.{run, name_at}
+use Rattle.studio_figure_rows.specs.Rows.{run, part, name_at}
 use Rattle.studio_figure_names.specs.declared.Told.{Told}
+use Rattle.studio_figure_names.specs.declared.Question.{Question}
+use Rattle.studio_figure_names.specs.declared.Question.TheVariants.{Zero, Label}
 
 -- the first n names of a row of things of k numbers, where the first name begins at a position
 abbrev pub names_in : ℕ → List ℕ → List ℕ → ℕ → ℕ → List (List ℕ)
 names_in k row names from n = run (name_at k row names from) 0 n
 
--- 9, or 24 where `text` is asked for
-abbrev pub name_asked : Bool → List ℕ → List Condition
-name_asked false name = without_zero name
-name_asked true name = is_label name
+-- 9, or 24
+abbrev pub name_asked : Question → List ℕ → List Condition
+name_asked Zero name = without_zero name
+name_asked Label name = is_label name
+
+-- what a closure answers at a position and a length, up to an end, tells whether the name there is good
+abbrev pub Tells : (ℕ → ℕ → Bool → Type 0) → ℕ → List ℕ → (List ℕ → Bool) → Type 0
+Tells answer end names good = (at len : ℕ) (b : Bool) → at + len ≤ end → answer at len b → b ≡ good (part at len names)
 
 -- ---- what is asked of names, and of groups against them
 
@@ -27,9 +34,12 @@ repeated_answer r n = cond (ltb r n) (Err (SameName r)) (Ok tt)
 abbrev pub Repeated : (ℕ → List ℕ) → ℕ → ℕ → Type 0
 Repeated name n r = repeated_answer r n ≡ answered (differ [] (run name 0 n))
 
-pub record ToldOf (name : ℕ → List ℕ) (n : ℕ) (groups : List (List ℕ)) (told : Told) : Type 0 where
-  pub differ : Repeated name n told.repeated
-  pub named : told.unnamed ≡ first_fault (one_of (run name 0 n)) groups
+-- where code names none, the definitions count all
+pub record ToldOf (name : ℕ → List ℕ) (n : ℕ) (groups : List (List ℕ)) (m : ℕ) (told : Told) : Type 0 where
+  pub differ : Repeated name n (unwrap_or told.repeated n)
+  pub differ_within : IfSome told.repeated (λ i. i < n)
+  pub named : unwrap_or told.unnamed m ≡ first_fault (one_of (run name 0 n)) groups
+  pub named_within : IfSome told.unnamed (λ i. i < m)
 
 -- ---- names in a tree
 

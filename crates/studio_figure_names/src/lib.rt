@@ -2,14 +2,14 @@
 // material's.
 #![tactic(auto)]
 
-ghost use Rattle.std.specs.Prelude.{◌≡◌, true, ◌+◌, ◌*◌, ◌<◌, ◌≤◌, [], length};
+ghost use Rattle.std.specs.Prelude.{◌≡◌, ℕ, Bool, true, List, ◌+◌, ◌*◌, ◌<◌, ◌≤◌, [], length, IfSome};
+ghost use Rattle.std.specs.Option.{unwrap_or};
 ghost use Rattle.shared_words.specs.Conditions.{answered};
 ghost use Rattle.shared_words.specs.Lists.{first_fault};
-ghost use Rattle.shared_name_tree.specs.Names.{name_of, held, Holds};
 ghost use Rattle.studio_figure_rules.specs.Given.{over};
 ghost use Rattle.studio_figure_rules.specs.Judged.{one_of, differ};
 ghost use Rattle.studio_figure_rows.specs.Rows.{sum_to, part, name_at};
-ghost use Rattle.studio_figure_names.specs.Names.{names_in, name_asked, repeated_answer, Repeated, Blank, Gathered, ToldOf};
+ghost use Rattle.studio_figure_names.specs.Names.{names_in, name_asked, Tells, Repeated, Blank, Gathered, ToldOf};
 
 use shared_labels::label_size;
 use shared_name_tree::{add, find};
@@ -21,22 +21,35 @@ use studio_write_judge::first_zero;
 // So many names are quicker compared with each other than put into a tree.
 const FEW: usize = 32;
 
-// Whether a name has a zero, or with `text` does not fit the label.
-fn judge_name(name: &[u8], text: bool) -> Result<(), Refusal>
-    ensures { result ≡ answered (name_asked text name.now) }
+// What is asked of each name.
+#[derive(Clone, Copy)]
+pub enum Question {
+    // Whether it has a zero.
+    Zero,
+    // Whether it fits the label.
+    Label,
+}
+
+// The answer for one name.
+fn judge_name(name: &[u8], question: Question) -> Result<(), Refusal>
+    ensures { result ≡ answered (name_asked question name.now) }
 {
-    if text {
-        let taken = label_size(name, 0, name.len());
-        if taken < name.len() {
-            return Err(Refusal::Text(taken));
+    match question {
+        Question::Zero => {
+            let zero = first_zero(name);
+            if zero < name.len() {
+                return Err(Refusal::Name(zero));
+            }
+            Ok(())
         }
-        return Ok(());
+        Question::Label => {
+            let taken = label_size(name, 0, name.len());
+            if taken < name.len() {
+                return Err(Refusal::Text(taken));
+            }
+            Ok(())
+        }
     }
-    let zero = first_zero(name);
-    if zero < name.len() {
-        return Err(Refusal::Name(zero));
-    }
-    Ok(())
 }
 
 // That of the first n names of a row of things of `width` numbers, where the first name begins at `from`.
@@ -46,24 +59,16 @@ pub fn judge_names(
     row: &[u32],
     width: usize,
     n: usize,
-    text: bool,
+    question: Question,
 ) -> Result<(), Refusal>
     requires { (0 < width) × (width * n ≤ length row.now) × (from + sum_to width 0 row.now n ≤ length names.now) }
-    ensures { result ≡ answered (over (name_asked text) (names_in width row.now names.now from n)) }
+    ensures { result ≡ answered (over (name_asked question) (names_in width row.now names.now from n)) }
 {
     let mut at = from;
-    let mut i = 0usize;
-    while i < n {
+    for i in 0..n {
         let end = at + number(row, width, 0, i);
-        match judge_name(&names[at..end], text) {
-            Err(r) => {
-                return Err(r);
-            }
-            Ok(()) => {
-                at = end;
-                i += 1;
-            }
-        }
+        judge_name(&names[at..end], question)?;
+        at = end;
     }
     Ok(())
 }
@@ -82,37 +87,58 @@ fn is_one_of(
     ensures { result ≡ one_of (names_in width row.now names.now from n) (part at len names.now) }
 {
     let mut next = from;
-    let mut i = 0usize;
-    while i < n {
+    for i in 0..n {
         let its = number(row, width, 0, i);
         if same_name(names, next, its, at, len) {
             return true;
         }
         next += its;
-        i += 1;
     }
     false
 }
 
-// The first of the n names that is among those before it, or n.
-fn first_repeated(names: &[u8], from: usize, row: &[u32], width: usize, n: usize) -> usize
+// The first of the n names that is among those before it.
+fn first_repeated(names: &[u8], from: usize, row: &[u32], width: usize, n: usize) -> Option<usize>
     requires { (0 < width) × (width * n ≤ length row.now) × (from + sum_to width 0 row.now n ≤ length names.now) }
-    ensures { Repeated (name_at width row.now names.now from) n result }
+    ensures is { Repeated (name_at width row.now names.now from) n (unwrap_or result n) }
+    ensures within { IfSome result (λ i. i < n) }
 {
     let mut at = from;
-    let mut i = 0usize;
-    while i < n {
+    for i in 0..n {
         let len = number(row, width, 0, i);
         if is_one_of(names, from, row, width, i, at, len) {
-            return i;
+            return Some(i);
         }
         at += len;
-        i += 1;
     }
-    i
+    None
 }
 
-// The first of n groups whose name is none of the `count` names of a row, or n.
+// The first of n groups that a test does not hold of: it is given where a name begins and its length, and its caller has the names.
+fn first_group<F: Fn(usize, usize) -> bool>(
+    from: usize,
+    groups: &[u32],
+    n: usize,
+    is_good: F,
+) -> Option<usize>
+    requires callable { (at len : ℕ) → at + len ≤ from + sum_to 2 0 groups.now n → F.pre is_good at len }
+    requires n_in_bounds { (2 * n ≤ length groups.now) × (from + sum_to 2 0 groups.now n < 18446744073709551616) }
+    ensures is { (names : List ℕ) (good : List ℕ → Bool) → Tells (F.post is_good) (from + sum_to 2 0 groups.now n) names good →
+        unwrap_or result n ≡ first_fault good (names_in 2 groups.now names from n) }
+    ensures within { IfSome result (λ i. i < n) }
+{
+    let mut at = from;
+    for i in 0..n {
+        let len = number(groups, 2, 0, i);
+        if !is_good(at, len) {
+            return Some(i);
+        }
+        at += len;
+    }
+    None
+}
+
+// The first of n groups whose name is none of the `count` names of a row.
 fn first_other(
     names: &[u8],
     first: usize,
@@ -122,23 +148,19 @@ fn first_other(
     from: usize,
     groups: &[u32],
     n: usize,
-) -> usize
+) -> Option<usize>
     requires width_nonzero { (0 < width) × (width * count ≤ length row.now) × (first + sum_to width 0 row.now count ≤ length names.now) }
     requires n_in_bounds { (2 * n ≤ length groups.now) × (from + sum_to 2 0 groups.now n ≤ length names.now) }
-    ensures { result ≡ first_fault (one_of (names_in width row.now names.now first count))
+    ensures is { unwrap_or result n ≡ first_fault (one_of (names_in width row.now names.now first count))
         (names_in 2 groups.now names.now from n) }
+    ensures within { IfSome result (λ i. i < n) }
 {
-    let mut at = from;
-    let mut i = 0usize;
-    while i < n {
-        let len = number(groups, 2, 0, i);
-        if !is_one_of(names, first, row, width, count, at, len) {
-            return i;
-        }
-        at += len;
-        i += 1;
-    }
-    i
+    first_group(
+        from,
+        groups,
+        n,
+        |at, len| is_one_of(names, first, row, width, count, at, len),
+    )
 }
 
 // ---- the same, with a tree of the names
@@ -157,50 +179,22 @@ fn gather(
     ensures { Gathered names.now (name_at width row.now names.now from) n result nodes.new }
 {
     let mut at = from;
-    let mut i = 0usize;
-    while i < n {
+    for i in 0..n {
         let len = number(row, width, 0, i);
         if !add(names, nodes, i, at, len) {
             return i;
         }
         at += len;
-        i += 1;
     }
-    i
-}
-
-// The first of n groups whose name is not in a tree of `count` names, or n.
-fn first_absent(
-    names: &[u8],
-    nodes: &[u32],
-    count: usize,
-    from: usize,
-    groups: &[u32],
-    n: usize,
-) -> usize
-    requires { Holds names.now nodes.now count × (2 * n ≤ length groups.now) × (from + sum_to 2 0 groups.now n ≤ length names.now) }
-    ensures { result ≡ first_fault (held (name_of names.now nodes.now) count)
-        (names_in 2 groups.now names.now from n) }
-{
-    let mut at = from;
-    let mut i = 0usize;
-    while i < n {
-        let len = number(groups, 2, 0, i);
-        if !find(names, nodes, count, at, len) {
-            return i;
-        }
-        at += len;
-        i += 1;
-    }
-    i
+    n
 }
 
 // What is asked of `count` names, and of n groups against them: the first name that is among those before it, and the first group
-// whose name is none of them; or how many there are.
+// whose name is none of them.
 #[derive(Clone, Copy)]
 struct Told {
-    repeated: usize,
-    unnamed: usize,
+    repeated: Option<usize>,
+    unnamed: Option<usize>,
 }
 
 // That, with a row for a tree of the names.
@@ -219,25 +213,33 @@ fn tell_with(
     requires n_in_bounds { (2 * n ≤ length groups.now) × (from + sum_to 2 0 groups.now n ≤ length names.now) }
     requires blank { Blank names.now nodes.old count }
     ensures { ToldOf (name_at width row.now names.now first) count
-        (names_in 2 groups.now names.now from n) result }
+        (names_in 2 groups.now names.now from n) n result }
 {
-    let repeated = gather(names, first, row, width, count, nodes);
-    if repeated < count {
+    let gathered = gather(names, first, row, width, count, nodes);
+    if gathered < count {
         let unnamed = first_other(names, first, row, width, count, from, groups, n);
-        return Told { repeated, unnamed };
+        return Told {
+            repeated: Some(gathered),
+            unnamed,
+        };
     }
-    let unnamed = first_absent(names, nodes, repeated, from, groups, n);
-    Told { repeated, unnamed }
+    let unnamed = first_group(
+        from,
+        groups,
+        n,
+        |at, len| find(names, nodes, gathered, at, len),
+    );
+    Told {
+        repeated: None,
+        unnamed,
+    }
 }
 
 // Whether a tree may hold so many names: no figure of 1,048,576 bytes has more, and a number of the row holds where each begins.
 fn is_for_tree(names: &[u8], count: usize) -> bool
     ensures { result ≡ true → (count ≤ 36864) × (length names.now < 4294967296) }
 {
-    if 36864 < count {
-        return false;
-    }
-    names.len() < 4294967296
+    count <= 36864 && names.len() < 4294967296
 }
 
 // That, for any names: those that are not for a tree are compared with each other. Where there are not many, a short row is enough,
@@ -255,7 +257,7 @@ fn tell(
     requires width_nonzero { (0 < width) × (width * count ≤ length row.now) × (first + sum_to width 0 row.now count ≤ length names.now) }
     requires n_in_bounds { (2 * n ≤ length groups.now) × (from + sum_to 2 0 groups.now n ≤ length names.now) }
     ensures { ToldOf (name_at width row.now names.now first) count
-        (names_in 2 groups.now names.now from n) result }
+        (names_in 2 groups.now names.now from n) n result }
 {
     if !is_for_tree(names, count) {
         let repeated = first_repeated(names, first, row, width, count);
@@ -270,29 +272,29 @@ fn tell(
     tell_with(names, first, row, width, count, from, groups, n, &mut nodes)
 }
 
-// The answer by the first name that is among those before it.
-fn answer(repeated: usize, n: usize) -> Result<(), Refusal>
-    ensures { result ≡ repeated_answer repeated n }
-{
-    if repeated < n {
-        return Err(Refusal::SameName(repeated));
-    }
-    Ok(())
-}
-
 // The first of the n names that an earlier one has too. A few are compared with each other.
-pub fn judge_differ(names: &[u8], from: usize, row: &[u32], width: usize, n: usize) -> Result<(), Refusal>
+pub fn judge_differ(
+    names: &[u8],
+    from: usize,
+    row: &[u32],
+    width: usize,
+    n: usize,
+) -> Result<(), Refusal>
     requires { (0 < width) × (width * n ≤ length row.now) × (from + sum_to width 0 row.now n ≤ length names.now) }
     ensures { result ≡ answered (differ [] (names_in width row.now names.now from n)) }
 {
-    if n <= FEW {
-        return answer(first_repeated(names, from, row, width, n), n);
+    let repeated = if n <= FEW {
+        first_repeated(names, from, row, width, n)
+    } else {
+        tell(names, from, row, width, n, 0, row, 0).repeated
+    };
+    match repeated {
+        Some(name) => Err(Refusal::SameName(name)),
+        None => Ok(()),
     }
-    let told = tell(names, from, row, width, n, 0, row, 0);
-    answer(told.repeated, n)
 }
 
-// The first of n groups whose name no material has; where each has one, n.
+// The first of n groups whose name no material has.
 pub fn first_unnamed(
     names: &[u8],
     first: usize,
@@ -300,16 +302,16 @@ pub fn first_unnamed(
     from: usize,
     groups: &[u32],
     n: usize,
-) -> usize
+) -> Option<usize>
     requires { (first + sum_to 1 0 materials.now (length materials.now) ≤ length names.now) × (2 * n ≤ length groups.now) ×
         (from + sum_to 2 0 groups.now n ≤ length names.now) }
-    ensures { result ≡ first_fault (one_of (names_in 1 materials.now names.now first (length materials.now)))
+    ensures is { unwrap_or result n ≡ first_fault (one_of (names_in 1 materials.now names.now first (length materials.now)))
         (names_in 2 groups.now names.now from n) }
+    ensures within { IfSome result (λ i. i < n) }
 {
     let count = materials.len();
     if count <= FEW {
         return first_other(names, first, materials, 1, count, from, groups, n);
     }
-    let told = tell(names, first, materials, 1, count, from, groups, n);
-    told.unnamed
+    tell(names, first, materials, 1, count, from, groups, n).unnamed
 }

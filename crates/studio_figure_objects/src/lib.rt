@@ -14,10 +14,11 @@ use shared_words::Refusal;
 use studio_figure_rows::{number, sum};
 use studio_write_judge::{all_below, all_finite, first_not_below, first_not_finite, whole_row};
 
-// The longest file, and more than any sum of lengths of rows.
+// The longest file.
 const LIMIT: usize = 1048576;
 
-const ANY: usize = 0x7FFF_FFFF_FFFF_FFFF;
+// More than any sum of lengths of rows: a cap for `sum` that caps nothing.
+pub const ANY: usize = 0x7FFF_FFFF_FFFF_FFFF;
 
 // ---- 13
 
@@ -26,13 +27,11 @@ fn judge_group_counts(groups: &[u32], first: usize, n: usize) -> Result<(), Refu
     requires { 2 * (first + n) ≤ length groups.now }
     ensures { result ≡ answered (group_counts groups.now first n) }
 {
-    let mut i = 0usize;
-    while i < n {
+    for i in 0..n {
         let faces = number(groups, 2, 1, first + i);
         if 65535 < faces {
             return Err(Refusal::Count(faces));
         }
-        i += 1;
     }
     Ok(())
 }
@@ -45,7 +44,12 @@ fn none_or_each(words: usize, faces: usize) -> bool
 }
 
 // The counts of object i, whose first group is of number `group`.
-fn judge_object_counts(objects: &[u32], groups: &[u32], i: usize, group: usize) -> Result<(), Refusal>
+fn judge_object_counts(
+    objects: &[u32],
+    groups: &[u32],
+    i: usize,
+    group: usize,
+) -> Result<(), Refusal>
     requires { (5 * i + 5 ≤ length objects.now) × (group ≡ sum_to 5 4 objects.now i) × (2 * (group + entry 5 4 objects.now i) ≤ length groups.now) }
     ensures { result ≡ answered (counts objects.now groups.now i) }
 {
@@ -70,17 +74,9 @@ pub fn judge_counts(objects: &[u32], groups: &[u32], n: usize) -> Result<(), Ref
     ensures { result ≡ answered (over (counts objects.now groups.now) (run (λ i. i) 0 n)) }
 {
     let mut group = 0usize;
-    let mut i = 0usize;
-    while i < n {
-        match judge_object_counts(objects, groups, i, group) {
-            Err(r) => {
-                return Err(r);
-            }
-            Ok(()) => {
-                group += number(objects, 5, 4, i);
-                i += 1;
-            }
-        }
+    for i in 0..n {
+        judge_object_counts(objects, groups, i, group)?;
+        group += number(objects, 5, 4, i);
     }
     Ok(())
 }
@@ -103,18 +99,10 @@ pub fn judge_floats(objects: &[u32], vertices: &[f32], n: usize) -> Result<(), R
     ensures { result ≡ answered (over (floats objects.now vertices.now) (run (λ i. i) 0 n)) }
 {
     let mut at = 0usize;
-    let mut i = 0usize;
-    while i < n {
+    for i in 0..n {
         let end = at + number(objects, 5, 1, i);
-        match judge_finite(&vertices[at..end]) {
-            Err(r) => {
-                return Err(r);
-            }
-            Ok(()) => {
-                at = end;
-                i += 1;
-            }
-        }
+        judge_finite(&vertices[at..end])?;
+        at = end;
     }
     Ok(())
 }
@@ -151,18 +139,10 @@ fn judge_group_indices(
     ensures { result ≡ answered (group_indices groups.now faces.now f first n) }
 {
     let mut at = start;
-    let mut i = 0usize;
-    while i < n {
+    for i in 0..n {
         let end = at + number(groups, 2, 1, first + i);
-        match judge_below(f, &faces[at..end]) {
-            Err(r) => {
-                return Err(r);
-            }
-            Ok(()) => {
-                at = end;
-                i += 1;
-            }
-        }
+        judge_below(f, &faces[at..end])?;
+        at = end;
     }
     Ok(())
 }
@@ -185,17 +165,9 @@ fn judge_object_indices(
 {
     let count = number(objects, 5, 2, i);
     let end = at + count;
-    match judge_below(number(objects, 5, 1, i) / 3, &corners[at..end]) {
-        Err(r) => Err(r),
-        Ok(()) => judge_group_indices(
-            groups,
-            faces,
-            count / 3,
-            group,
-            number(objects, 5, 4, i),
-            face,
-        ),
-    }
+    judge_below(number(objects, 5, 1, i) / 3, &corners[at..end])?;
+    let n = number(objects, 5, 4, i);
+    judge_group_indices(groups, faces, count / 3, group, n, face)
 }
 
 // Those of n objects.
@@ -214,20 +186,12 @@ pub fn judge_indices(
     let mut at = 0usize;
     let mut group = 0usize;
     let mut face = 0usize;
-    let mut i = 0usize;
-    while i < n {
-        match judge_object_indices(objects, corners, groups, faces, i, at, group, face) {
-            Err(r) => {
-                return Err(r);
-            }
-            Ok(()) => {
-                at += number(objects, 5, 2, i);
-                let next = group + number(objects, 5, 4, i);
-                face += sum(groups, 2, 1, group, next, ANY);
-                group = next;
-                i += 1;
-            }
-        }
+    for i in 0..n {
+        judge_object_indices(objects, corners, groups, faces, i, at, group, face)?;
+        at += number(objects, 5, 2, i);
+        let next = group + number(objects, 5, 4, i);
+        face += sum(groups, 2, 1, group, next, ANY);
+        group = next;
     }
     Ok(())
 }
@@ -245,7 +209,7 @@ fn smoothing_size(words: usize) -> usize
     6 + 4 * words
 }
 
-// The size of object i, as far as it matters.
+// The size of object i, as far as it matters. (A number and no Option: put_object, whose figure is judged, would get a branch that is never taken.)
 pub fn object_size(objects: &[u32], groups: &[u32], i: usize, group: usize) -> usize
     requires { (5 * i + 5 ≤ length objects.now) × (group ≡ sum_to 5 4 objects.now i) × (2 * (group + entry 5 4 objects.now i) ≤ length groups.now) }
     ensures { Capped 0 (object_bytes objects.now groups.now i) 1048576 result × (result ≤ 1048577) }
@@ -293,14 +257,12 @@ pub fn objects_size(objects: &[u32], groups: &[u32], n: usize, first: usize) -> 
 {
     let mut size = first;
     let mut group = 0usize;
-    let mut i = 0usize;
-    while i < n {
+    for i in 0..n {
         if LIMIT < size {
             return size;
         }
         size += object_size(objects, groups, i, group);
         group += number(objects, 5, 4, i);
-        i += 1;
     }
     size
 }

@@ -3,3 +3,4 @@ pub mod Answers
 pub mod Apart
 pub mod Same
 pub mod Fitting
+pub mod Floats

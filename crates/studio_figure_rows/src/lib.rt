@@ -2,13 +2,12 @@
 #![tactic(auto)]
 
 ghost use Rattle.std.specs.Prelude.{◌≡◌, ◌+◌, ◌*◌, ◌/◌, ◌<◌, ◌≤◌, eqb, length};
-ghost use Rattle.shared_words.specs.Conditions.{answered};
-ghost use Rattle.studio_figure_rows.specs.Rows.{flat, entry, sum_to, names_length, Capped};
-ghost use Rattle.studio_figure_rules.specs.Described.{fit_conditions};
+ghost use Rattle.studio_figure_rows.specs.Rows.{entry, sum_to, names_length, Capped};
+ghost use Rattle.studio_write.specs.ReadsBack.{Floats32};
 
 use shared_words::Refusal;
 
-// Number `column` of thing i, where each has `width` numbers.
+// Number `column` of thing i, where each has `width` numbers: the rows are flat as C gives them to tds_write_figure.
 pub fn number(row: &[u32], width: usize, column: usize, i: usize) -> usize
     requires { (column < width) × (width * i + width ≤ length row.now) }
     ensures { (result ≡ entry width column row.now i) × (result < 4294967296) }
@@ -22,13 +21,11 @@ pub fn sum(row: &[u32], width: usize, column: usize, from: usize, to: usize, cap
     ensures { Capped (sum_to width column row.now from) (sum_to width column row.now to) cap result }
 {
     let mut sum = 0usize;
-    let mut i = from;
-    while i < to {
+    for i in from..to {
         if cap < sum {
             return sum;
         }
         sum += number(row, width, column, i);
-        i += 1;
     }
     sum
 }
@@ -62,61 +59,75 @@ fn names_add_up(len: usize, objects: &[u32], materials: &[u32], groups: &[u32]) 
 fn groups_add_up(objects: &[u32], groups: &[u32]) -> bool
     ensures { result ≡ eqb (length groups.now) (2 * sum_to 5 4 objects.now (length objects.now / 5)) }
 {
-    if groups.len() % 2 != 0 {
-        return false;
-    }
-    adds_up(objects, 5, 4, objects.len() / 5, groups.len() / 2)
+    groups.len() % 2 == 0 && adds_up(objects, 5, 4, objects.len() / 5, groups.len() / 2)
 }
 
 // Whether there are nine bytes for each of n materials.
 fn colours_add_up(colours: usize, n: usize) -> bool
     ensures { result ≡ eqb colours (9 * n) }
 {
-    if colours % 9 != 0 {
-        return false;
-    }
-    colours / 9 == n
+    colours % 9 == 0 && colours / 9 == n
 }
 
-// The first row, in the order of the description, whose length is not what it says.
-pub fn fits(
-    names: &[u8],
-    objects: &[u32],
-    vertices: &[f32],
-    corners: &[u16],
-    smoothing: &[u32],
-    groups: &[u32],
-    faces: &[u16],
-    materials: &[u32],
-    colours: &[u8],
-) -> Result<(), Refusal>
-    ensures { result ≡ answered (fit_conditions (flat names.now objects.now vertices.now corners.now smoothing.now
-        groups.now faces.now materials.now colours.now)) }
-{
-    if objects.len() % 5 != 0 {
-        return Err(Refusal::Count(objects.len()));
+// A figure as flat rows, where those of several objects, groups or materials stand one after another.
+#[derive(Clone, Copy)]
+pub struct FlatRows<'a> {
+    // Of the objects, of the materials, of the groups.
+    pub names: &'a [u8],
+    // Five numbers an object: bytes of its name, floats, corners, smoothing words, groups.
+    pub objects: &'a [u32],
+    pub vertices: &'a [f32],
+    pub corners: &'a [u16],
+    pub smoothing: &'a [u32],
+    // Two numbers a group, in the order of the objects: bytes of its name, face numbers.
+    pub groups: &'a [u32],
+    pub faces: &'a [u16],
+    // One number a material: bytes of its name.
+    pub materials: &'a [u32],
+    // Nine bytes a material: ambient, diffuse, specular.
+    pub colours: &'a [u8],
+    // What the types say of any rows.
+    ghost floats: { Floats32 vertices.now },
+    ghost lengths: { (length names.now < 9223372036854775808) × (length vertices.now < 9223372036854775808) × (length corners.now < 9223372036854775808) ×
+        (length smoothing.now < 9223372036854775808) × (length faces.now < 9223372036854775808) },
+}
+
+impl<'a> FlatRows<'a> {
+    ghost use Rattle.shared_words.specs.Conditions.{answered};
+    ghost use Rattle.studio_figure_rows.specs.Given.{given};
+    ghost use Rattle.studio_figure_rules.specs.Described.{fit_conditions};
+
+    // The first row, in the order of the description, whose length is not what it says.
+    pub fn fits(&self) -> Result<(), Refusal>
+        ensures { result ≡ answered (fit_conditions (given self.now)) }
+    {
+        let objects = self.objects;
+        let groups = self.groups;
+        if objects.len() % 5 != 0 {
+            return Err(Refusal::Count(objects.len()));
+        }
+        if !groups_add_up(objects, groups) {
+            return Err(Refusal::Count(groups.len()));
+        }
+        if !names_add_up(self.names.len(), objects, self.materials, groups) {
+            return Err(Refusal::Count(self.names.len()));
+        }
+        let n = objects.len() / 5;
+        if !adds_up(objects, 5, 1, n, self.vertices.len()) {
+            return Err(Refusal::Count(self.vertices.len()));
+        }
+        if !adds_up(objects, 5, 2, n, self.corners.len()) {
+            return Err(Refusal::Count(self.corners.len()));
+        }
+        if !adds_up(objects, 5, 3, n, self.smoothing.len()) {
+            return Err(Refusal::Count(self.smoothing.len()));
+        }
+        if !adds_up(groups, 2, 1, groups.len() / 2, self.faces.len()) {
+            return Err(Refusal::Count(self.faces.len()));
+        }
+        if !colours_add_up(self.colours.len(), self.materials.len()) {
+            return Err(Refusal::Count(self.colours.len()));
+        }
+        Ok(())
     }
-    if !groups_add_up(objects, groups) {
-        return Err(Refusal::Count(groups.len()));
-    }
-    if !names_add_up(names.len(), objects, materials, groups) {
-        return Err(Refusal::Count(names.len()));
-    }
-    let n = objects.len() / 5;
-    if !adds_up(objects, 5, 1, n, vertices.len()) {
-        return Err(Refusal::Count(vertices.len()));
-    }
-    if !adds_up(objects, 5, 2, n, corners.len()) {
-        return Err(Refusal::Count(corners.len()));
-    }
-    if !adds_up(objects, 5, 3, n, smoothing.len()) {
-        return Err(Refusal::Count(smoothing.len()));
-    }
-    if !adds_up(groups, 2, 1, groups.len() / 2, faces.len()) {
-        return Err(Refusal::Count(faces.len()));
-    }
-    if !colours_add_up(colours.len(), materials.len()) {
-        return Err(Refusal::Count(colours.len()));
-    }
-    Ok(())
 }

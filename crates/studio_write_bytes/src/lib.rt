@@ -26,15 +26,10 @@ pub fn put_name(name: &[u8], at: usize, out: &mut [u8]) -> usize
     requires { at + length name.now + 1 ≤ length out.old }
     ensures { Put out.old at (name_data name.now) out.new result }
 {
-    let mut next = at;
-    let mut i = 0usize;
-    while i < name.len() {
-        out[next] = name[i];
-        next += 1;
-        i += 1;
-    }
-    out[next] = 0;
-    next + 1
+    let end = at + name.len();
+    out[at..end].copy_from_slice(name);
+    out[end] = 0;
+    end + 1
 }
 
 // Floats, each as its 32 bits. Of a float that is not a number no bits are known.
@@ -44,10 +39,8 @@ fn put_floats(vertices: &[f32], at: usize, out: &mut [u8]) -> usize
     ensures { Put out.old at (packed 4 (map (to_bits binary32) vertices.now)) out.new result }
 {
     let mut next = at;
-    let mut i = 0usize;
-    while i < vertices.len() {
-        next = put_long(f32::to_bits(vertices[i]), next, out);
-        i += 1;
+    for x in vertices {
+        next = put_long(x.to_bits(), next, out);
     }
     next
 }
@@ -70,11 +63,9 @@ pub fn put_faces(corners: &[u16], at: usize, out: &mut [u8]) -> usize
 {
     let f = corners.len() / 3;
     let mut next = at;
-    let mut i = 0usize;
-    while i < f {
+    for i in 0..f {
         let j = 3 * i;
         next = put_face(corners[j], corners[j + 1], corners[j + 2], next, out);
-        i += 1;
     }
     next
 }

@@ -17,14 +17,7 @@ const LONGEST_ROW: usize = 196605;
 pub fn first_zero(name: &[u8]) -> usize
     ensures { result ≡ first_fault not_zero name.now }
 {
-    let mut i = 0usize;
-    while i < name.len() {
-        if name[i] == 0 {
-            return i;
-        }
-        i += 1;
-    }
-    i
+    name.iter().position(|b| *b == 0).unwrap_or(name.len())
 }
 
 // How many bytes of a name a label takes: where it does not fit, the position of its fault.
@@ -41,25 +34,16 @@ pub fn whole_row(n: usize) -> bool
     n % 3 == 0 && n <= LONGEST_ROW
 }
 
-// Whether a float is neither infinite nor not a number.
-fn is_finite(x: f32) -> bool
-    ensures { result ≡ finite_float x }
-{
-    let infinity = f32::from_bits(0x7F80_0000);
-    -infinity < x && x < infinity
-}
-
-// Whether all floats are finite. The loop branches on nothing that it reads, and becomes vector code.
+// Whether all floats are finite. The loop branches on nothing that it reads, and becomes vector code;
+// `all` would stop at the first.
 pub fn all_finite(vertices: &[f32]) -> bool
     ensures { result ≡ every finite_float vertices.now }
 {
     let mut good = true;
-    let mut i = 0usize;
-    while i < vertices.len() {
-        if !is_finite(vertices[i]) {
+    for x in vertices {
+        if !x.is_finite() {
             good = false;
         }
-        i += 1;
     }
     good
 }
@@ -69,12 +53,10 @@ pub fn all_below(n: u16, corners: &[u16]) -> bool
     ensures { result ≡ every (λ c. ltb c n) corners.now }
 {
     let mut good = true;
-    let mut i = 0usize;
-    while i < corners.len() {
-        if n <= corners[i] {
+    for corner in corners {
+        if n <= *corner {
             good = false;
         }
-        i += 1;
     }
     good
 }
@@ -83,28 +65,20 @@ pub fn all_below(n: u16, corners: &[u16]) -> bool
 pub fn first_not_finite(vertices: &[f32]) -> usize
     ensures { result ≡ first_fault finite_float vertices.now }
 {
-    let mut i = 0usize;
-    while i < vertices.len() {
-        if !is_finite(vertices[i]) {
-            return i;
-        }
-        i += 1;
-    }
-    i
+    vertices
+        .iter()
+        .position(|x| !x.is_finite())
+        .unwrap_or(vertices.len())
 }
 
 // The position of the first corner that is not below n; where there is none, the length.
 pub fn first_not_below(n: usize, corners: &[u16]) -> usize
     ensures { result ≡ first_fault (λ c. ltb c n) corners.now }
 {
-    let mut i = 0usize;
-    while i < corners.len() {
-        if n <= corners[i] as usize {
-            return i;
-        }
-        i += 1;
-    }
-    i
+    corners
+        .iter()
+        .position(|corner| n <= *corner as usize)
+        .unwrap_or(corners.len())
 }
 
 // The answer for a buffer of `room` bytes: the first fault in the papers' order, or the size.

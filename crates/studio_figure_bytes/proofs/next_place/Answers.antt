@@ -48,14 +48,12 @@ overflow_add-result-4 c = omega (arith, c.requires.i_bound_2.1, c.number-5.ensur
 pub overflow_add-result-5 : goal.overflow_add-result-5
 overflow_add-result-5 c =
     let c10 = c.before.before.before.before.before.before.before.before.before.before.before in
-    let x = c in
-    omega (arith, x.requires.i_bound_3.0, x.requires.label_bound.0, labels c10)
+    omega (arith, c.requires.i_bound_3.0, c.requires.label_bound.0, labels c10)
 
 pub overflow_add-result-6 : goal.overflow_add-result-6
 overflow_add-result-6 c =
     let c10 = c.before.before.before.before.before.before.before.before.before.before.before in
-    let x = c in
-    omega (arith, x.requires.i_bound_3.1, x.requires.label_bound.1, faces c10)
+    omega (arith, c.requires.i_bound_3.1, c.requires.label_bound.1, faces c10)
 
 pub returns : goal.returns
 returns c =

@@ -1,6 +1,6 @@
 -- `studio_figure_bytes::put_objects` meets its contract: after i turns the first i objects are put.
 use mathlib.Core.Path.{◌≡◌}
-use Prim.Native.Nat.{ℕ, ◌+◌, ◌-◌, ◌≤◌}
+use Prim.Native.Nat.{ℕ, ◌+◌}
 use lib.ListN.{length}
 use Rattle.shared_numbers.specs.Put.{Put}
 use Rattle.studio_figure_rules.specs.Given.{over}
@@ -11,8 +11,5 @@ use Rattle.studio_figure_bytes.specs.Objects.{At, pieces}
 use Rattle.studio_figure_bytes.proofs.put_objects.Given as goal
 
 abbrev pub invariant-loop-i : goal.invariant-loop-i
-invariant-loop-i l = (l.i ≤ l.n) × (length l.out ≡ length l.initial.out) × At l.objects l.groups l.from l.i l.p × (l.next ≡ l.at + total (object_bytes l.objects l.groups) (run (λ (k : ℕ). k) 0 l.i)) × Put l.initial.out l.at
-    (over (pieces l.names l.objects l.vertices l.corners l.smoothing l.groups l.faces l.from) (run (λ (k : ℕ). k) 0 l.i)) l.out l.next
-
-abbrev pub decreases-loop-i : goal.decreases-loop-i
-decreases-loop-i l = l.n - l.i
+invariant-loop-i l = (length l.out ≡ length l.initial.out) × At l.rows.objects.now l.rows.groups.now l.from l.i l.p × (l.next ≡ l.at + total (object_bytes l.rows.objects.now l.rows.groups.now) (run (λ (k : ℕ). k) 0 l.i)) × Put l.initial.out l.at
+    (over (pieces l.rows.names.now l.rows.objects.now l.rows.vertices.now l.rows.corners.now l.rows.smoothing.now l.rows.groups.now l.rows.faces.now l.from) (run (λ (k : ℕ). k) 0 l.i)) l.out l.next

@@ -29,61 +29,51 @@ pub loop-i-init : goal.loop-i-init
 loop-i-init c =
     let a = c.args in
     let z : a.first + 0 ≡ a.first = omega arith in
-    (omega arith, refl, rw z c.requires.n_in_bounds.1, rw z c.requires.n_in_bounds.2, rw z (omega arith), put-none _ _)
+    (refl, rw z c.requires.n_in_bounds.1, rw z c.requires.n_in_bounds.2, rw z (omega arith), put-none _ _)
 
 pub number-requires : goal.number-requires
 number-requires c = (omega arith, omega arith)
 
 pub overflow_add-end : goal.overflow_add-end
 overflow_add-end c =
-    let c2 = c in
-    let x = c in
-    let s = inside x.args.groups.now x.args.first c2.loop-i.i x.args.n (omega arith) in omega (arith, c2.loop-i.invariant.2, c.number.ensures.0)
+    let s = inside c.args.groups.now c.args.first c.loop-i.i c.args.n (omega arith) in omega (arith, c.loop-i.invariant.1, c.number.ensures.0)
 
 pub number-requires-in-loop-i : goal.number-requires-in-loop-i
 number-requires-in-loop-i c = (omega arith, omega arith)
 
 pub overflow_add-last : goal.overflow_add-last
 overflow_add-last c =
-    let c3 = c in
-    let x = c in
-    let s = inside x.args.groups.now x.args.first c3.loop-i.i x.args.n (omega arith) in omega (arith, c3.loop-i.invariant.3, c.number-in-loop-i.ensures.0)
+    let s = inside c.args.groups.now c.args.first c.loop-i.i c.args.n (omega arith) in omega (arith, c.loop-i.invariant.2, c.number-in-loop-i.ensures.0)
 
 pub slice_bounds-put_group-end : goal.slice_bounds-put_group-end
 slice_bounds-put_group-end c =
-    let c3 = c in
-    let x = c in
-    let s = inside x.args.groups.now x.args.first c3.loop-i.i x.args.n (omega arith) in omega (arith, c3.loop-i.invariant.2, c.number.ensures.0)
+    let s = inside c.args.groups.now c.args.first c.loop-i.i c.args.n (omega arith) in omega (arith, c.loop-i.invariant.1, c.number.ensures.0)
 
 pub offset_bounds-faces-place : goal.offset_bounds-faces-place
 offset_bounds-faces-place c =
-    let c4 = c in
-    let x = c in
-    let s = inside x.args.groups.now x.args.first c4.loop-i.i x.args.n (omega arith) in omega (arith, c4.loop-i.invariant.3, c.number-in-loop-i.ensures.0)
+    let s = inside c.args.groups.now c.args.first c.loop-i.i c.args.n (omega arith) in omega (arith, c.loop-i.invariant.2, c.number-in-loop-i.ensures.0)
 
 pub slice_bounds-put_group-end-in-loop-i : goal.slice_bounds-put_group-end-in-loop-i
 slice_bounds-put_group-end-in-loop-i c =
-    let c4 = c in
-    let x = c in
-    let s = inside x.args.groups.now x.args.first c4.loop-i.i x.args.n (omega arith) in omega (arith, c4.loop-i.invariant.3, c.number-in-loop-i.ensures.0)
+    let s = inside c.args.groups.now c.args.first c.loop-i.i c.args.n (omega arith) in omega (arith, c.loop-i.invariant.2, c.number-in-loop-i.ensures.0)
 
 pub put_group-next-requires : goal.put_group-next-requires
 put_group-next-requires c =
     let a = c.args in
     let l = c.loop-i in
     let s = inside a.groups.now a.first l.i a.n (omega arith) in
-    let k = part_length l.label (l.label + c.number.result - l.label) a.names.now (omega (arith, l.invariant.2, c.number.ensures.0)) in
-    let m = part_length l.place (l.place + c.number-in-loop-i.result - l.place) a.faces.now (omega (arith, l.invariant.3, c.number-in-loop-i.ensures.0)) in
+    let k = part_length l.label (l.label + c.number.result - l.label) a.names.now (omega (arith, l.invariant.1, c.number.ensures.0)) in
+    let m = part_length l.place (l.place + c.number-in-loop-i.result - l.place) a.faces.now (omega (arith, l.invariant.2, c.number-in-loop-i.ensures.0)) in
     let few = c.requires.by_index.0 l.i (omega arith) in
-    (omega (arith, c.number-in-loop-i.ensures.0), omega (arith, c.number.ensures.0), omega (arith, l.invariant.4, c.number.ensures.0, c.number-in-loop-i.ensures.0))
+    (omega (arith, c.number-in-loop-i.ensures.0), omega (arith, c.number.ensures.0), omega (arith, l.invariant.3, c.number.ensures.0, c.number-in-loop-i.ensures.0))
 
 pub loop-i-preserved : goal.loop-i-preserved
 loop-i-preserved c =
     let a = c.args in
     let l = c.loop-i in
     let s = inside a.groups.now a.first l.i a.n (omega arith) in
-    let d = part-is a.names.now l.label c.number.result _ _ l.invariant.2 c.number.ensures.0 in
-    let e = part-is a.faces.now l.place c.number-in-loop-i.result _ _ l.invariant.3 c.number-in-loop-i.ensures.0 in
+    let d = part-is a.names.now l.label c.number.result _ _ l.invariant.1 c.number.ensures.0 in
+    let e = part-is a.faces.now l.place c.number-in-loop-i.result _ _ l.invariant.2 c.number-in-loop-i.ensures.0 in
     let p = c.put_group-next in
     let put₁ = subst (λ (name : List ℕ). Put l.out l.next (group_bytes (group_of name (part l.place (l.place + c.number-in-loop-i.result - l.place) a.faces.now))) p.new.out p.result) d p.ensures in
     let put = subst (λ (faces : List ℕ). Put l.out l.next (group_bytes (group_of (name_at 2 a.groups.now a.names.now a.from (a.first + l.i)) faces)) p.new.out p.result) e put₁ in
@@ -94,19 +84,18 @@ loop-i-preserved c =
     let x = sum-next 2 0 a.groups.now (a.first + l.i) in
     let y = sum-next 2 1 a.groups.now (a.first + l.i) in (
       omega arith,
-      omega arith,
-      rw z (omega (arith, l.invariant.2, c.number.ensures.0)),
-      rw z (omega (arith, l.invariant.3, c.number-in-loop-i.ensures.0)),
-      rw z (omega (arith, l.invariant.4, put.ends)),
-      rw (over_last (λ (j : ℕ). group_bytes (group_in a.names.now a.groups.now a.faces.now a.from (a.first + j))) (λ (j : ℕ). j) l.i) (put_then (omega (arith, l.invariant.4)) l.invariant.5 put),
+      rw z (omega (arith, l.invariant.1, c.number.ensures.0)),
+      rw z (omega (arith, l.invariant.2, c.number-in-loop-i.ensures.0)),
+      rw z (omega (arith, l.invariant.3, put.ends)),
+      rw (over_last (λ (j : ℕ). group_bytes (group_in a.names.now a.groups.now a.faces.now a.from (a.first + j))) (λ (j : ℕ). j) l.i) (put_then (omega (arith, l.invariant.3)) l.invariant.4 put),
     )
 
 pub shape_of-out : goal.shape_of-out
-shape_of-out c = c.loop-i.invariant.1
+shape_of-out c = c.loop-i.invariant.0
 
 pub returns : goal.returns
 returns c =
     let a = c.args in
     let l = c.loop-i in
     let e : l.i ≡ a.n = omega arith in
-    rw e at l.invariant.5
+    rw e at l.invariant.4

@@ -9,8 +9,5 @@ use Rattle.studio_figure_chunks.specs.Chunks.{material_bytes, material_in}
 use Rattle.studio_figure_chunks.proofs.put_materials.Given as goal
 
 abbrev pub invariant-loop-i : goal.invariant-loop-i
-invariant-loop-i l = (l.i ≤ length l.materials) × (length l.out ≡ length l.initial.out) × (l.label ≡ l.first + sum_to 1 0 l.materials l.i) × (l.next ≡ l.at + (58 * l.i + sum_to 1 0 l.materials l.i)) × Put l.initial.out l.at
+invariant-loop-i l = (length l.out ≡ length l.initial.out) × (l.label ≡ l.first + sum_to 1 0 l.materials l.i) × (l.next ≡ l.at + (58 * l.i + sum_to 1 0 l.materials l.i)) × Put l.initial.out l.at
     (over material_bytes (run (material_in l.names l.materials l.colours l.first) 0 l.i)) l.out l.next
-
-abbrev pub decreases-loop-i : goal.decreases-loop-i
-decreases-loop-i l = length l.materials - l.i

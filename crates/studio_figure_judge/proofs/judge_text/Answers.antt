@@ -1,4 +1,5 @@
 -- `studio_figure_judge::judge_text` meets its contract: the objects, then the materials.
+use Rattle.std.proofs.lemmas.Result.{err_from_is_err_and}
 use mathlib.Core.Path.{◌≡◌, sym, ap, ◌∙◌}
 use Prim.Native.Nat.{ℕ}
 use native.Mathlib.Omega.{arith}
@@ -9,39 +10,26 @@ use Rattle.studio_figure_rows.proofs.Answers.{front-refused, front-passed}
 use Rattle.studio_figure_rows.proofs.Runs.{capped-under}
 use Rattle.studio_figure_names.specs.Names.{name_asked, names_in}
 use Rattle.studio_figure_judge.specs.Judged.{object_names, materials_at, material_names}
-use Rattle.studio_figure_judge.proofs.judge_text.Lts as lts
-use Rattle.studio_figure_judge.proofs.judge_text.Reads as reads
-use Rattle.studio_figure_judge.proofs.judge_text.Tie as tie
 use Rattle.studio_figure_judge.proofs.judge_text.Goals as goal
 
--- what is known at a place of the code
-abbrev Lts-After-sum-first : Type 0
-Lts-After-sum-first = lts.After-sum tie.the-claims reads.Pre reads.Post
-
--- where the names of the materials begin
-begins : (c : Lts-After-sum-first) → c.sum-first.result ≡ materials_at c.args.objects.now
-begins c = let k = capped-under _ _ _ _ c.sum-first.ensures (omega arith) in omega arith
-
-pub judge_names-requires-in-Ok : goal.judge_names-requires-in-Ok
-judge_names-requires-in-Ok c =
-    let e = begins c.before in
+pub judge_names-requires-2 : goal.judge_names-requires-2
+judge_names-requires-2 c =
+    let k = capped-under _ _ _ _ c.sum-first.ensures (omega arith) in
     (omega arith, omega arith, omega arith)
 
-pub returns-in-Err : goal.returns-in-Err
-returns-in-Err c =
-    let c3 = c in
-    let x = c in
-    let a = x.args in
-    front-refused (over (name_asked a.text) (object_names a.names.now a.objects.now)) (over (name_asked a.text) (material_names a.names.now a.objects.now a.materials.now)) _
-    (sym c.in-Err.is ∙ c3.judge_names.ensures)
+pub returns-in_err-judge_names : goal.returns-in_err-judge_names
+returns-in_err-judge_names c =
+    let a = c.args in
+    let p = err_from_is_err_and c.from_residual.result c.from_residual.ensures.1 in
+    rw (p.1, p.2) (front-refused (over (name_asked a.question) (object_names a.names.now a.objects.now)) (over (name_asked a.question) (material_names a.names.now a.objects.now a.materials.now)) _
+    (sym c.in_err-judge_names.was ∙ c.judge_names.ensures))
 
-pub returns-in-Ok : goal.returns-in-Ok
-returns-in-Ok c =
-    let c2 = c in
-    let c4 = c in
-    let x = c in
-    let a = x.args in
-    let e = ap (λ (k : ℕ). answered (over (name_asked a.text) (names_in 1 a.materials.now a.names.now k (length a.materials.now)))) (begins c.before.before) in
-    c.judge_names-in-Ok.ensures ∙ e ∙
-    front-passed (over (name_asked a.text) (object_names a.names.now a.objects.now)) (over (name_asked a.text) (material_names a.names.now a.objects.now a.materials.now))
-    (sym c2.in-Ok.is ∙ c4.judge_names.ensures)
+pub returns : goal.returns
+returns c =
+    let a = c.args in
+    let k = capped-under _ _ _ _ c.sum-first.ensures (omega arith) in
+    let b : c.sum-first.result ≡ materials_at a.objects.now = omega arith in
+    let e = ap (λ (k : ℕ). answered (over (name_asked a.question) (names_in 1 a.materials.now a.names.now k (length a.materials.now)))) b in
+    c.judge_names-2.ensures ∙ e ∙
+    front-passed (over (name_asked a.question) (object_names a.names.now a.objects.now)) (over (name_asked a.question) (material_names a.names.now a.objects.now a.materials.now))
+    (sym c.in_ok-judge_names.was ∙ c.judge_names.ensures)

@@ -1,4 +1,4 @@
-use Prim.Native.Nat.{◌-◌}
+use mathlib.Core.Path.{◌≡◌}
 use native.Mathlib.Omega.{arith}
 use Rattle.studio_figure_rows.proofs.Runs.{stride, sum-up, sum_inside}
 use Rattle.studio_figure_names.proofs.Differing.{comparing_none, comparing_out, comparing_on, comparing_all}
@@ -24,8 +24,11 @@ pub returns-then-is_one_of : goal.returns-then-is_one_of
 returns-then-is_one_of c =
     let l = c.loop-i in
     let a = c.args in
-    comparing_out a.width a.row.now a.names.now a.from a.n l.at c.number-len.result l.i c.is_one_of.result l.invariant (omega arith)
-    c.number-len.ensures.0 c.is_one_of.ensures c.if-is_one_of.true
+    record {
+      is = comparing_out a.width a.row.now a.names.now a.from a.n l.at c.number-len.result l.i c.is_one_of.result l.invariant (omega arith)
+          c.number-len.ensures.0 c.is_one_of.ensures c.if-is_one_of.true;
+      within = omega arith;
+    }
 
 pub overflow_add-at : goal.overflow_add-at
 overflow_add-at c =
@@ -44,4 +47,5 @@ pub returns : goal.returns
 returns c =
     let l = c.loop-i in
     let a = c.args in
-    comparing_all a.width a.row.now a.names.now a.from a.n l.at l.i l.invariant (omega arith)
+    let e : l.i ≡ a.n = omega arith in
+    record { is = rw e at (comparing_all a.width a.row.now a.names.now a.from a.n l.at l.i l.invariant (omega arith)); within = tt }

@@ -1,10 +1,6 @@
 -- `studio_figure_names::first_repeated` meets its contract: the names that the loop has passed differ.
-use Prim.Native.Nat.{◌-◌}
 use Rattle.studio_figure_names.proofs.Differing.{Comparing}
 use Rattle.studio_figure_names.proofs.first_repeated.Given as goal
 
 abbrev pub invariant-loop-i : goal.invariant-loop-i
 invariant-loop-i l = Comparing l.width l.row l.names l.from l.n l.at l.i
-
-abbrev pub decreases-loop-i : goal.decreases-loop-i
-decreases-loop-i l = l.n - l.i

@@ -1,6 +1,5 @@
-use mathlib.Core.Path.{refl, subst, ◌∙◌}
+use mathlib.Core.Path.{refl, subst, ◌∙◌, ◌≡◌}
 use mathlib.Core.Bool.{Bool}
-use Prim.Native.Nat.{◌-◌}
 use native.Mathlib.Omega.{arith}
 use Rattle.shared_name_tree.specs.Names.{Grown}
 use Rattle.studio_figure_rows.specs.Rows.{part, name_at}
@@ -69,4 +68,5 @@ pub returns : goal.returns
 returns c =
     let l = c.loop-i in
     let a = c.args in
-    gathered-all a.names.now (name_at a.width a.row.now a.names.now a.from) a.n l.nodes l.i (omega arith) l.invariant.0
+    let e : l.i ≡ a.n = omega arith in
+    rw e at (gathered-all a.names.now (name_at a.width a.row.now a.names.now a.from) a.n l.nodes l.i (omega arith) l.invariant.0)

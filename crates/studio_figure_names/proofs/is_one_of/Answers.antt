@@ -1,4 +1,3 @@
-use Prim.Native.Nat.{◌-◌}
 use native.Mathlib.Omega.{arith}
 use Rattle.studio_figure_rows.specs.Rows.{part}
 use Rattle.studio_figure_rows.proofs.Runs.{stride, sum_inside}

@@ -53,47 +53,35 @@ past-2 c =
 
 pub returns-then-not-whole_row : goal.returns-then-not-whole_row
 returns-then-not-whole_row c =
-    let c2 = c in
-    let c5 = c in
-    ap (λ (x : ℕ). Err (Count x)) c2.number-floats.ensures.0 ∙
-    here _ _ (second c5.args.objects.now c5.args.groups.now c5.args.i) (ap is_whole_row (sym c2.number-floats.ensures.0) ∙ sym c.whole_row.ensures ∙ c.if-not-whole_row.true)
+    ap (λ (x : ℕ). Err (Count x)) c.number-floats.ensures.0 ∙
+    here _ _ (second c.args.objects.now c.args.groups.now c.args.i) (ap is_whole_row (sym c.number-floats.ensures.0) ∙ sym c.whole_row.ensures ∙ c.if-not-whole_row.true)
 
 pub returns-then-not-whole_row-2 : goal.returns-then-not-whole_row-2
 returns-then-not-whole_row-2 c =
-    let c2 = c in
     let c3 = c.before.before.before.before in
-    let c8 = c in
-    ap (λ (x : ℕ). Err (Count x)) c2.number-corners.ensures.0 ∙
-    here _ _ (third c8.args.objects.now c8.args.groups.now c8.args.i) (ap is_whole_row (sym c2.number-corners.ensures.0) ∙ sym c.whole_row-2.ensures ∙ c.if-not-whole_row-2.true) ∙ past-1 c3
+    ap (λ (x : ℕ). Err (Count x)) c.number-corners.ensures.0 ∙
+    here _ _ (third c.args.objects.now c.args.groups.now c.args.i) (ap is_whole_row (sym c.number-corners.ensures.0) ∙ sym c.whole_row-2.ensures ∙ c.if-not-whole_row-2.true) ∙ past-1 c3
 
 pub returns-then-not-none_or_each : goal.returns-then-not-none_or_each
 returns-then-not-none_or_each c =
-    let c2 = c in
     let c3 = c.before.before.before.before in
-    let c5 = c in
     let c6 = c.before.before.before.before.before.before.before in
-    let c11 = c in
-    let w = c2.number-words.ensures.0 in
-    let k = c5.number-corners.ensures.0 in
-    let e : none_or_each (entry 5 3 c11.args.objects.now c11.args.i) (entry 5 2 c11.args.objects.now c11.args.i / 3) ≡ none_or_each c2.number-words.result (c5.number-corners.result / 3) = rw (w, k) in
+    let w = c.number-words.ensures.0 in
+    let k = c.number-corners.ensures.0 in
+    let e : none_or_each (entry 5 3 c.args.objects.now c.args.i) (entry 5 2 c.args.objects.now c.args.i / 3) ≡ none_or_each c.number-words.result (c.number-corners.result / 3) = rw (w, k) in
     ap (λ (x : ℕ). Err (Count x)) w ∙
-    here _ _ (last c11.args.objects.now c11.args.groups.now c11.args.i) (e ∙ sym c.none_or_each.ensures ∙ c.if-not-none_or_each.true) ∙ past-2 c3 ∙ past-1 c6
+    here _ _ (last c.args.objects.now c.args.groups.now c.args.i) (e ∙ sym c.none_or_each.ensures ∙ c.if-not-none_or_each.true) ∙ past-2 c3 ∙ past-1 c6
 
 pub judge_group_counts-requires : goal.judge_group_counts-requires
 judge_group_counts-requires c = omega (arith, c.number.ensures.0)
 
 pub returns : goal.returns
 returns c =
-    let c2 = c in
-    let c3 = c in
-    let c4 = c in
     let c5 = c.before.before.before.before.before.before in
-    let c7 = c in
     let c8 = c.before.before.before.before.before.before.before.before.before in
-    let x = c in
-    let w = c4.number-words.ensures.0 in
-    let k = c7.number-corners.ensures.0 in
-    let e : none_or_each (entry 5 3 x.args.objects.now x.args.i) (entry 5 2 x.args.objects.now x.args.i / 3) ≡ none_or_each c4.number-words.result (c7.number-corners.result / 3) = rw (w, k) in
-    let g : answered (group_counts x.args.groups.now x.args.group c.number.result) ≡ answered (last x.args.objects.now x.args.groups.now x.args.i) = rw (x.requires.1, c.number.ensures.0) in
+    let w = c.number-words.ensures.0 in
+    let k = c.number-corners.ensures.0 in
+    let e : none_or_each (entry 5 3 c.args.objects.now c.args.i) (entry 5 2 c.args.objects.now c.args.i / 3) ≡ none_or_each c.number-words.result (c.number-corners.result / 3) = rw (w, k) in
+    let g : answered (group_counts c.args.groups.now c.args.group c.number.result) ≡ answered (last c.args.objects.now c.args.groups.now c.args.i) = rw (c.requires.1, c.number.ensures.0) in
     c.judge_group_counts.ensures ∙ g ∙
-    later _ _ (last x.args.objects.now x.args.groups.now x.args.i) (e ∙ sym c3.none_or_each.ensures ∙ c2.if-not-none_or_each.false) ∙ past-2 c5 ∙ past-1 c8
+    later _ _ (last c.args.objects.now c.args.groups.now c.args.i) (e ∙ sym c.none_or_each.ensures ∙ c.if-not-none_or_each.false) ∙ past-2 c5 ∙ past-1 c8

@@ -1,4 +1,5 @@
 -- `studio_figure_objects::judge_object_indices` meets its contract: the corners first, then the groups.
+use Rattle.std.proofs.lemmas.Result.{err_from_is_err_and}
 use mathlib.Core.Path.{◌≡◌, sym, ap, ◌∙◌}
 use Prim.Native.Nat.{ℕ, ◌+◌, ◌-◌, ◌/◌}
 use native.Mathlib.Omega.{arith}
@@ -29,27 +30,19 @@ groups_are objects groups faces i f g n a b c = rw (a, b, c)
 pub judge_group_indices-requires : goal.judge_group_indices-requires
 judge_group_indices-requires c =
     let a = c.args in
-    let e : sum_to 2 1 a.groups.now (a.group + c.number-in-Ok.result) ≡ sum_to 2 1 a.groups.now (a.group + entry 5 4 a.objects.now a.i) = ap (λ (k : ℕ). sum_to 2 1 a.groups.now (a.group + k)) c.number-in-Ok.ensures.0 in
-    (omega (arith, c.number-in-Ok.ensures.0), c.requires.face_value.0, omega (arith, e))
+    let e : sum_to 2 1 a.groups.now (a.group + c.number-n.result) ≡ sum_to 2 1 a.groups.now (a.group + entry 5 4 a.objects.now a.i) = ap (λ (k : ℕ). sum_to 2 1 a.groups.now (a.group + k)) c.number-n.ensures.0 in
+    (omega (arith, c.number-n.ensures.0), c.requires.face_value.0, omega (arith, e))
 
-pub returns-in-Err : goal.returns-in-Err
-returns-in-Err c =
-    let c3 = c in
-    let c5 = c in
-    let c6 = c in
-    let x = c in
-    let a = x.args in
-    front-refused (first a.objects.now a.corners.now a.groups.now a.faces.now a.i) (second a.objects.now a.corners.now a.groups.now a.faces.now a.i) _
-    (sym c.in-Err.is ∙ c3.judge_below.ensures ∙ corners_are a.objects.now a.corners.now a.i c5.number.result a.at c6.number-count.result c5.number.ensures.0 x.requires.i_in_bounds.1 c6.number-count.ensures.0)
+pub returns-in_err-judge_below : goal.returns-in_err-judge_below
+returns-in_err-judge_below c =
+    let a = c.args in
+    let p = err_from_is_err_and c.from_residual.result c.from_residual.ensures.1 in
+    rw (p.1, p.2) (front-refused (first a.objects.now a.corners.now a.groups.now a.faces.now a.i) (second a.objects.now a.corners.now a.groups.now a.faces.now a.i) _
+    (sym c.in_err-judge_below.was ∙ c.judge_below.ensures ∙ corners_are a.objects.now a.corners.now a.i c.number.result a.at c.number-count.result c.number.ensures.0 c.requires.i_in_bounds.1 c.number-count.ensures.0))
 
-pub returns-in-Ok : goal.returns-in-Ok
-returns-in-Ok c =
-    let c2 = c in
-    let c4 = c in
-    let c6 = c in
-    let c7 = c in
-    let x = c in
-    let a = x.args in
-    c.judge_group_indices.ensures ∙ groups_are a.objects.now a.groups.now a.faces.now a.i c7.number-count.result a.group c.number-in-Ok.result c7.number-count.ensures.0 x.requires.group_value.0 c.number-in-Ok.ensures.0 ∙
+pub returns : goal.returns
+returns c =
+    let a = c.args in
+    c.judge_group_indices.ensures ∙ groups_are a.objects.now a.groups.now a.faces.now a.i c.number-count.result a.group c.number-n.result c.number-count.ensures.0 c.requires.group_value.0 c.number-n.ensures.0 ∙
     front-passed (first a.objects.now a.corners.now a.groups.now a.faces.now a.i) (second a.objects.now a.corners.now a.groups.now a.faces.now a.i)
-    (sym c2.in-Ok.is ∙ c4.judge_below.ensures ∙ corners_are a.objects.now a.corners.now a.i c6.number.result a.at c7.number-count.result c6.number.ensures.0 x.requires.i_in_bounds.1 c7.number-count.ensures.0)
+    (sym c.in_ok-judge_below.was ∙ c.judge_below.ensures ∙ corners_are a.objects.now a.corners.now a.i c.number.result a.at c.number-count.result c.number.ensures.0 c.requires.i_in_bounds.1 c.number-count.ensures.0)

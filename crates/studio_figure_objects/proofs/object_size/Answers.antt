@@ -44,10 +44,8 @@ returns-then-names-gt-LIMIT c =
 
 pub returns-then-faces-gt-LIMIT : goal.returns-then-faces-gt-LIMIT
 returns-then-faces-gt-LIMIT c =
-    let c4 = c in
-    let x = c in
-    let a = x.args in
-    (sized-over _ (faces-over a.objects.now a.groups.now a.i a.group c4.number-count.result x.requires.1 c4.number-count.ensures.0 (c.sum-faces.ensures.past c.if-faces-gt-LIMIT.true)), omega arith)
+    let a = c.args in
+    (sized-over _ (faces-over a.objects.now a.groups.now a.i a.group c.number-count.result c.requires.1 c.number-count.ensures.0 (c.sum-faces.ensures.past c.if-faces-gt-LIMIT.true)), omega arith)
 
 pub overflow_add-size-6 : goal.overflow_add-size-6
 overflow_add-size-6 c = omega (arith, c.smoothing_size.ensures, words_most c.number-4.result)

@@ -1,32 +1,16 @@
-use Prim.Native.Nat.{◌≤◌, ◌<◌}
-use native.Mathlib.Omega.{arith}
-use lib.ListN.{get_or}
-use borrow.Author.Tests.{lt-ltb, le-ltb}
-use Rattle.shared_words.proofs.FirstFault.{passed_none, passed-more, found, all-passed}
-use Rattle.studio_write_judge.proofs.first_not_below.Invariants.{below}
+-- `studio_write_judge::first_not_below` meets its contract: the first fault is the first position at which the corner is not below n.
+use Rattle.std.proofs.Common.{rules, length}
+use mathlib.Core.Path.{ap, ◌∙◌}
+use borrow.Author.Tests.{tests}
+use lib.Dec.{ltb, leb}
+use Rattle.std.specs.Option.{unwrap_or}
+use Rattle.std.proofs.lemmas.Iterator.{YieldsList-from_slice}
+use Rattle.std.proofs.lemmas.Iterator.Search.{position_from_yields_List}
+use Rattle.studio_write_judge.proofs.FirstFault.{first_by_position, below_or}
 use Rattle.studio_write_judge.proofs.first_not_below.Goals as goal
-
-pub loop-i-init : goal.loop-i-init
-loop-i-init c = passed_none (below c.args.n) c.args.corners.now
-
-pub overflow_cast-corners : goal.overflow_cast-corners
-overflow_cast-corners c = omega (arith, c.type_inv.corners c.loop-i.i)
-
-pub returns-then-n-corners : goal.returns-then-n-corners
-returns-then-n-corners c =
-    let a = c.args in
-    let l = c.loop-i in
-    let h : a.n ≤ get_or a.corners.now l.i 0 = omega arith in
-    found (below a.n) a.corners.now l.i 0 (omega arith) l.invariant (le-ltb _ _ h)
-
-pub loop-i-preserved : goal.loop-i-preserved
-loop-i-preserved c =
-    let a = c.args in
-    let l = c.loop-i in
-    let h : get_or a.corners.now l.i 0 < a.n = omega arith in
-    passed-more (below a.n) a.corners.now l.i 0 (omega arith) l.invariant (lt-ltb _ _ h)
 
 pub returns : goal.returns
 returns c =
-    let a = c.args in
-    all-passed (below a.n) a.corners.now c.loop-i.i (omega arith) c.loop-i.invariant
+    let xs = c.args.corners.now in
+    let e = position_from_yields_List (λ x. leb c.args.n x) _ _ _ c.position.ensures.ran (YieldsList-from_slice xs cc) (λ x b q k. search (rules, tests)) in
+    c.unwrap_or.ensures ∙ ap (λ r. unwrap_or r (length xs)) e ∙ first_by_position (λ x. ltb x c.args.n) (λ x. leb c.args.n x) (below_or c.args.n) xs

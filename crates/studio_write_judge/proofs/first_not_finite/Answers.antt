@@ -1,25 +1,18 @@
-use Prim.Native.Nat.{◌-◌}
-use native.Mathlib.Omega.{arith}
-use mathlib.Core.Path.{sym, ◌∙◌}
-use lib.Ieee.{nan}
+-- `studio_write_judge::first_not_finite` meets its contract: the first fault is the first position at which the float is not finite.
+use Rattle.std.proofs.Common.{rules, length}
+use mathlib.Core.Bool.{not}
+use mathlib.Core.Path.{ap, ◌∙◌}
+use borrow.Author.Tests.{tests}
+use Rattle.std.specs.Float.{float_is_finite}
+use Rattle.std.specs.Option.{unwrap_or}
+use Rattle.std.proofs.lemmas.Iterator.{YieldsList-from_slice}
+use Rattle.std.proofs.lemmas.Iterator.Search.{position_from_yields_List}
 use Rattle.studio_write_judge.specs.Judged.{finite_float}
-use Rattle.shared_words.proofs.FirstFault.{passed_none, passed-more, found, all-passed}
+use Rattle.studio_write_judge.proofs.FirstFault.{first_by_position, finite_or}
 use Rattle.studio_write_judge.proofs.first_not_finite.Goals as goal
 
-pub loop-i-init : goal.loop-i-init
-loop-i-init c = passed_none finite_float c.args.vertices.now
-
-pub returns-then-not-is_finite : goal.returns-then-not-is_finite
-returns-then-not-is_finite c =
-    let l = c.loop-i in
-    found finite_float c.args.vertices.now l.i nan (omega arith) l.invariant
-    (sym c.is_finite.ensures ∙ c.if-not-is_finite.true)
-
-pub loop-i-preserved : goal.loop-i-preserved
-loop-i-preserved c =
-    let l = c.loop-i in
-    passed-more finite_float c.args.vertices.now l.i nan (omega arith) l.invariant
-    (sym c.is_finite.ensures ∙ c.if-not-is_finite.false)
-
 pub returns : goal.returns
-returns c = all-passed finite_float _ c.loop-i.i (omega arith) c.loop-i.invariant
+returns c =
+    let xs = c.args.vertices.now in
+    let e = position_from_yields_List (λ x. not (float_is_finite x)) _ _ _ c.position.ensures.ran (YieldsList-from_slice xs cc) (λ x b q k. search (rules, tests)) in
+    c.unwrap_or.ensures ∙ ap (λ r. unwrap_or r (length xs)) e ∙ first_by_position finite_float (λ x. not (float_is_finite x)) finite_or xs

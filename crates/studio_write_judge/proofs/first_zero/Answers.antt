@@ -1,22 +1,17 @@
-use Prim.Native.Nat.{◌-◌}
-use native.Mathlib.Omega.{arith}
-use borrow.Author.Tests.{eq-eqb, ne_eqb}
+-- `studio_write_judge::first_zero` meets its contract: the first fault is the first position at which the byte is zero.
+use Rattle.std.proofs.Common.{rules, length, refl}
+use mathlib.Core.Path.{ap, ◌∙◌}
+use borrow.Author.Tests.{tests}
+use lib.Dec.{eqb}
+use Rattle.std.specs.Option.{unwrap_or}
+use Rattle.std.proofs.lemmas.Iterator.{YieldsList-from_slice}
+use Rattle.std.proofs.lemmas.Iterator.Search.{position_from_yields_List}
 use Rattle.studio_write_judge.specs.Judged.{not_zero}
-use Rattle.shared_words.proofs.FirstFault.{passed_none, passed-more, found, all-passed}
+use Rattle.studio_write_judge.proofs.FirstFault.{first_by_position}
 use Rattle.studio_write_judge.proofs.first_zero.Goals as goal
 
-pub loop-i-init : goal.loop-i-init
-loop-i-init c = passed_none not_zero c.args.name.now
-
-pub returns-then-name-i-eq0 : goal.returns-then-name-i-eq0
-returns-then-name-i-eq0 c =
-    let l = c.loop-i in
-    found not_zero c.args.name.now l.i 0 (omega arith) l.invariant (rw (eq-eqb _ _ c.if-name-i-eq0.true))
-
-pub loop-i-preserved : goal.loop-i-preserved
-loop-i-preserved c =
-    let l = c.loop-i in
-    passed-more not_zero c.args.name.now l.i 0 (omega arith) l.invariant (rw (ne_eqb _ _ c.if-name-i-eq0.false))
-
 pub returns : goal.returns
-returns c = all-passed not_zero c.args.name.now c.loop-i.i (omega arith) c.loop-i.invariant
+returns c =
+    let xs = c.args.name.now in
+    let e = position_from_yields_List (λ b. eqb b 0) _ _ _ c.position.ensures.ran (YieldsList-from_slice xs cc) (λ x b q k. search (rules, tests)) in
+    c.unwrap_or.ensures ∙ ap (λ r. unwrap_or r (length xs)) e ∙ first_by_position (not_zero) (λ b. eqb b 0) (λ b. refl) xs
