@@ -30,7 +30,7 @@ use Rattle.studio_row.specs.Packed.{places, row_of}
 use Rattle.studio_marks.specs.Marks.{no_marks, ShutIs, RuleIs, EndIs}
 use Rattle.studio_walk.specs.declared.Ran.{Ran}
 use Rattle.studio_head.specs.Contexts.{Context}
-use Rattle.studio_walk.specs.Runs.{RunIs}
+use Rattle.studio_walk.specs.Runs.{RunIs, ran_to}
 use Rattle.studio_check.specs.Figure.{CountsAre, figure_answer}
 use Rattle.studio_walk.proofs.Contexts.{context_inside}
 use Rattle.studio_walk.proofs.Chunks.{clash, Ran-well, run-refused, run-accepted}
@@ -143,9 +143,9 @@ abbrev pub told : List ℕ → Parent
 told s = top (version_in (drop 6 s))
 
 -- what the code found of the children of 4D4D, said of the walk
-pub top-run : (s : List ℕ) (row : ℕ) → row ≡ row_of 0x4D4D → (as_many : Bool) → RuleIs (told s) as_many → (r : Ran) (ms : List ℕ) →
+pub top-run : (s : List ℕ) (row : ℕ) → row ≡ row_of 0x4D4D → (as_many : Bool) → RuleIs (told s) as_many → (r : Result Ran Refusal) (ms : List ℕ) →
     ((p : Parent) (seen : List ℕ) → RuleIs p as_many → Context p seen row 0 no_marks → RunIs (length s) 0 0 6 no_marks (walk p seen 6 (slice 6 (length s) s)) r ms) →
-    {r' : Ran} → r ≡ r' → RunIs (length s) 0 0 6 no_marks (walk (told s) [] 6 (slice 6 (length s) s)) r' ms
+    {r' : Result Ran Refusal} → r ≡ r' → RunIs (length s) 0 0 6 no_marks (walk (told s) [] 6 (slice 6 (length s) s)) r' ms
 top-run s row e as_many rule r ms h is = subst (λ z. RunIs (length s) 0 0 6 no_marks (walk (told s) [] 6 (slice 6 (length s) s)) z ms) is (h (told s) [] rule (top_context (version_in (drop 6 s)) row e))
 
 abbrev four : ℕ → ℕ → ℕ → ℕ → Counts
@@ -164,12 +164,12 @@ module _ (s : List ℕ) (b : Bytes s) (six : 6 ≤ length s) (short : length s �
   unfolding figure_answer
   answer-is = rw whole
 
-  pub figure-refused : (y : Refusal) → RunIs (length s) 0 0 6 no_marks (walk (told s) [] 6 (slice 6 (length s) s)) (Ran.Refused y) inner → Err y ≡ check_of (figure_answer s)
+  pub figure-refused : (y : Refusal) → RunIs (length s) 0 0 6 no_marks (walk (told s) [] 6 (slice 6 (length s) s)) (Err y) inner → Err y ≡ check_of (figure_answer s)
   figure-refused y h =
       let a = run-refused (file (version_in (drop 6 s))) [] s 0 0x4D4D 6 (length s) [] b six (omega arith) (omega arith) (omega arith) (walk (told s) [] 6 (slice 6 (length s) s)) y inner h in
       sym (ap check_of (answer-is ∙ ap (ended (told s) 0) a))
 
-  module _ (next n k : ℕ) (h : RunIs (length s) 0 0 6 no_marks (walk (told s) [] 6 (slice 6 (length s) s)) (Ran.Done next n k) inner) where
+  module _ (next n k : ℕ) (h : RunIs (length s) 0 0 6 no_marks (walk (told s) [] 6 (slice 6 (length s) s)) (ran_to next n k) inner) where
     well : Ran-well (file (version_in (drop 6 s))) [] s 0 0x4D4D 6 (length s) [] b six (omega arith) (omega arith) (omega arith) (walk (told s) [] 6 (slice 6 (length s) s)) n k inner
     well = run-accepted (file (version_in (drop 6 s))) [] s 0 0x4D4D 6 (length s) [] b six (omega arith) (omega arith) (omega arith) next n k inner h
 

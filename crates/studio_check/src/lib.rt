@@ -11,7 +11,6 @@ ghost use Rattle.studio_check.specs.Figure.{CountsAre, figure_answer};
 use shared_numbers::{long_at, word_at};
 use shared_words::Refusal;
 use studio_rules::Counts;
-use studio_walk::Ran;
 
 // The file's own conditions: its length, and the header of its one chunk 4D4D.
 pub fn judge_file(file: &[u8]) -> Result<(), Refusal>
@@ -64,7 +63,7 @@ fn check_figure(file: &[u8]) -> Result<Counts, Refusal>
     let as_many = 3 <= version;
     let slots = studio_lookup::slots();
     let mut marks = [0u32; 6];
-    match studio_walk::run(
+    let kids = studio_walk::run(
         file,
         &slots,
         studio_lookup::FIGURE,
@@ -73,25 +72,15 @@ fn check_figure(file: &[u8]) -> Result<Counts, Refusal>
         6,
         size,
         &mut marks,
-    ) {
-        Ran::Refused(r) => Err(r),
-        Ran::Done {
-            next: _,
-            records,
-            skipped,
-        } => match studio_marks::at_end(file, 0x4D4D, 0, as_many, &marks) {
-            Err(r) => Err(r),
-            Ok(()) => Ok(counts(records + 1, skipped, size)),
-        },
-    }
+    )?;
+    studio_marks::at_end(file, 0x4D4D, 0, as_many, &marks)?;
+    Ok(counts(kids.records + 1, kids.skipped, size))
 }
 
 // Whether a file is a figure: the counts of its records and bytes, or the first fault in file order.
 pub fn check(file: &[u8]) -> Result<Counts, Refusal>
     ensures { result ≡ check_call file.now }
 {
-    match judge_file(file) {
-        Err(r) => Err(r),
-        Ok(()) => check_figure(file),
-    }
+    judge_file(file)?;
+    check_figure(file)
 }

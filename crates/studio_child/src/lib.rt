@@ -16,6 +16,7 @@ pub fn next_child(file: &[u8], id: u32, at: usize, stop: usize) -> usize
     ensures { (p : Parent) (t : Run) → Spans p t file.now at stop → result ≡ offset_of id at t }
 {
     let mut o = at;
+    // a `while`: each chunk's length tells where the next begins
     while o < stop {
         if word_at(file, o) == id {
             return o;

@@ -22,16 +22,16 @@ use Rattle.shared_numbers.specs.Numbers.{word_at, long_at}
 use Rattle.shared_numbers.proofs.Slices.{drop-slice, take-slice, word_slice, long-slice}
 use Rattle.studio_row.specs.Packed.{row_of, slot_of}
 use Rattle.studio_row.proofs.Facts.{row-of-listed, row-of-unlisted}
-use Rattle.studio_own_data.specs.declared.Judged.{Judged}
 use Rattle.studio_own_data.specs.Bounds.{BoundIs}
 use Rattle.studio_own_data.specs.Judges.{JudgedIs, Judges}
 use Rattle.studio_marks.specs.Marks.{noted}
 use Rattle.studio_marks.proofs.Noted.{noted-length}
 use Rattle.studio_head.specs.declared.Header.{Header}
 use Rattle.studio_head.specs.declared.Head.{Head}
-use Rattle.studio_head.specs.Heads.{HeaderIs, HeadIs, MarksAre, HeadWithin, opened_by}
+use Rattle.studio_head.specs.Heads.{HeaderIs, HeadIs, MarksAre, HeadWithin, opened_by, header_of}
 use Rattle.studio_head.proofs.Orders.{somewhere}
 use Rattle.studio_rules.proofs.Steps.{step-stops}
+use Rattle.std.specs.Prelude.{Result, Ok, Err}
 
 -- ---- the header
 
@@ -45,11 +45,11 @@ module _ (s : List ℕ) (at end : ℕ) (h : at < end) (l : end ≤ length s) whe
   field_is : 6 ≤ end - at → length_field part ≡ long_at s (at + 2)
   field_is m = ap (λ (x : List ℕ). value (take 4 x)) (drop-slice 2 at end s) ∙ long-slice (at + 2) end s (omega arith)
 
-  header_is : (x : Option Refusal) (r : Header) → broken (header_conditions at part (length_field part)) ≡ x → HeaderIs s at x r →
+  header_is : (x : Option Refusal) (r : Result Header Refusal) → broken (header_conditions at part (length_field part)) ≡ x → HeaderIs s at x r →
       HeaderIs s at (broken (header_conditions at part (length_field part))) r
   header_is x r e i = subst (λ (y : Option Refusal). HeaderIs s at y r) (sym e) i
 
-  pub header-stray : end - at < 6 → HeaderIs s at (broken (header_conditions at part (length_field part))) (Header.Fault (Stray at))
+  pub header-stray : end - at < 6 → HeaderIs s at (broken (header_conditions at part (length_field part))) (Err (Stray at))
   header-stray m = header_is (some (Stray at)) _ (broken-here _ _ _ (lt-leb 6 (length part) (omega (arith, part_length)))) refl
 
   module _ (m : 6 ≤ end - at) (n : ℕ) (e : n ≡ long_at s (at + 2)) where
@@ -59,15 +59,15 @@ module _ (s : List ℕ) (at end : ℕ) (h : at < end) (l : end ≤ length s) whe
     field : length_field part ≡ n
     field = field_is m ∙ sym e
 
-    pub header-short : n < 6 → HeaderIs s at (broken (header_conditions at part (length_field part))) (Header.Fault (Short at))
+    pub header-short : n < 6 → HeaderIs s at (broken (header_conditions at part (length_field part))) (Err (Short at))
     header-short k = header_is (some (Short at)) _ (broken-later _ _ _ six ∙ broken-here _ _ _ (rw field (lt-leb 6 n k))) refl
 
-    pub header-overrun : 6 ≤ n → end - at < n → HeaderIs s at (broken (header_conditions at part (length_field part))) (Header.Fault (Overrun at))
+    pub header-overrun : 6 ≤ n → end - at < n → HeaderIs s at (broken (header_conditions at part (length_field part))) (Err (Overrun at))
     header-overrun k o =
         header_is (some (Overrun at)) _
         (broken-later _ _ _ six ∙ broken-later _ _ _ (rw field (le-leb 6 n k)) ∙ broken-here _ _ _ (rw field (lt-leb n (length part) (omega (arith, part_length))))) refl
 
-    pub header_fine : 6 ≤ n → n ≤ end - at → (id : ℕ) → id ≡ word_at s at → HeaderIs s at (broken (header_conditions at part (length_field part))) (Header.Is id (at + n))
+    pub header_fine : 6 ≤ n → n ≤ end - at → (id : ℕ) → id ≡ word_at s at → HeaderIs s at (broken (header_conditions at part (length_field part))) (header_of id (at + n))
     header_fine k o id i =
         header_is none _
         (unbroken _ (six, (rw field (le-leb 6 n k), (rw field (le-leb n (length part) (omega (arith, part_length))), tt))))
@@ -75,7 +75,7 @@ module _ (s : List ℕ) (at end : ℕ) (h : at < end) (l : end ≤ length s) whe
 
   -- ---- read back
 
-  pub header-fault : (x : Option Refusal) (y : Refusal) → HeaderIs s at x (Header.Fault y) → x ≡ some y
+  pub header-fault : (x : Option Refusal) (y : Refusal) → HeaderIs s at x (Err y) → x ≡ some y
   header-fault (some x) y i = cc
   header-fault none y i = cc
 
@@ -84,9 +84,11 @@ module _ (s : List ℕ) (at end : ℕ) (h : at < end) (l : end ≤ length s) whe
     pub id-is : id ≡ word_at s at
     pub past_is : past ≡ at + long_at s (at + 2)
 
-  pub header_read : (x : Option Refusal) (id past : ℕ) → HeaderIs s at x (Header.Is id past) → Headed x id past
+  pub header_read : (x : Option Refusal) (id past : ℕ) → HeaderIs s at x (header_of id past) → Headed x id past
   header_read (some x) id past i = let z : ◌≡◌ {A = ℕ} 0 1 = cc in absurd (omega arith)
-  header_read none id past i = record { fine = refl; id-is = cc; past_is = cc }
+  header_read none id past i =
+      let h : ◌≡◌ {A = Header} record { id = id; stop = past } record { id = word_at s at; stop = at + long_at s (at + 2) } = cc in
+      record { fine = refl; id-is = ap (λ (x : Header). x.id) h; past_is = ap (λ (x : Header). x.stop) h }
 
 -- ---- the step
 
@@ -96,12 +98,12 @@ unfolding step
 step_sorts p seen o s e = rw e
 
 module _ (p : Parent) (seen : List ℕ) (s : List ℕ) (at end : ℕ) (h : at < end) (l : end ≤ length s) where
-  pub step-fault : (r : Header) → HeaderIs s at (broken (header_conditions at (slice at end s) (length_field (slice at end s)))) r → (y : Refusal) → r ≡ Header.Fault y →
+  pub step-fault : (r : Result Header Refusal) → HeaderIs s at (broken (header_conditions at (slice at end s) (length_field (slice at end s)))) r → (y : Refusal) → r ≡ Err y →
       step p seen at (slice at end s) ≡ stop y
   step-fault r i y e = step-stops p seen at (slice at end s) y (header-fault s at end h l _ y (subst (HeaderIs s at (broken (header_conditions at (slice at end s) (length_field (slice at end s))))) e i))
 
   -- a header that is fine: the parts of the chunk are parts of the file
-  module _ (r : Header) (i : HeaderIs s at (broken (header_conditions at (slice at end s) (length_field (slice at end s)))) r) (id past : ℕ) (e : r ≡ Header.Is id past) where
+  module _ (r : Result Header Refusal) (i : HeaderIs s at (broken (header_conditions at (slice at end s) (length_field (slice at end s)))) r) (id past : ℕ) (e : r ≡ header_of id past) where
     headed : Headed s at end h l (broken (header_conditions at (slice at end s) (length_field (slice at end s)))) id past
     headed = header_read s at end h l _ id past (subst (HeaderIs s at (broken (header_conditions at (slice at end s) (length_field (slice at end s))))) e i)
 
@@ -159,37 +161,37 @@ row-unlisted id row e z = go (listed id) refl
     go false l = refl
 
 module _ (p : Parent) (at id : ℕ) (body : List ℕ) where
-  pub judged-size : (k : ℕ) → Judges p at id body (Judged.Size k) → (k ≡ own_size (shape id) p.own body) × (broken (own_conditions p at id body (own_size (shape id) p.own body)) ≡ none)
+  pub judged-size : (k : ℕ) → Judges p at id body (Ok k) → (k ≡ own_size (shape id) p.own body) × (broken (own_conditions p at id body (own_size (shape id) p.own body)) ≡ none)
   judged-size k j = go (broken (own_conditions p at id body (own_size (shape id) p.own body))) refl j
     where
-      go : (x : Option Refusal) → broken (own_conditions p at id body (own_size (shape id) p.own body)) ≡ x → JudgedIs (own_size (shape id) p.own body) x (Judged.Size k) →
+      go : (x : Option Refusal) → broken (own_conditions p at id body (own_size (shape id) p.own body)) ≡ x → JudgedIs (own_size (shape id) p.own body) x (Ok k) →
           (k ≡ own_size (shape id) p.own body) × (broken (own_conditions p at id body (own_size (shape id) p.own body)) ≡ none)
       go (some x) e j = let z : ◌≡◌ {A = ℕ} 0 1 = cc in absurd (omega arith)
       go none e j = (cc, e)
 
-  pub judged-within : (k : ℕ) → Judges p at id body (Judged.Size k) → k ≤ length body
+  pub judged-within : (k : ℕ) → Judges p at id body (Ok k) → k ≤ length body
   judged-within k j =
       let q = judged-size k j in
       let m = met _ q.1 in
       omega (arith, q.0, leb-true (own_size (shape id) p.own body) (length body) m.1.1.0)
 
 -- own data that was judged fine ends within its chunk
-pub judged-ends : (s : List ℕ) (at id past n : ℕ) → at + 6 ≤ past → past ≤ length s → n < 65536 → (r : Judged) →
-    listed id ≡ true → ((p : Parent) → under p.id id ≡ true → BoundIs p n → Judges p at id (slice (at + 6) past s) r) → (k : ℕ) → r ≡ Judged.Size k → at + 6 + k ≤ past
+pub judged-ends : (s : List ℕ) (at id past n : ℕ) → at + 6 ≤ past → past ≤ length s → n < 65536 → (r : Result ℕ Refusal) →
+    listed id ≡ true → ((p : Parent) → under p.id id ≡ true → BoundIs p n → Judges p at id (slice (at + 6) past s) r) → (k : ℕ) → r ≡ Ok k → at + 6 + k ≤ past
 judged-ends s at id past n h l small r m j k e =
     let x = somewhere id n m small in
     let w = judged-within x.p at id (slice (at + 6) past s) k (subst (Judges x.p at id (slice (at + 6) past s)) e (j x.p x.place x.bound)) in
     omega (arith, w, length-slice (at + 6) past s l, h)
 
 module _ (p : Parent) (seen : List ℕ) (at id : ℕ) (body rest : List ℕ) where
-  pub opened-fault : (y : Refusal) → Judges p at id body (Judged.Fault y) → HeadIs p seen at (opened_by p at id body rest) (Head.Fault y)
+  pub opened-fault : (y : Refusal) → Judges p at id body (Err y) → HeadIs p seen at (opened_by p at id body rest) (Err y)
   opened-fault y j = go (broken (own_conditions p at id body (own_size (shape id) p.own body))) j
     where
-      go : (x : Option Refusal) → JudgedIs (own_size (shape id) p.own body) x (Judged.Fault y) → HeadIs p seen at (opened id body rest (own_size (shape id) p.own body) x) (Head.Fault y)
+      go : (x : Option Refusal) → JudgedIs (own_size (shape id) p.own body) x (Err y) → HeadIs p seen at (opened id body rest (own_size (shape id) p.own body) x) (Err y)
       go (some x) j = cc
       go none j = let z : ◌≡◌ {A = ℕ} 0 1 = cc in absurd (omega arith)
 
-  pub opened_enters : (k : ℕ) → Judges p at id body (Judged.Size k) → opened_by p at id body rest ≡ enter id (take k body) (drop k body) rest
+  pub opened_enters : (k : ℕ) → Judges p at id body (Ok k) → opened_by p at id body rest ≡ enter id (take k body) (drop k body) rest
   opened_enters k j = let q = judged-size p at id body k j in rw (q.1, ← q.0)
 
 -- own data of k bytes, in the body from at + 6 to past
@@ -210,14 +212,14 @@ module _ (p : Parent) (seen s : List ℕ) (at past k id row : ℕ) (rest : List 
   past_is = omega (arith, own_long, kids_long)
 
   pub head_enter : plus id ≡ true → row ≡ row_of id → (word : ℕ) → BoundIs (inside p seen id (slice (at + 6) (at + 6 + k) s)) word →
-      HeadIs p seen at (enter id (take k (slice (at + 6) past s)) (drop k (slice (at + 6) past s)) rest) (Head.Enter id row word (at + 6 + k) past)
+      HeadIs p seen at (enter id (take k (slice (at + 6) past s)) (drop k (slice (at + 6) past s)) rest) (Ok (Head.Enter id row word (at + 6 + k) past))
   head_enter u e word w = rw (u, from_is, past_is, own_part, e, ← w.is)
 
-  pub head_leaf : plus id ≡ false → HeadIs p seen at (enter id (take k (slice (at + 6) past s)) (drop k (slice (at + 6) past s)) rest) (Head.Leaf past)
+  pub head_leaf : plus id ≡ false → HeadIs p seen at (enter id (take k (slice (at + 6) past s)) (drop k (slice (at + 6) past s)) rest) (Ok (Head.Leaf past))
   head_leaf u = rw (u, past_is)
 
 -- a chunk that is skipped
-pub head_skip : (p : Parent) (seen s : List ℕ) (at past id : ℕ) (rest : List ℕ) → at + 6 ≤ past → past ≤ length s → HeadIs p seen at (pass id (slice (at + 6) past s) rest) (Head.Skip past)
+pub head_skip : (p : Parent) (seen s : List ℕ) (at past id : ℕ) (rest : List ℕ) → at + 6 ≤ past → past ≤ length s → HeadIs p seen at (pass id (slice (at + 6) past s) rest) (Ok (Head.Skip past))
 head_skip p seen s at past id rest o l =
     let z : at + (6 + length (slice (at + 6) past s)) ≡ past = omega (arith, length-slice (at + 6) past s l) in
     rw z
@@ -238,8 +240,8 @@ length-noted false ms k at = refl
 pub six_still : (b : Bool) (ms ms' : List ℕ) (k at : ℕ) → ms' ≡ cond b (noted k at ms) ms → length ms ≡ 6 → length ms' ≡ 6
 six_still b ms ms' k at e six = ap length e ∙ length-noted b ms k at ∙ six
 
-pub within_more : (at past end : ℕ) → past ≤ end → (r : Head) → HeadWithin at past r → HeadWithin at end r
-within_more at past end h (Head.Fault x) w = tt
-within_more at past end h (Head.Skip q) w = omega arith
-within_more at past end h (Head.Leaf q) w = omega arith
-within_more at past end h (Head.Enter id row word from q) w = omega arith
+pub within_more : (at past end : ℕ) → past ≤ end → (r : Result Head Refusal) → HeadWithin at past r → HeadWithin at end r
+within_more at past end h (Err x) w = tt
+within_more at past end h (Ok (Head.Skip q)) w = omega arith
+within_more at past end h (Ok (Head.Leaf q)) w = omega arith
+within_more at past end h (Ok (Head.Enter id row word from q)) w = omega arith

@@ -11,9 +11,11 @@ use Rattle.studio_rules.specs.Rules.{Parent}
 use Rattle.shared_words.specs.Conditions.{broken}
 use Rattle.studio_rules.specs.Walk.{header_conditions, length_field}
 use Rattle.studio_head.specs.declared.Header.{Header}
-use Rattle.studio_head.specs.Heads.{HeaderIs, HeaderWithin}
+use Rattle.studio_head.specs.Heads.{HeaderIs, HeaderWithin, header_of}
 use Rattle.studio_head.specs.Passes.{Passes, none_yet, one_more}
 use Rattle.studio_head.proofs.Opens.{step_skip}
+use Rattle.std.specs.Prelude.{Result}
+use Rattle.shared_words.specs.declared.Refusal.{Refusal}
 
 -- how far it has come
 pub record Passed (s : List ℕ) (at end o : ℕ) : Type 0 where
@@ -24,8 +26,8 @@ pub record Passed (s : List ℕ) (at end o : ℕ) : Type 0 where
 pub passed_none : (s : List ℕ) (at end : ℕ) → at ≤ end → Passed s at end at
 passed_none s at end h = record { past = omega arith; before = h; passes = λ p seen. none_yet }
 
-pub passed-one : (s : List ℕ) (at end o : ℕ) → Passed s at end o → o < end → end ≤ length s → (r : Header) → HeaderIs s o (broken (header_conditions o (slice o end s) (length_field (slice o end s)))) r →
-    (id past : ℕ) → r ≡ Header.Is id past → HeaderWithin o end (Header.Is id past) → listed id ≡ false → Passed s at end past
+pub passed-one : (s : List ℕ) (at end o : ℕ) → Passed s at end o → o < end → end ≤ length s → (r : Result Header Refusal) → HeaderIs s o (broken (header_conditions o (slice o end s) (length_field (slice o end s)))) r →
+    (id past : ℕ) → r ≡ header_of id past → HeaderWithin o end (header_of id past) → listed id ≡ false → Passed s at end past
 passed-one s at end o d h l r i id past e w u =
     let n : o + (6 + length (slice (o + 6) past s)) ≡ past = omega (arith, length-slice (o + 6) past s (omega (arith, w.1))) in
     record {

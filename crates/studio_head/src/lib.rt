@@ -16,41 +16,39 @@ ghost use Rattle.studio_head.specs.Passes.{Passes};
 
 use shared_numbers::{long_at, word_at};
 use shared_words::Refusal;
-use studio_own_data::Judged;
 
-// The header of a chunk: a fault, or its identifier and where the chunk ends.
+// The header of a chunk: its identifier and where the chunk ends.
 #[derive(Clone, Copy)]
-pub enum Header {
-    Fault(Refusal),
-    Is { id: usize, stop: usize },
+pub struct Header {
+    pub id: usize,
+    pub stop: usize,
 }
 
-fn read_header(file: &[u8], at: usize, end: usize) -> Header
+fn read_header(file: &[u8], at: usize, end: usize) -> Result<Header, Refusal>
     requires { (at < end) × (end ≤ length file.now) }
     ensures is { HeaderIs file.now at (broken
         (header_conditions at (slice at end file.now) (length_field (slice at end file.now)))) result }
     ensures within { HeaderWithin at end result }
 {
     if end - at < 6 {
-        return Header::Fault(Refusal::Stray(at));
+        return Err(Refusal::Stray(at));
     }
     let len = long_at(file, at + 2) as usize;
     if len < 6 {
-        return Header::Fault(Refusal::Short(at));
+        return Err(Refusal::Short(at));
     }
     if end - at < len {
-        return Header::Fault(Refusal::Overrun(at));
+        return Err(Refusal::Overrun(at));
     }
-    Header::Is {
+    Ok(Header {
         id: word_at(file, at) as usize,
         stop: at + len,
-    }
+    })
 }
 
-// What stands at a chunk's start: a fault, an unlisted chunk, one that has no children, or one that may have.
+// What stands at a chunk's start: an unlisted chunk, one that has no children, or one that may have.
 #[derive(Clone, Copy)]
 pub enum Head {
-    Fault(Refusal),
     Skip {
         stop: usize,
     },
@@ -86,28 +84,24 @@ fn look_listed(
     order: u32,
     at: usize,
     stop: usize,
-) -> Head
+) -> Result<Head, Refusal>
     requires { (at + 6 ≤ stop) × (stop ≤ length file.now) × (count < 65536) × (listed id ≡ true) × (row ≡ row_of id) }
     ensures is { (p : Parent) (seen rest : List ℕ) → under p.id id ≡ true → BoundIs p count → OrderIs id seen order →
         HeadIs p seen at (opened_by p at id (slice (at + 6) stop file.now) rest) result }
     ensures within { HeadWithin at stop result }
 {
-    match studio_own_data::judge(file, id, row, count, at, stop) {
-        Judged::Fault(r) => Head::Fault(r),
-        Judged::Size(size) => {
-            let from = at + 6 + size;
-            if studio_row::may_have_children(row) {
-                Head::Enter {
-                    id,
-                    row,
-                    count: bound_inside(file, id, order, at + 6, from),
-                    from,
-                    stop,
-                }
-            } else {
-                Head::Leaf { stop }
-            }
-        }
+    let size = studio_own_data::judge(file, id, row, count, at, stop)?;
+    let from = at + 6 + size;
+    if studio_row::may_have_children(row) {
+        Ok(Head::Enter {
+            id,
+            row,
+            count: bound_inside(file, id, order, at + 6, from),
+            from,
+            stop,
+        })
+    } else {
+        Ok(Head::Leaf { stop })
     }
 }
 
@@ -121,7 +115,7 @@ pub fn look(
     at: usize,
     end: usize,
     marks: &mut [u32],
-) -> Head
+) -> Result<Head, Refusal>
     requires { (at < end) × Room end count file.now marks.old × (table.now ≡ slots) }
     ensures is { (p : Parent) (seen : List ℕ) → Context p seen parent count marks.old →
         HeadIs p seen at (step p seen at (slice at end file.now)) result }
@@ -130,23 +124,19 @@ pub fn look(
     ensures six { length marks.new ≡ 6 }
     ensures within { HeadWithin at end result }
 {
-    match read_header(file, at, end) {
-        Header::Fault(r) => Head::Fault(r),
-        Header::Is { id, stop } => {
-            let row = studio_lookup::row(table, id);
-            if row == 0 {
-                return Head::Skip { stop };
-            }
-            if !studio_row::may_hold(parent, row) {
-                return Head::Fault(Refusal::Misplaced(at));
-            }
-            let order = marks[5];
-            if !studio_marks::note(marks, row, at) {
-                return Head::Fault(Refusal::Twice(at));
-            }
-            look_listed(file, id, row, count, order, at, stop)
-        }
+    let header = read_header(file, at, end)?;
+    let row = studio_lookup::row(table, header.id);
+    if row == 0 {
+        return Ok(Head::Skip { stop: header.stop });
     }
+    if !studio_row::may_hold(parent, row) {
+        return Err(Refusal::Misplaced(at));
+    }
+    let order = marks[5];
+    if !studio_marks::note(marks, row, at) {
+        return Err(Refusal::Twice(at));
+    }
+    look_listed(file, header.id, row, count, order, at, header.stop)
 }
 
 // Where the unlisted chunks end that stand from at on one after another, in a run that ends at end: at a listed one, at a fault,
@@ -157,14 +147,15 @@ pub fn pass_over(file: &[u8], table: &[u64; 128], at: usize, end: usize) -> usiz
     ensures within { (at ≤ result) × (result ≤ end) }
 {
     let mut o = at;
+    // a `while`: each chunk's length tells where the next begins
     while o < end {
-        let Header::Is { id, stop } = read_header(file, o, end) else {
+        let Ok(header) = read_header(file, o, end) else {
             return o;
         };
-        if studio_lookup::is_listed(table, id) {
+        if studio_lookup::is_listed(table, header.id) {
             return o;
         }
-        o = stop;
+        o = header.stop;
     }
     o
 }

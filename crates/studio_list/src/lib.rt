@@ -14,22 +14,23 @@ use studio_rules::Counts;
 
 // The list of a figure's known chunks into the rows that are in use, where there is room for so many records.
 // (The file is a run of one chunk. With no other call of `list_chunk`, a chunk without children costs `list_run` no call.)
-fn list_rows(file: &[u8], records: &mut [u32], bytes: &mut [u8], room: usize) -> Result<Counts, Refusal>
+fn list_rows(
+    file: &[u8],
+    records: &mut [u32],
+    bytes: &mut [u8],
+    room: usize,
+) -> Result<Counts, Refusal>
     requires { Room (lent records.old bytes.old) room }
     ensures { leaving result (lent records.new bytes.new) ≡
         list_rows file.now room (lent records.old bytes.old) }
 {
-    match studio_check::check(file) {
-        Err(r) => Err(r),
-        Ok(counts) => {
-            if room < counts.records {
-                return Err(Refusal::NoRoom(counts.records));
-            }
-            let slots = studio_lookup::slots();
-            studio_list_walk::list_run(file, &slots, records, bytes, 0, file.len(), 0, 0, 0);
-            Ok(counts)
-        }
+    let counts = studio_check::check(file)?;
+    if room < counts.records {
+        return Err(Refusal::NoRoom(counts.records));
     }
+    let slots = studio_lookup::slots();
+    studio_list_walk::list_run(file, &slots, records, bytes, 0, file.len(), 0, 0, 0);
+    Ok(counts)
 }
 
 // The list of a figure's known chunks, in file order, into a lent row whose room is counted in whole records. Answers

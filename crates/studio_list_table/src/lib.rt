@@ -11,9 +11,9 @@ ghost use Rattle.studio_rules.specs.Calls.{list_call};
 ghost use Rattle.studio_list_table.specs.Numbers.{record_no, taken};
 ghost use Rattle.studio_list_table.specs.Listed.{in_table, in_row};
 
+use shared_words::Refusal;
 use studio_list_rows::RECORD_NUMBERS;
 use studio_rules::{Counts, Record};
-use shared_words::Refusal;
 
 // The list into a flat row of which no more than `room` records are used.
 fn list_beside(file: &[u8], row: &mut [u32], room: usize) -> Result<Counts, Refusal>
@@ -63,10 +63,8 @@ pub fn list_records(file: &[u8], row: &mut [u32], table: &mut [Record]) -> Resul
     let listed = list_beside(file, row, table.len());
     let n = records_in(listed);
     let numbers = &row[..];
-    let mut i = 0usize;
-    while i < n {
+    for i in 0..n {
         table[i] = record_at(numbers, i);
-        i += 1;
     }
     listed
 }

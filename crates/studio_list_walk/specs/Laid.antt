@@ -1,6 +1,6 @@
 -- What the functions of this crate say, of a layout that stands in the file. Nothing here is a meaning of its own: the
 -- layout, its rules and its records are those of crate studio_rules.
-use Rattle.std.specs.Prelude.{◌≡◌, true, false, List, [], ℕ, ◌+◌, ◌*◌, ◌≤◌, length}
+use Rattle.std.specs.Prelude.{◌≡◌, true, false, List, [], ℕ, ◌+◌, ◌*◌, ◌≤◌, length, Result, Ok, Err}
 use Rattle.shared_words.specs.Refusals.{limit}
 use Rattle.studio_rules.specs.OwnData.{own_size}
 use Rattle.studio_rules.specs.Layout.{Run, end, skip, known}
@@ -8,8 +8,6 @@ use Rattle.studio_rules.specs.Parses.{Place, Parses}
 use Rattle.studio_rules.specs.Gives.{record_count, records_of}
 use Rattle.studio_stands.specs.Stands.{Stands}
 use Rattle.studio_row.specs.Packed.{shape_in, plus_in}
-use Rattle.studio_own_size.specs.declared.Own.{Own}
-use Rattle.studio_own_size.specs.declared.Own.TheVariants.{NoName, Unfit, TooLong, Size}
 use Rattle.studio_list_rows.specs.Lent.{Lent, written, Room}
 
 -- the first chunk of a run, alone
@@ -58,10 +56,3 @@ RunListed s at stop depth parent next l l' r = (p : Place) (t : Run) → Laid s 
 pub record Begins (row : ℕ) (around own more : List ℕ) : Type 0 where
   pub exact : plus_in row ≡ true → own_size (shape_in row) around own ≡ length own
   pub whole : plus_in row ≡ false → more ≡ []
-
--- the bytes of own data, where it has its name and fits
-abbrev pub size_of : Own → ℕ
-size_of NoName = 0
-size_of Unfit = 0
-size_of TooLong = 0
-size_of (Size k) = k

@@ -8,22 +8,10 @@ ghost use Rattle.std.proofs.Math.Seq.{slice};
 ghost use Rattle.studio_row.specs.Packed.{plus_in, kind_in};
 ghost use Rattle.studio_lookup.specs.Slots.{slots};
 ghost use Rattle.studio_list_rows.specs.Lent.{lent};
-ghost use Rattle.studio_list_walk.specs.Laid.{Bounds, SomeChunk, SomeRun, ChunkListed, RunListed, Begins, size_of};
+ghost use Rattle.studio_list_walk.specs.Laid.{Bounds, SomeChunk, SomeRun, ChunkListed, RunListed, Begins};
 
 use shared_numbers::{long_at, word_at};
-use studio_own_size::Own;
 use studio_rules::Record;
-
-fn size_of(own: Own) -> usize
-    ensures { result ≡ size_of own }
-{
-    match own {
-        Own::NoName => 0,
-        Own::Unfit => 0,
-        Own::TooLong => 0,
-        Own::Size(size) => size,
-    }
-}
 
 // How long the own data is with which a chunk's body, from at to stop, begins. A row without children has nothing else in
 // its body; before children stand so many bytes, a name or counted elements.
@@ -38,9 +26,9 @@ fn own_length(file: &[u8], row: u64, at: usize, stop: usize) -> usize
     let size = studio_row::size(row);
     let kind = studio_row::kind(row);
     match kind {
-        0 => size_of(studio_own_size::fitting(size, stop - at)),
-        1 => size_of(studio_own_size::name_size(file, at, stop)),
-        _ => size_of(studio_own_size::counted_size(file, size, at, stop)),
+        0 => studio_own_size::fitting(size, stop - at).unwrap_or(0),
+        1 => studio_own_size::name_size(file, at, stop).unwrap_or(0),
+        _ => studio_own_size::counted_size(file, size, at, stop).unwrap_or(0),
     }
 }
 
@@ -117,6 +105,7 @@ pub fn list_run(
 {
     let mut from = at;
     let mut number = next;
+    // a `while`: each chunk's length tells where the next begins
     while from < end {
         let stop = from + (long_at(file, from + 2) as usize);
         number = list_chunk(

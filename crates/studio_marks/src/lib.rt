@@ -110,7 +110,13 @@ fn at_mesh_end(file: &[u8], as_many: bool, marks: &[u32]) -> Result<(), Refusal>
 
 // A chunk at its end, by the marks that its children left: it stands at an offset. A mesh of the file must have as many
 // mapping pairs as vertices, or at most as many.
-pub fn at_end(file: &[u8], id: usize, at: usize, as_many: bool, marks: &[u32]) -> Result<(), Refusal>
+pub fn at_end(
+    file: &[u8],
+    id: usize,
+    at: usize,
+    as_many: bool,
+    marks: &[u32],
+) -> Result<(), Refusal>
     requires { (length marks.now ≡ 6) × (id ≡ 0x4100 → MeshPlaced file.now marks.now) }
     ensures { EndIs file.now id at as_many marks.now result }
 {

@@ -2,18 +2,17 @@
 -- 64th byte.
 use mathlib.Core.Path.{◌≡◌, refl, sym, ap, ◌∙◌}
 use mathlib.Core.Bool.{Bool, true, false, ◌&&◌, cond, false≢true}
-use mathlib.Core.Logic.{◌⊎◌, inl, inr, ⊎_elim}
 use Prim.Native.Nat.{ℕ, zero, suc, ◌+◌, ◌-◌, ◌*◌, ◌/◌, ◌≤◌, ◌<◌, min}
 use native.Mathlib.Nat.{zero-mul, one-mul}
 use native.Mathlib.Omega.{arith}
 use mathlib.Core.List.{List, [], ◌∷◌}
 use lib.Dec.{leb, ltb}
-use lib.ListN.{length, take, drop, get_or, length-drop}
+use lib.ListN.{length, take, drop, get_or}
 use lib.Seq.{slice, length-slice, get_or-take, get_or-drop, drop-drop, take_all}
 use borrow.Author.Tests.{le-leb, leb-true, ltb-true, ltb-false}
 use Rattle.shared_words.specs.Lists.{first_fault}
 use Rattle.shared_words.specs.Labels.{printable, fits_label, label_fault}
-use Rattle.shared_words.proofs.FirstFault.{fault-take, fault-within}
+use Rattle.shared_words.proofs.FirstFault.{fault-take}
 use Rattle.shared_numbers.proofs.Slices.{drop-take}
 use Rattle.shared_labels.proofs.Faults.{fault-drop, rest}
 use Rattle.studio_rules.specs.Table.{name}

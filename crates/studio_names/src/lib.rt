@@ -14,12 +14,10 @@ fn no_zero(s: &[u8], at: usize) -> bool
     ensures { result ≡ true → NoZero s.now at 16 }
 {
     let mut none = true;
-    let mut i = 0usize;
-    while i < 16 {
+    for i in 0..16 {
         if s[at + i] == 0 {
             none = false;
         }
-        i += 1;
     }
     none
 }
@@ -30,6 +28,7 @@ fn skip_blocks(s: &[u8], at: usize, end: usize) -> usize
     ensures { NameOn s.now at result end }
 {
     let mut i = at;
+    // blocks of sixteen, up to a rest that is shorter: a range would count bytes, and chunks of a slice would lose the position
     while 16 <= end - i {
         if !no_zero(s, i) {
             return i;
@@ -45,6 +44,7 @@ fn skip_eights(s: &[u8], at: usize, end: usize) -> usize
     ensures { NameOn s.now at result end }
 {
     let mut i = at;
+    // as above, by eight
     while 8 <= end - i {
         let n = nonzero_front(&s[i..]);
         if n < 8 {
@@ -60,14 +60,13 @@ pub fn name_size(s: &[u8], at: usize, end: usize) -> usize
     requires { (at ≤ end) × (end ≤ length s.now) }
     ensures { result ≡ name_size (slice at end s.now) }
 {
-    let mut i = skip_eights(s, skip_blocks(s, at, end), end);
-    while i < end {
+    let from = skip_eights(s, skip_blocks(s, at, end), end);
+    for i in from..end {
         if s[i] == 0 {
             return i + 1 - at;
         }
-        i += 1;
     }
-    i + 1 - at
+    end + 1 - at
 }
 
 // ---- a name that must fit the label

@@ -16,10 +16,11 @@ use Rattle.studio_rules.specs.Rules.{Parent}
 use Rattle.studio_rules.proofs.Rows.{every_id, listed-every, under-listed}
 use Rattle.studio_row.specs.Packed.{row_of, shape_in}
 use Rattle.studio_row.proofs.Facts.{shape_is}
-use Rattle.studio_own_size.specs.declared.Own.{Own}
+use Rattle.studio_own_size.specs.declared.Flaw.{Flaw}
 use Rattle.studio_own_size.specs.Own.{FitIs, CountIs}
 use Rattle.studio_own_data.specs.Bounds.{BoundIs}
 use Rattle.studio_own_data.proofs.Conditions.{some-around}
+use Rattle.std.specs.Prelude.{Result, Ok, Err}
 
 -- only a B010 stands in a B002
 in_part_test : every_id (λ x. not (under 0xB002 x) || eqb x 0xB010) rows ≡ true
@@ -47,11 +48,11 @@ same_size (each k) a b body e = ap (λ (n : ℕ). k * n) e
 same_size named_words a b body e = refl
 same_size (named k) a b body e = refl
 
-own_with : (sh : Shape) (a b body : List ℕ) → own_size sh a body ≡ own_size sh b body → (r : Own) → FitIs sh a body r → FitIs sh b body r
-own_with sh a b body e Own.NoName h = h
-own_with sh a b body e Own.Unfit h = h
-own_with sh a b body e Own.TooLong (f, h) = (f, record { named = h.named; beyond = omega (arith, e, h.beyond) })
-own_with sh a b body e (Own.Size k) (f, h) = (f, record { named = h.named; is = h.is ∙ e; within = h.within })
+own_with : (sh : Shape) (a b body : List ℕ) → own_size sh a body ≡ own_size sh b body → (r : Result ℕ Flaw) → FitIs sh a body r → FitIs sh b body r
+own_with sh a b body e (Err Flaw.NoName) h = h
+own_with sh a b body e (Err Flaw.Unfit) h = h
+own_with sh a b body e (Err Flaw.TooLong) (f, h) = (f, record { named = h.named; beyond = omega (arith, e, h.beyond) })
+own_with sh a b body e (Ok k) (f, h) = (f, record { named = h.named; is = h.is ∙ e; within = h.within })
 
 -- a chunk in p, where it may stand
 module _ (p : Parent) (id n : ℕ) (u : under p.id id ≡ true) (b : BoundIs p n) where
@@ -68,7 +69,7 @@ module _ (p : Parent) (id n : ℕ) (u : under p.id id ≡ true) (b : BoundIs p n
       go false e = same_size (shape id) (le 2 n) p.own body (sym (some-around n b.small).is ∙ count-around (eqb-false id 0xB010 e))
 
   -- so own data as it is told for some own data with that count word is as it is in p
-  pub own_around : (row : ℕ) → listed id ≡ true → row ≡ row_of id → (body : List ℕ) (r : Own) → ((around : List ℕ) → CountIs around n → FitIs (shape_in row) around body r) → FitIs (shape_in row) p.own body r
+  pub own_around : (row : ℕ) → listed id ≡ true → row ≡ row_of id → (body : List ℕ) (r : Result ℕ Flaw) → ((around : List ℕ) → CountIs around n → FitIs (shape_in row) around body r) → FitIs (shape_in row) p.own body r
   own_around row l e body r told =
       let sh : shape_in row ≡ shape id = ap shape_in e ∙ shape_is id l in
       rw sh (own_with (shape id) (le 2 n) p.own body (some_size body) r (rw sh at (told (le 2 n) (some-around n b.small))))

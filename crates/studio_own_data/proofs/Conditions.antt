@@ -22,8 +22,8 @@ use Rattle.shared_words.proofs.Conditions.{broken-here, broken-later, unbroken}
 use Rattle.studio_row.specs.Packed.{row_of, plain_in, size_in}
 use Rattle.studio_row.proofs.Facts.{Plain, plain-is}
 use Rattle.studio_own_size.specs.Own.{Fits, Exceeds, CountIs}
-use Rattle.studio_own_data.specs.declared.Judged.{Judged}
 use Rattle.studio_own_data.specs.Judges.{JudgedIs, Judges}
+use Rattle.std.specs.Prelude.{Result, Ok, Err}
 
 -- some own data with a given count word
 pub some-around : (n : ℕ) → n < 65536 → CountIs (le 2 n) n
@@ -35,16 +35,16 @@ module _ (p : Parent) (o id : ℕ) (body : List ℕ) where
   abbrev size : ℕ
   size = own_size (shape id) p.own body
 
-  judges : (x : Option Refusal) (r : Judged) → broken (own_conditions p o id body size) ≡ x → JudgedIs size x r → Judges p o id body r
+  judges : (x : Option Refusal) (r : Result ℕ Refusal) → broken (own_conditions p o id body size) ≡ x → JudgedIs size x r → Judges p o id body r
   judges x r e h = subst (λ (y : Option Refusal). JudgedIs size y r) (sym e) h
 
-  pub judge_no_name : has_name (shape id) body ≡ false → Judges p o id body (Judged.Fault (Name o))
+  pub judge_no_name : has_name (shape id) body ≡ false → Judges p o id body (Err (Name o))
   judge_no_name h = judges (some (Name o)) _ (broken-here _ _ _ h) refl
 
-  pub judge_unfit : has_name (shape id) body ≡ true → name_fits (shape id) body ≡ false → Judges p o id body (Judged.Fault (Text o))
+  pub judge_unfit : has_name (shape id) body ≡ true → name_fits (shape id) body ≡ false → Judges p o id body (Err (Text o))
   judge_unfit h f = judges (some (Text o)) _ (broken-later _ _ _ h ∙ broken-here _ _ _ f) refl
 
-  pub judge_too_long : name_fits (shape id) body ≡ true → Exceeds (shape id) p.own body → Judges p o id body (Judged.Fault (Length o))
+  pub judge_too_long : name_fits (shape id) body ≡ true → Exceeds (shape id) p.own body → Judges p o id body (Err (Length o))
   judge_too_long f h =
       judges (some (Length o)) _ (broken-later _ _ _ h.named ∙ broken-later _ _ _ f ∙ broken-here _ _ _ (lt-leb size (length body) h.beyond)) refl
 
@@ -52,28 +52,28 @@ module _ (p : Parent) (o id : ℕ) (body : List ℕ) where
     within : leb size (length body) ≡ true
     within = rw (← fits.is) (le-leb k (length body) fits.within)
 
-    pub judge_left_over : (plus id || leb (length body) k) ≡ false → Judges p o id body (Judged.Fault (Length o))
+    pub judge_left_over : (plus id || leb (length body) k) ≡ false → Judges p o id body (Err (Length o))
     judge_left_over h = judges (some (Length o)) _ (broken-later _ _ _ fits.named ∙ broken-later _ _ _ label ∙ broken-later _ _ _ within ∙ broken-here _ _ _ (rw (← fits.is) h)) refl
 
     module _ (all : (plus id || leb (length body) k) ≡ true) where
       past : broken (own_conditions p o id body size) ≡ broken (drop 4 (own_conditions p o id body size))
       past = broken-later _ _ _ fits.named ∙ broken-later _ _ _ label ∙ broken-later _ _ _ within ∙ broken-later _ _ _ (rw (← fits.is) all)
 
-      pub judge_number : numbers_finite p id (take k body) ≡ false → Judges p o id body (Judged.Fault (Number o))
+      pub judge_number : numbers_finite p id (take k body) ≡ false → Judges p o id body (Err (Number o))
       judge_number h = judges (some (Number o)) _ (past ∙ broken-here _ _ _ (rw (← fits.is) h)) refl
 
-      pub judge_index : numbers_finite p id (take k body) ≡ true → face_numbers_below p id (take k body) ≡ false → Judges p o id body (Judged.Fault (Index o))
+      pub judge_index : numbers_finite p id (take k body) ≡ true → face_numbers_below p id (take k body) ≡ false → Judges p o id body (Err (Index o))
       judge_index f h = judges (some (Index o)) _ (past ∙ broken-later _ _ _ (rw (← fits.is) f) ∙ broken-here _ _ _ (rw (← fits.is) h)) refl
 
       module _ (f : numbers_finite p id (take k body) ≡ true) (h : face_numbers_below p id (take k body) ≡ true) where
         past_index : broken (own_conditions p o id body size) ≡ broken (drop 6 (own_conditions p o id body size))
         past_index = past ∙ broken-later _ _ _ (rw (← fits.is) f) ∙ broken-later _ _ _ (rw (← fits.is) h)
 
-        pub judge_father : father_earlier p id (take k body) ≡ false → Judges p o id body (Judged.Fault (Father o))
+        pub judge_father : father_earlier p id (take k body) ≡ false → Judges p o id body (Err (Father o))
         judge_father g = judges (some (Father o)) _ (past_index ∙ broken-here _ _ _ (rw (← fits.is) g)) refl
 
-        pub judge_fine : father_earlier p id (take k body) ≡ true → Judges p o id body (Judged.Size k)
-        judge_fine g = judges none _ (past_index ∙ broken-later _ _ _ (rw (← fits.is) g) ∙ unbroken [] tt) (ap Judged.Size fits.is)
+        pub judge_fine : father_earlier p id (take k body) ≡ true → Judges p o id body (Ok k)
+        judge_fine g = judges none _ (past_index ∙ broken-later _ _ _ (rw (← fits.is) g) ∙ unbroken [] tt) (ap Ok fits.is)
 
 -- ---- a plain row: its size is all that is asked
 
@@ -84,15 +84,15 @@ module _ (p : Parent) (o id : ℕ) (body : List ℕ) (q : Plain id) where
   plain_label : name_fits (shape id) body ≡ true
   plain_label = rw q.shape-fixed
 
-  plain_fine : length body ≡ size_in (row_of id) → Judges p o id body (Judged.Size (size_in (row_of id)))
+  plain_fine : length body ≡ size_in (row_of id) → Judges p o id body (Ok (size_in (row_of id)))
   plain_fine e =
       judge_fine p o id body (size_in (row_of id)) plain_label (plain_fits (omega (arith, e))) (rw q.no_plus (le-leb (length body) (size_in (row_of id)) (omega (arith, e))))
       (rw (q.not_4110, q.not_4140)) (rw q.not_4130) (rw q.not_B010)
 
-  plain-fault : (length body ≡ size_in (row_of id) → ⊥) → Judges p o id body (Judged.Fault (Length o))
+  plain-fault : (length body ≡ size_in (row_of id) → ⊥) → Judges p o id body (Err (Length o))
   plain-fault ne = go (leb (length body) (size_in (row_of id))) refl
     where
-      go : (b : Bool) → leb (length body) (size_in (row_of id)) ≡ b → Judges p o id body (Judged.Fault (Length o))
+      go : (b : Bool) → leb (length body) (size_in (row_of id)) ≡ b → Judges p o id body (Err (Length o))
       go true h =
           let m = leb-true (length body) (size_in (row_of id)) h in
           judge_too_long p o id body plain_label (subst (λ (sh : Shape). Exceeds sh p.own body) (sym q.shape-fixed) record { named = refl; beyond = omega (arith, m, ne) })
@@ -111,9 +111,9 @@ module _ (s : List ℕ) (at past id row k : ℕ) (order : at + 6 ≤ past) (stay
   body-length : length (slice (at + 6) past s) ≡ past - (at + 6)
   body-length = length-slice (at + 6) past s stays
 
-  pub plain-chunk_fine : past - at ≡ 6 + k → Judges p at id (slice (at + 6) past s) (Judged.Size k)
+  pub plain-chunk_fine : past - at ≡ 6 + k → Judges p at id (slice (at + 6) past s) (Ok k)
   plain-chunk_fine h =
-      subst (λ (n : ℕ). Judges p at id (slice (at + 6) past s) (Judged.Size n)) (sym size_of) (plain_fine p at id (slice (at + 6) past s) row_plain (omega (arith, body-length, size_of, h, order)))
+      subst (λ (n : ℕ). Judges p at id (slice (at + 6) past s) (Ok n)) (sym size_of) (plain_fine p at id (slice (at + 6) past s) row_plain (omega (arith, body-length, size_of, h, order)))
 
-  pub plain-chunk-fault : (past - at ≡ 6 + k → ⊥) → Judges p at id (slice (at + 6) past s) (Judged.Fault (Length at))
+  pub plain-chunk-fault : (past - at ≡ 6 + k → ⊥) → Judges p at id (slice (at + 6) past s) (Err (Length at))
   plain-chunk-fault ne = plain-fault p at id (slice (at + 6) past s) row_plain (λ f. ne (omega (arith, f, body-length, size_of, order)))

@@ -3,3 +3,4 @@ pub mod Conditions
 pub mod Bounds
 pub mod Numbers
 pub mod Sized
+mod Flaws

@@ -16,15 +16,15 @@ use Rattle.studio_rules.proofs.OwnSize.{own_size_less}
 use Rattle.shared_numbers.proofs.Slices.{take-slice}
 use Rattle.studio_row.specs.Packed.{row_of, plus_in, shape_in}
 use Rattle.studio_row.proofs.Facts.{plus-is, shape_is}
-use Rattle.studio_own_size.specs.declared.Own.{Own}
+use Rattle.studio_own_size.specs.declared.Flaw.{Flaw}
 use Rattle.studio_own_size.specs.Own.{Fits, FitIs}
-use Rattle.studio_own_data.specs.declared.Judged.{Judged}
 use Rattle.studio_own_data.specs.Judges.{Exact, Judges}
 use Rattle.studio_own_data.proofs.Conditions.{judge_left_over, judge_number, judge_index, judge_father, judge_fine}
+use Rattle.std.specs.Prelude.{Result, Ok, Err}
 
 -- what was found of the row's shape is so of the identifier's
-module _ (id row : ℕ) (l : listed id ≡ true) (e : row ≡ row_of id) (around body : List ℕ) (r : Own) (found : FitIs (shape_in row) around body r) where
-  pub own_of_row : (x : Own) → r ≡ x → FitIs (shape id) around body x
+module _ (id row : ℕ) (l : listed id ≡ true) (e : row ≡ row_of id) (around body : List ℕ) (r : Result ℕ Flaw) (found : FitIs (shape_in row) around body r) where
+  pub own_of_row : (x : Result ℕ Flaw) → r ≡ x → FitIs (shape id) around body x
   own_of_row x f = subst (FitIs (shape id) around body) f (subst (λ (sh : Shape). FitIs sh around body r) (ap shape_in e ∙ shape_is id l) found)
 
 -- a listed chunk from at to stop, whose own data takes k bytes
@@ -37,7 +37,7 @@ pub record Sized (s : List ℕ) (at stop id row : ℕ) (around : List ℕ) (k : 
   pub fits : Fits (shape id) around (slice (at + 6) stop s) k
 
 pub sized : {at stop id row : ℕ} → at + 6 ≤ stop → {s : List ℕ} → stop ≤ length s → listed id ≡ true → row ≡ row_of id →
-    (around : List ℕ) (r : Own) → FitIs (shape_in row) around (slice (at + 6) stop s) r → {k : ℕ} → r ≡ Own.Size k → Sized s at stop id row around k
+    (around : List ℕ) (r : Result ℕ Flaw) → FitIs (shape_in row) around (slice (at + 6) stop s) r → {k : ℕ} → r ≡ Ok k → Sized s at stop id row around k
 sized o l m e around r found f =
     let own = own_of_row _ _ m e around _ r found _ f in
     record { order = o; stays = l; known = m; row_is = e; label = own.0; fits = own.1 }
@@ -80,7 +80,7 @@ module _ {s : List ℕ} {at stop id row : ℕ} {around : List ℕ} {k : ℕ} (z 
 
 -- the conditions, by the tests of the code
 module _ (p : Parent) {s : List ℕ} {at stop id row k : ℕ} (z : Sized s at stop id row p.own k) where
-  pub is-left-over : not (plus_in row || leb stop (at + 6 + k)) ≡ true → Judges p at id (slice (at + 6) stop s) (Judged.Fault (Length at))
+  pub is-left-over : not (plus_in row || leb stop (at + 6 + k)) ≡ true → Judges p at id (slice (at + 6) stop s) (Err (Length at))
   is-left-over l = judge_left_over p at id (slice (at + 6) stop s) k z.label z.fits (left-over-is z ∙ not-true _ l)
 
   module _ (l : not (plus_in row || leb stop (at + 6 + k)) ≡ false) where
@@ -93,19 +93,19 @@ module _ (p : Parent) {s : List ℕ} {at stop id row k : ℕ} (z : Sized s at st
     below_as : {b : Bool} → face_numbers_below p id (slice (at + 6) (at + 6 + k) s) ≡ b → face_numbers_below p id (take k (slice (at + 6) stop s)) ≡ b
     below_as e = ap (λ (own : List ℕ). face_numbers_below p id own) (own_is z) ∙ e
 
-    pub has_bad_number : numbers_finite p id (slice (at + 6) (at + 6 + k) s) ≡ false → Judges p at id (slice (at + 6) stop s) (Judged.Fault (Number at))
+    pub has_bad_number : numbers_finite p id (slice (at + 6) (at + 6 + k) s) ≡ false → Judges p at id (slice (at + 6) stop s) (Err (Number at))
     has_bad_number n = judge_number p at id (slice (at + 6) stop s) k z.label z.fits whole (finite_as n)
 
     module _ (n : numbers_finite p id (slice (at + 6) (at + 6 + k) s) ≡ true) where
-      pub has_bad_index : face_numbers_below p id (slice (at + 6) (at + 6 + k) s) ≡ false → Judges p at id (slice (at + 6) stop s) (Judged.Fault (Index at))
+      pub has_bad_index : face_numbers_below p id (slice (at + 6) (at + 6 + k) s) ≡ false → Judges p at id (slice (at + 6) stop s) (Err (Index at))
       has_bad_index b = judge_index p at id (slice (at + 6) stop s) k z.label z.fits whole (finite_as n) (below_as b)
 
       module _ (b : face_numbers_below p id (slice (at + 6) (at + 6 + k) s) ≡ true) where
         father_as : {b : Bool} → father_earlier p id (slice (at + 6) (at + 6 + k) s) ≡ b → father_earlier p id (take k (slice (at + 6) stop s)) ≡ b
         father_as e = ap (λ (own : List ℕ). father_earlier p id own) (own_is z) ∙ e
 
-        pub has_bad_father : father_earlier p id (slice (at + 6) (at + 6 + k) s) ≡ false → Judges p at id (slice (at + 6) stop s) (Judged.Fault (Father at))
+        pub has_bad_father : father_earlier p id (slice (at + 6) (at + 6 + k) s) ≡ false → Judges p at id (slice (at + 6) stop s) (Err (Father at))
         has_bad_father f = judge_father p at id (slice (at + 6) stop s) k z.label z.fits whole (finite_as n) (below_as b) (father_as f)
 
-        pub is_fine : father_earlier p id (slice (at + 6) (at + 6 + k) s) ≡ true → Judges p at id (slice (at + 6) stop s) (Judged.Size k)
+        pub is_fine : father_earlier p id (slice (at + 6) (at + 6 + k) s) ≡ true → Judges p at id (slice (at + 6) stop s) (Ok k)
         is_fine f = judge_fine p at id (slice (at + 6) stop s) k z.label z.fits whole (finite_as n) (below_as b) (father_as f)

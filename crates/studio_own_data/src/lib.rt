@@ -7,11 +7,11 @@ ghost use Rattle.studio_rules.specs.Table.{listed, under};
 ghost use Rattle.studio_rules.specs.Rules.{Parent, numbers_finite, face_numbers_below, father_earlier};
 ghost use Rattle.studio_row.specs.Packed.{plus_in, row_of};
 ghost use Rattle.studio_own_data.specs.Bounds.{BoundIs};
-ghost use Rattle.studio_own_data.specs.Judges.{Exact, Judges};
+ghost use Rattle.studio_own_data.specs.Judges.{Exact, refusal_of, Judges};
 
 use shared_numbers::word_at;
 use shared_words::Refusal;
-use studio_own_size::Own;
+use studio_own_size::{Flaw, own_size};
 
 // Whether the floats of a 4110 or a 4140, whose own data stands from at to stop, are finite.
 fn numbers_finite(file: &[u8], id: usize, at: usize, stop: usize) -> bool
@@ -68,44 +68,56 @@ fn leaves_bytes(row: u64, from: usize, stop: usize) -> bool
     }
 }
 
-// What own data of the chunk at a position comes to: a fault, or so many bytes.
-#[derive(Clone, Copy)]
-pub enum Judged {
-    Fault(Refusal),
-    Size(usize),
+// What a flaw of own data comes to, in the chunk at a position.
+fn refusal_of(flaw: Flaw, at: usize) -> Refusal
+    ensures { result ≡ refusal_of flaw at }
+{
+    match flaw {
+        Flaw::NoName => Refusal::Name(at),
+        Flaw::Unfit => Refusal::Text(at),
+        Flaw::TooLong => Refusal::Length(at),
+    }
 }
 
-// Own data of any row.
-fn judge_any(file: &[u8], id: usize, row: u64, count: u32, at: usize, stop: usize) -> Judged
+// Own data of any row: how many bytes it has.
+fn judge_any(
+    file: &[u8],
+    id: usize,
+    row: u64,
+    count: u32,
+    at: usize,
+    stop: usize,
+) -> Result<usize, Refusal>
     requires { (at + 6 ≤ stop) × (stop ≤ length file.now) × (count < 65536) × (listed id ≡ true) × (row ≡ row_of id) }
     ensures { (p : Parent) → under p.id id ≡ true → BoundIs p count → Judges p at id (slice (at + 6) stop file.now) result }
 {
-    match studio_own_size::own_size(file, row, count, at + 6, stop) {
-        Own::NoName => Judged::Fault(Refusal::Name(at)),
-        Own::Unfit => Judged::Fault(Refusal::Text(at)),
-        Own::TooLong => Judged::Fault(Refusal::Length(at)),
-        Own::Size(size) => {
-            let from = at + 6 + size;
-            if leaves_bytes(row, from, stop) {
-                return Judged::Fault(Refusal::Length(at));
-            }
-            if !numbers_finite(file, id, at + 6, from) {
-                return Judged::Fault(Refusal::Number(at));
-            }
-            if !face_numbers_below(file, id, count, at + 6, from) {
-                return Judged::Fault(Refusal::Index(at));
-            }
-            if !father_earlier(file, id, count, at + 6, from) {
-                return Judged::Fault(Refusal::Father(at));
-            }
-            Judged::Size(size)
-        }
+    let size = own_size(file, row, count, at + 6, stop).map_err(|flaw| refusal_of(flaw, at))?;
+    let from = at + 6 + size;
+    if leaves_bytes(row, from, stop) {
+        return Err(Refusal::Length(at));
     }
+    if !numbers_finite(file, id, at + 6, from) {
+        return Err(Refusal::Number(at));
+    }
+    if !face_numbers_below(file, id, count, at + 6, from) {
+        return Err(Refusal::Index(at));
+    }
+    if !father_earlier(file, id, count, at + 6, from) {
+        return Err(Refusal::Father(at));
+    }
+    Ok(size)
 }
 
 // The own data of a listed chunk that stands from at to stop, in a place where it may; count is the bound for what stands in
 // the chunk around. A plain row has one condition only, and is told at once.
-pub fn judge(file: &[u8], id: usize, row: u64, count: u32, at: usize, stop: usize) -> Judged
+pub fn judge(
+    file: &[u8],
+    id: usize,
+    row: u64,
+    count: u32,
+    at: usize,
+    stop: usize,
+) -> Result<usize, Refusal>
     requires { (at + 6 ≤ stop) × (stop ≤ length file.now) × (count < 65536) × (listed id ≡ true) × (row ≡ row_of id) }
     ensures { (p : Parent) → under p.id id ≡ true → BoundIs p count → Judges p at id (slice (at + 6) stop file.now) result }
 {
@@ -114,8 +126,8 @@ pub fn judge(file: &[u8], id: usize, row: u64, count: u32, at: usize, stop: usiz
     }
     let size = studio_row::size(row);
     if stop - at == 6 + size {
-        Judged::Size(size)
+        Ok(size)
     } else {
-        Judged::Fault(Refusal::Length(at))
+        Err(Refusal::Length(at))
     }
 }

@@ -15,9 +15,10 @@ use Rattle.shared_numbers.proofs.Slices.{word_slice, drop-slice}
 use Rattle.studio_names.specs.Names.{fit_size}
 use Rattle.studio_names.proofs.Fits.{fitted, unfitted}
 use Rattle.studio_row.specs.Packed.{kind_in, size_in, shape_from, shape_in}
-use Rattle.studio_own_size.specs.declared.Own.{Own}
-use Rattle.studio_own_size.specs.declared.Own.TheVariants.{NoName, Unfit, TooLong, Size}
+use Rattle.studio_own_size.specs.declared.Flaw.{Flaw}
+use Rattle.studio_own_size.specs.declared.Flaw.TheVariants.{NoName, Unfit, TooLong}
 use Rattle.studio_own_size.specs.Own.{Fitted, Fits, Exceeds, OwnIs, FitIs, CountIs}
+use Rattle.std.specs.Prelude.{Result, Ok, Err}
 
 -- a product of a byte and a word, which the code computes
 pub product_small : (a b : ℕ) → a < 256 → b < 65536 → a * b ≤ 16711425
@@ -26,23 +27,23 @@ product_small a b h k = mul-le-mul {n₁ = a} {m₁ = b} {n₂ = 255} {m₂ = 65
 -- ---- so many bytes, in the room of a body
 
 module _ (sh : Shape) (around body : List ℕ) (k room : ℕ) (named : has_name sh body ≡ true) (is : own_size sh around body ≡ k) (all : length body ≡ room) where
-  pub fitted-is : (r : Own) → Fitted k room r → OwnIs sh around body r
-  fitted-is NoName h = absurd h
-  fitted-is Unfit h = absurd h
-  fitted-is TooLong h = record { named = named; beyond = omega arith }
-  fitted-is (Size n) h = record { named = named; is = h.0 ∙ sym is; within = omega arith }
+  pub fitted-is : (r : Result ℕ Flaw) → Fitted k room r → OwnIs sh around body r
+  fitted-is (Err NoName) h = absurd h
+  fitted-is (Err Unfit) h = absurd h
+  fitted-is (Err TooLong) h = record { named = named; beyond = omega arith }
+  fitted-is (Ok n) h = record { named = named; is = h.0 ∙ sym is; within = omega arith }
 
 module _ (s : List ℕ) (at stop : ℕ) (order : at ≤ stop) (end : stop ≤ length s) where
   body-length : length (slice at stop s) ≡ stop - at
   body-length = length-slice at stop s end
 
-  pub fixed-is : (k : ℕ) (around : List ℕ) (r : Own) → Fitted k (stop - at) r → OwnIs (fixed k) around (slice at stop s) r
+  pub fixed-is : (k : ℕ) (around : List ℕ) (r : Result ℕ Flaw) → Fitted k (stop - at) r → OwnIs (fixed k) around (slice at stop s) r
   fixed-is k around = fitted-is (fixed k) around (slice at stop s) k (stop - at) refl refl body-length
 
-  pub each-is : (k n : ℕ) (around : List ℕ) → CountIs around n → (r : Own) → Fitted (k * n) (stop - at) r → OwnIs (each k) around (slice at stop s) r
+  pub each-is : (k n : ℕ) (around : List ℕ) → CountIs around n → (r : Result ℕ Flaw) → Fitted (k * n) (stop - at) r → OwnIs (each k) around (slice at stop s) r
   each-is k n around h = fitted-is (each k) around (slice at stop s) (k * n) (stop - at) refl (ap (λ (m : ℕ). k * m) (sym h.is)) body-length
 
-  pub counted_is : (k w : ℕ) → 2 ≤ stop - at → w ≡ word_at s at → (r : Own) → Fitted (2 + k * w) (stop - at) r → OwnIs (counted k) [] (slice at stop s) r
+  pub counted_is : (k w : ℕ) → 2 ≤ stop - at → w ≡ word_at s at → (r : Result ℕ Flaw) → Fitted (2 + k * w) (stop - at) r → OwnIs (counted k) [] (slice at stop s) r
   counted_is k w l e =
       fitted-is (counted k) [] (slice at stop s) (2 + k * w) (stop - at) refl (rw (word_slice at stop s (omega arith), e)) body-length
 
@@ -57,12 +58,12 @@ module _ (s : List ℕ) (at stop : ℕ) (order : at ≤ stop) (end : stop ≤ le
 
   -- the name that fits the label
   module _ (n : ℕ) (e : n ≡ fit_size (slice at stop s)) where
-    pub label_is : (n ≡ 0 → ⊥) → FitIs name [] (slice at stop s) (Size n)
+    pub label_is : (n ≡ 0 → ⊥) → FitIs name [] (slice at stop s) (Ok n)
     label_is some =
         let f = fitted (slice at stop s) (λ q. some (e ∙ q)) in
         (f.1, record { named = f.0; is = e ∙ f.2; within = omega (arith, e, f.2, leb-true (name_size (slice at stop s)) (length (slice at stop s)) f.0) })
 
-    pub label_unfit : n ≡ 0 → (z : ℕ) → z ≡ name_size (slice at stop s) → z ≤ stop - at → FitIs name [] (slice at stop s) Unfit
+    pub label_unfit : n ≡ 0 → (z : ℕ) → z ≡ name_size (slice at stop s) → z ≤ stop - at → FitIs name [] (slice at stop s) (Err Unfit)
     label_unfit none z f h = let has = (name-is z f h).named in (has, unfitted (slice at stop s) (sym e ∙ none) has)
 
   module _ (z : ℕ) (e : z ≡ name_size (slice at stop s)) (fits : z ≤ stop - at) where
@@ -76,11 +77,11 @@ module _ (s : List ℕ) (at stop : ℕ) (order : at ≤ stop) (end : stop ≤ le
     pub words_count : z + 2 ≤ stop - at → count (drop (name_size (slice at stop s)) (slice at stop s)) ≡ word_at s (at + z)
     words_count l = rw (← e, drop-slice z at stop s) (word_slice (at + z) stop s (omega arith))
 
-    pub words_is : (w : ℕ) → z + 2 ≤ stop - at → w ≡ word_at s (at + z) → (r : Own) → Fitted (z + 2 + 2 * w) (stop - at) r → OwnIs named_words [] (slice at stop s) r
+    pub words_is : (w : ℕ) → z + 2 ≤ stop - at → w ≡ word_at s (at + z) → (r : Result ℕ Flaw) → Fitted (z + 2 + 2 * w) (stop - at) r → OwnIs named_words [] (slice at stop s) r
     words_is w l f =
         fitted-is named_words [] (slice at stop s) (z + 2 + 2 * w) (stop - at) has (omega (arith, words_count l)) body-length
 
-    pub named-is : (k : ℕ) (r : Own) → Fitted (z + k) (stop - at) r → OwnIs (named k) [] (slice at stop s) r
+    pub named-is : (k : ℕ) (r : Result ℕ Flaw) → Fitted (z + k) (stop - at) r → OwnIs (named k) [] (slice at stop s) r
     named-is k = fitted-is (named k) [] (slice at stop s) (z + k) (stop - at) has (omega arith) body-length
 
   -- ---- the count word of own data
@@ -135,30 +136,22 @@ kind-named row = rest-named (kind_in row) (size_in row)
 -- ---- the name judged too
 
 -- where there is no name, or it fits
-pub name_fine : (sh : Shape) (around body : List ℕ) → name_fits sh body ≡ true → (r : Own) → OwnIs sh around body r → FitIs sh around body r
-name_fine sh around body f NoName h = h
-name_fine sh around body f Unfit h = absurd h
-name_fine sh around body f TooLong h = (f, h)
-name_fine sh around body f (Size k) h = (f, h)
-
-abbrev pub NoSize : Own → Type 0
-NoSize NoName = Unit
-NoSize Unfit = Unit
-NoSize TooLong = Unit
-NoSize (Size k) = ⊥
+pub name_fine : (sh : Shape) (around body : List ℕ) → name_fits sh body ≡ true → (r : Result ℕ Flaw) → OwnIs sh around body r → FitIs sh around body r
+name_fine sh around body f (Err NoName) h = h
+name_fine sh around body f (Err Unfit) h = absurd h
+name_fine sh around body f (Err TooLong) h = (f, h)
+name_fine sh around body f (Ok k) h = (f, h)
 
 -- a fault of the name alone is one of a name with words, or bytes, behind it
-pub name-of_words : (body : List ℕ) (x : Own) → FitIs name [] body x → NoSize x → FitIs named_words [] body x
-name-of_words body NoName h n = h
-name-of_words body Unfit h n = h
-name-of_words body TooLong h n = (h.0, record { named = h.1.named; beyond = omega (arith, h.1.beyond) })
-name-of_words body (Size k) h n = absurd n
+pub name-of_words : (body : List ℕ) (x : Flaw) → FitIs name [] body (Err x) → FitIs named_words [] body (Err x)
+name-of_words body NoName h = h
+name-of_words body Unfit h = h
+name-of_words body TooLong h = (h.0, record { named = h.1.named; beyond = omega (arith, h.1.beyond) })
 
-pub name-of-named : (more : ℕ) (body : List ℕ) (x : Own) → FitIs name [] body x → NoSize x → FitIs (named more) [] body x
-name-of-named more body NoName h n = h
-name-of-named more body Unfit h n = h
-name-of-named more body TooLong h n = (h.0, record { named = h.1.named; beyond = omega (arith, h.1.beyond) })
-name-of-named more body (Size k) h n = absurd n
+pub name-of-named : (more : ℕ) (body : List ℕ) (x : Flaw) → FitIs name [] body (Err x) → FitIs (named more) [] body (Err x)
+name-of-named more body NoName h = h
+name-of-named more body Unfit h = h
+name-of-named more body TooLong h = (h.0, record { named = h.1.named; beyond = omega (arith, h.1.beyond) })
 
 -- own data that does not look at the chunk around
 module _ (sh : Shape) (alike : (a b body : List ℕ) → own_size sh a body ≡ own_size sh b body) (around body : List ℕ) where
@@ -168,14 +161,14 @@ module _ (sh : Shape) (alike : (a b body : List ℕ) → own_size sh a body ≡ 
   fits-any : (k : ℕ) → Fits sh [] body k → Fits sh around body k
   fits-any k h = record { named = h.named; is = h.is ∙ alike [] around body; within = h.within }
 
-  pub around-any : (r : Own) → OwnIs sh [] body r → OwnIs sh around body r
-  around-any NoName h = h
-  around-any Unfit h = h
-  around-any TooLong h = exceeds_any h
-  around-any (Size k) h = fits-any k h
+  pub around-any : (r : Result ℕ Flaw) → OwnIs sh [] body r → OwnIs sh around body r
+  around-any (Err NoName) h = h
+  around-any (Err Unfit) h = h
+  around-any (Err TooLong) h = exceeds_any h
+  around-any (Ok k) h = fits-any k h
 
-  pub fit_any : (r : Own) → FitIs sh [] body r → FitIs sh around body r
-  fit_any NoName h = h
-  fit_any Unfit h = h
-  fit_any TooLong h = (h.0, exceeds_any h.1)
-  fit_any (Size k) h = (h.0, fits-any k h.1)
+  pub fit_any : (r : Result ℕ Flaw) → FitIs sh [] body r → FitIs sh around body r
+  fit_any (Err NoName) h = h
+  fit_any (Err Unfit) h = h
+  fit_any (Err TooLong) h = (h.0, exceeds_any h.1)
+  fit_any (Ok k) h = (h.0, fits-any k h.1)

@@ -11,68 +11,67 @@ ghost use Rattle.studio_own_size.specs.Own.{Fitted, OwnIs, FitIs, CountIs};
 use shared_numbers::word_at;
 use studio_names::{fit_size, fit_size_16};
 
-// The size of own data: no zero ends its name; its name does not fit the label; it is longer than the body; or so many bytes.
+// Why own data has no size: no zero ends its name; its name does not fit the label; or it is longer than the body.
 #[derive(Clone, Copy)]
-pub enum Own {
+pub enum Flaw {
     NoName,
     Unfit,
     TooLong,
-    Size(usize),
 }
 
 // So many bytes, where there is room for them.
-pub fn fitting(size: usize, room: usize) -> Own
+pub fn fitting(size: usize, room: usize) -> Result<usize, Flaw>
     ensures { Fitted size room result }
 {
     if size <= room {
-        Own::Size(size)
+        Ok(size)
     } else {
-        Own::TooLong
+        Err(Flaw::TooLong)
     }
 }
 
 // A count word, and so many bytes for each.
-pub fn counted_size(file: &[u8], each: usize, at: usize, stop: usize) -> Own
+pub fn counted_size(file: &[u8], each: usize, at: usize, stop: usize) -> Result<usize, Flaw>
     requires { (at ≤ stop) × (stop ≤ length file.now) × (each < 256) }
     ensures { OwnIs (counted each) [] (slice at stop file.now) result }
 {
     let room = stop - at;
     if room < 2 {
-        return Own::TooLong;
+        return Err(Flaw::TooLong);
     }
     fitting(2 + each * (word_at(file, at) as usize), room)
 }
 
 // A name, whatever its text: of a file that is known to be good.
-pub fn name_size(file: &[u8], at: usize, stop: usize) -> Own
+pub fn name_size(file: &[u8], at: usize, stop: usize) -> Result<usize, Flaw>
     requires { (at ≤ stop) × (stop ≤ length file.now) }
     ensures { OwnIs name [] (slice at stop file.now) result }
 {
     let size = studio_names::name_size(file, at, stop);
     if size <= stop - at {
-        Own::Size(size)
+        Ok(size)
     } else {
-        Own::NoName
+        Err(Flaw::NoName)
     }
 }
 
 // A name that must fit the label, which has so many bytes. Only where there is none is a zero looked for in the whole body.
-fn label(file: &[u8], size: usize, at: usize, stop: usize) -> Own
+fn label(file: &[u8], size: usize, at: usize, stop: usize) -> Result<usize, Flaw>
     requires { (at ≤ stop) × (stop ≤ length file.now) × (size ≡ fit_size (slice at stop file.now)) }
     ensures { FitIs name [] (slice at stop file.now) result }
 {
     if size != 0 {
-        return Own::Size(size);
+        return Ok(size);
     }
     if studio_names::name_size(&file[0..], at, stop) <= stop - at {
-        Own::Unfit
+        Err(Flaw::Unfit)
     } else {
-        Own::NoName
+        Err(Flaw::NoName)
     }
 }
 
 // A name that must fit the label and mostly has up to eight bytes: of an object, a material, a map.
-fn short_label(file: &[u8], at: usize, stop: usize) -> Own
+fn short_label(file: &[u8], at: usize, stop: usize) -> Result<usize, Flaw>
     requires { (at ≤ stop) × (stop ≤ length file.now) }
     ensures { FitIs name [] (slice at stop file.now) result }
 {
@@ -80,7 +79,7 @@ fn short_label(file: &[u8], at: usize, stop: usize) -> Own
 }
 
 // One with more behind it: mostly it has up to sixteen.
-fn long_label(file: &[u8], at: usize, stop: usize) -> Own
+fn long_label(file: &[u8], at: usize, stop: usize) -> Result<usize, Flaw>
     requires { (at ≤ stop) × (stop ≤ length file.now) }
     ensures { FitIs name [] (slice at stop file.now) result }
 {
@@ -88,40 +87,29 @@ fn long_label(file: &[u8], at: usize, stop: usize) -> Own
 }
 
 // A name that must fit the label, a count word and words.
-fn named_words_size(file: &[u8], at: usize, stop: usize) -> Own
+fn named_words_size(file: &[u8], at: usize, stop: usize) -> Result<usize, Flaw>
     requires { (at ≤ stop) × (stop ≤ length file.now) }
     ensures { FitIs named_words [] (slice at stop file.now) result }
 {
-    match long_label(file, at, stop) {
-        Own::NoName => Own::NoName,
-        Own::Unfit => Own::Unfit,
-        Own::TooLong => Own::TooLong,
-        Own::Size(size) => {
-            let room = stop - at;
-            if room < size + 2 {
-                return Own::TooLong;
-            }
-            fitting(size + 2 + 2 * (word_at(file, at + size) as usize), room)
-        }
+    let size = long_label(file, at, stop)?;
+    let room = stop - at;
+    if room < size + 2 {
+        return Err(Flaw::TooLong);
     }
+    fitting(size + 2 + 2 * (word_at(file, at + size) as usize), room)
 }
 
 // A name that must fit the label, and so many bytes behind it.
-fn named_size(file: &[u8], more: usize, at: usize, stop: usize) -> Own
+fn named_size(file: &[u8], more: usize, at: usize, stop: usize) -> Result<usize, Flaw>
     requires { (at ≤ stop) × (stop ≤ length file.now) × (more < 256) }
     ensures { FitIs (named more) [] (slice at stop file.now) result }
 {
-    let own = long_label(file, at, stop);
-    match own {
-        Own::NoName => own,
-        Own::Unfit => own,
-        Own::TooLong => own,
-        Own::Size(size) => fitting(size + more, stop - at),
-    }
+    let size = long_label(file, at, stop)?;
+    fitting(size + more, stop - at)
 }
 
 // Own data of a row's shape, its name judged too, in the body from at to stop; count is the count word of the chunk around.
-pub fn own_size(file: &[u8], row: u64, count: u32, at: usize, stop: usize) -> Own
+pub fn own_size(file: &[u8], row: u64, count: u32, at: usize, stop: usize) -> Result<usize, Flaw>
     requires { (at ≤ stop) × (stop ≤ length file.now) × (count < 65536) }
     ensures { (around : List ℕ) → CountIs around count → FitIs (shape_in row) around (slice at stop file.now) result }
 {

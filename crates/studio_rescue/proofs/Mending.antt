@@ -19,18 +19,18 @@ use Rattle.studio_rules.proofs.Sound.{length-bytes}
 use Rattle.studio_rules.proofs.Verdict.{length-figure}
 use Rattle.studio_walk.proofs.Chunks.{clash}
 use Rattle.studio_walk.proofs.Parts.{bytes-slice}
-use Rattle.studio_rescue_rules.specs.declared.Mended.{Mended}
 use Rattle.studio_rescue_rules.specs.Rescue.{version_of, Cut, Sifted, sift, sifted_at, mended, saved, rescue, gone}
-use Rattle.studio_rescue_rules.specs.Call.{flat, cut_bytes, rescue_call}
+use Rattle.studio_rescue_rules.specs.Call.{flat, cut_bytes, rescue_call, mended_answer}
 use Rattle.studio_rescue_rules.proofs.Sift.{sift-says}
 use Rattle.studio_rescue_rules.proofs.Mend.{Torn}
 use Rattle.studio_rescue_rules.proofs.File.{MendedFile, file-mended}
 use Rattle.studio_rescue_rules.proofs.Back.{damaged, result, old-length, len_lowered, sizes, body_is, sifted-is}
-use Rattle.studio_rescue_around.specs.declared.Outside.{Outside}
-use Rattle.studio_rescue_around.specs.Around.{outside_of}
+use Rattle.studio_rescue_around.specs.declared.Scene.{Scene}
+use Rattle.studio_rescue_around.specs.Around.{outside_of, scene_from}
 use Rattle.studio_rescue_sift.specs.declared.Cuts.{Cuts}
 use Rattle.studio_rescue_sift.specs.Children.{cuts_of}
 use Rattle.studio_rescue.specs.Parts.{rescue_rows, front_of, PutIs}
+use Rattle.std.specs.Prelude.{Err}
 
 pub front_length : (s : List ℕ) (at n m : ℕ) → 6 ≤ at → at + 6 ≤ length s → length (front_of s at n m) ≡ at + 6
 front_length s at n m h l =
@@ -55,18 +55,19 @@ pub record Found (s : List ℕ) (at stop : ℕ) : Type 0 where
   pub at-is : at ≡ offset_of 0x3D3D 6 kids
   pub stop_is : stop ≡ at + length_field (drop at s)
 
-pub outside-beyond : (s : List ℕ) (a : Answer Run) (r : Refusal) → Outside.Beyond r ≡ outside_of s a → a ≡ refused r
+pub outside-beyond : (s : List ℕ) (a : Answer Run) (r : Refusal) → Err r ≡ outside_of s a → a ≡ refused r
 outside-beyond s (refused q) r e = cc
 outside-beyond s (accepted kids) r e = absurd (clash (cc))
 
-pub outside-scene : (s : List ℕ) (at stop : ℕ) → Outside.Scene at stop ≡ outside_of s (mended s) → Found s at stop
+pub outside-scene : (s : List ℕ) (at stop : ℕ) → scene_from at stop ≡ outside_of s (mended s) → Found s at stop
 outside-scene s at stop e = go (mended s) refl e
   where
-    go : (a : Answer Run) → mended s ≡ a → Outside.Scene at stop ≡ outside_of s a → Found s at stop
+    go : (a : Answer Run) → mended s ≡ a → scene_from at stop ≡ outside_of s a → Found s at stop
     go (refused q) m e = absurd (clash (cc))
     go (accepted kids) m e =
-        let i : at ≡ offset_of 0x3D3D 6 kids = cc in
-        let j : stop ≡ offset_of 0x3D3D 6 kids + length_field (drop (offset_of 0x3D3D 6 kids) s) = cc in
+        let r : ◌≡◌ {A = Scene} record { at = at; stop = stop } record { at = offset_of 0x3D3D 6 kids; stop = offset_of 0x3D3D 6 kids + length_field (drop (offset_of 0x3D3D 6 kids) s) } = cc in
+        let i : at ≡ offset_of 0x3D3D 6 kids = ap (λ (x : Scene). x.at) r in
+        let j : stop ≡ offset_of 0x3D3D 6 kids + length_field (drop (offset_of 0x3D3D 6 kids) s) = ap (λ (x : Scene). x.stop) r in
         record { kids = kids; is = m; at-is = i; stop_is = j ∙ rw i }
 
 -- two headers in four parts, with what stands between and behind them
@@ -186,20 +187,20 @@ module _ (s : List ℕ) (b : Bytes s) (at stop : ℕ) (g : Found s at stop) wher
 -- ---- the call
 
 module _ (s cuts out : List ℕ) where
-  pub call-beyond : (r : Refusal) → mended s ≡ refused r → rescue_call cut_bytes s (rescue_rows cuts out) ≡ leaving (Mended.Refused r) (rescue_rows cuts out)
+  pub call-beyond : (r : Refusal) → mended s ≡ refused r → rescue_call cut_bytes s (rescue_rows cuts out) ≡ leaving (Err r) (rescue_rows cuts out)
   unfolding rescue_call rescue
   call-beyond r e = rw e
 
   module _ (s' : List ℕ) (cs : List Cut) (e : rescue s ≡ saved s' cs) (n k : ℕ) (n-is : n ≡ length cs) (k-is : length s' ≡ k) where
-    pub few-cuts : length cuts / 12 < n → rescue_call cut_bytes s (rescue_rows cuts out) ≡ leaving (Mended.Refused (NoRoom n)) (rescue_rows cuts out)
+    pub few-cuts : length cuts / 12 < n → rescue_call cut_bytes s (rescue_rows cuts out) ≡ leaving (Err (NoRoom n)) (rescue_rows cuts out)
     unfolding rescue_call
     few-cuts h = rw (e, n-is, lt-leb (length cs) (length cuts / 12) (omega arith))
 
     module _ (room : n ≤ length cuts / 12) where
-      pub few_bytes : length out < k → rescue_call cut_bytes s (rescue_rows cuts out) ≡ leaving (Mended.Refused (NoRoom k)) (rescue_rows cuts out)
+      pub few_bytes : length out < k → rescue_call cut_bytes s (rescue_rows cuts out) ≡ leaving (Err (NoRoom k)) (rescue_rows cuts out)
       unfolding rescue_call
       few_bytes h = rw (e, ← k-is, le-leb (length cs) (length cuts / 12) (omega arith), lt-leb (length s') (length out) (omega arith))
 
-      pub both-filled : k ≤ length out → rescue_call cut_bytes s (rescue_rows cuts out) ≡ leaving (Mended.Written n k) (rescue_rows (filled (packed 4 (flat cs)) cuts) (filled s' out))
+      pub both-filled : k ≤ length out → rescue_call cut_bytes s (rescue_rows cuts out) ≡ leaving (mended_answer n k) (rescue_rows (filled (packed 4 (flat cs)) cuts) (filled s' out))
       unfolding rescue_call
       both-filled h = rw (e, n-is, ← k-is, le-leb (length cs) (length cuts / 12) (omega arith), le-leb (length s') (length out) (omega arith))

@@ -12,7 +12,6 @@ ghost use Rattle.studio_rescue.specs.Parts.{front_of, Ready, PutIs, rescue_rows}
 use shared_copy::put_part;
 use shared_numbers::put_long;
 use shared_words::Refusal;
-use studio_rescue_around::Outside;
 use studio_rescue_rules::Mended;
 
 // What stands before the children of 3D3D, which stands at at: all as it was but the two lengths. Answers the position behind it.
@@ -50,27 +49,27 @@ fn put_file(
 
 // The rescue of a file: each child of 3D3D that fails is cut, and the rest written. Answers how many cuts there are and how many
 // bytes the mended file has, or the refusal; a refusal leaves both rows as they were.
-pub fn rescue(file: &[u8], cuts: &mut [u8], out: &mut [u8]) -> Mended
+pub fn rescue(file: &[u8], cuts: &mut [u8], out: &mut [u8]) -> Result<Mended, Refusal>
     ensures answer { result ≡ (rescue_call cut_bytes file.now (rescue_rows cuts.old out.old)).answer }
     ensures rows { rescue_rows cuts.new out.new ≡
         (rescue_call cut_bytes file.now (rescue_rows cuts.old out.old)).rows }
 {
-    match studio_rescue_around::around(file) {
-        Outside::Beyond(r) => Mended::Refused(r),
-        Outside::Scene { at, stop } => {
-            let version = studio_version::version(file);
-            let slots = studio_lookup::slots();
-            let lost = studio_rescue_sift::count(file, &slots, version, at + 6, stop);
-            let n = lost.count;
-            if cuts.len() / 12 < n {
-                return Mended::Refused(Refusal::NoRoom(n));
-            }
-            let size = file.len() - lost.gone;
-            if out.len() < size {
-                return Mended::Refused(Refusal::NoRoom(size));
-            }
-            put_file(file, &slots, version, at, stop, lost.gone, cuts, out);
-            Mended::Written { cuts: n, size }
-        }
+    let scene = studio_rescue_around::around(file)?;
+    let version = studio_version::version(file);
+    let slots = studio_lookup::slots();
+    let lost = studio_rescue_sift::count(file, &slots, version, scene.at + 6, scene.stop);
+    if cuts.len() / 12 < lost.count {
+        return Err(Refusal::NoRoom(lost.count));
     }
+    let size = file.len() - lost.gone;
+    if out.len() < size {
+        return Err(Refusal::NoRoom(size));
+    }
+    put_file(
+        file, &slots, version, scene.at, scene.stop, lost.gone, cuts, out,
+    );
+    Ok(Mended {
+        cuts: lost.count,
+        size,
+    })
 }

@@ -27,9 +27,10 @@ use Rattle.studio_rescue_rules.specs.Rescue.{sift, mend_step, mend}
 use Rattle.studio_rescue_rules.proofs.Fuel.{mend_nil}
 use Rattle.studio_rescue_rules.proofs.Mend.{ends_well}
 use Rattle.studio_rescue_rules.proofs.First.{file-ends_well}
-use Rattle.studio_rescue_around.specs.declared.Outside.{Outside}
-use Rattle.studio_rescue_around.specs.Around.{ahead, outside_of}
+use Rattle.studio_rescue_around.specs.declared.Scene.{Scene}
+use Rattle.studio_rescue_around.specs.Around.{ahead, outside_of, scene_from}
 use Rattle.studio_rescue_around.proofs.Splits.{prefixed, onward, Lacks, mend-step, bounds, body-length, step-whole, Reached, reached}
+use Rattle.std.specs.Prelude.{Result, Err}
 
 -- ---- identifiers
 
@@ -117,10 +118,10 @@ module _ (v : ℕ) (s : List ℕ) (at : ℕ) (six : 6 ≤ length s) (at-is : at 
   lacks : Lacks before
   lacks = rw (← front) r.split.lacks
 
-  abbrev answer : Outside
+  abbrev answer : Result Scene Refusal
   answer = outside_of s (ended (top v) 0 (mend v [] 6 (drop 6 s)))
 
-  pub before-refused : (y : Refusal) → before ≡ refused y → Outside.Beyond y ≡ answer
+  pub before-refused : (y : Refusal) → before ≡ refused y → Err y ≡ answer
   before-refused y e = rw (split, e)
 
   -- what stands before 3D3D is accepted
@@ -138,7 +139,7 @@ module _ (v : ℕ) (s : List ℕ) (at : ℕ) (six : 6 ≤ length s) (at-is : at 
         let z : tally (0x3D3D ∷ []) (identifiers (t then end)) ≡ 0 = ap (tally (0x3D3D ∷ [])) (identifiers_then t end ∙ append-nil (identifiers t)) ∙ none_in in
         rw z
 
-    pub no-scene : at ≡ length s → Outside.Beyond (Missing 0) ≡ answer
+    pub no-scene : at ≡ length s → Err (Missing 0) ≡ answer
     no-scene l =
         let d : drop at s ≡ [] = drop_of_length-le s {i = at} (omega arith) in
         let q : mend v [] 6 (drop 6 s) ≡ accepted (t then end) = goes_on ∙ rw (d, mend_nil v (passed [] t) at) in
@@ -171,10 +172,10 @@ module _ (v : ℕ) (s : List ℕ) (at : ℕ) (six : 6 ≤ length s) (at-is : at 
             mends_scene v (passed [] t) at (drop at s) fine named f ∙ rw (rest-is, stop_is) in
             goes_on ∙ ap (prefixed t) q
 
-        pub behind-refused : (y : Refusal) → behind ≡ refused y → Outside.Beyond y ≡ answer
+        pub behind-refused : (y : Refusal) → behind ≡ refused y → Err y ≡ answer
         behind-refused y k = rw (whole, k)
 
-        pub scene-found : (u : Run) → behind ≡ accepted u → 6 + size t ≡ at → Outside.Scene at stop ≡ answer
+        pub scene-found : (u : Run) → behind ≡ accepted u → 6 + size t ≡ at → scene_from at stop ≡ answer
         scene-found u k z =
             let q : mend v [] 6 (drop 6 s) ≡ accepted (t then known 0x3D3D [] held u) = rw (whole, k) in
             let i : offset_of 0x3D3D 6 (t then known 0x3D3D [] held u) ≡ at = offset_there 6 t u held none_in ∙ z in

@@ -22,6 +22,8 @@ use Rattle.studio_scene.specs.Passed.{passed}
 use Rattle.studio_rescue_around.specs.Before.{Before}
 use Rattle.studio_rescue_around.proofs.Answers.{tally-passed, few-more, none_in, ends}
 use Rattle.studio_rescue_around.proofs.Contexts.{context_after, noted-scene, context_scene}
+use Rattle.std.specs.Prelude.{Result}
+use Rattle.shared_words.specs.declared.Refusal.{Refusal}
 
 -- the row of 4D4D
 abbrev row : ℕ
@@ -57,7 +59,7 @@ module _ (s table : List ℕ) (v at : ℕ) (ms : List ℕ) (g : Before s table v
     pub context_behind : Context (top v) (0x3D3D ∷ passed [] g.t) 0x00_1_0_5_0004_1 0 ms'
     context_behind = rw marks_are (context_scene v seen row 0 ms context g.six few-here at row' is (omega (arith, g.size_is)))
 
-    pub run-behind : (stop : ℕ) (r : Ran) (ms'' : List ℕ) →
+    pub run-behind : (stop : ℕ) (r : Result Ran Refusal) (ms'' : List ℕ) →
         ((p : Parent) (seen : List ℕ) → RuleIs p (leb 3 v) → Context p seen 0x00_1_0_5_0004_1 0 ms' → RunIs (length s) 0 0 stop ms' (walk p seen stop (slice stop (length s) s)) r ms'') →
-        {r' : Ran} → r ≡ r' → RunIs (length s) 0 0 stop ms' (walk (top v) (0x3D3D ∷ passed [] g.t) stop (slice stop (length s) s)) r' ms''
+        {r' : Result Ran Refusal} → r ≡ r' → RunIs (length s) 0 0 stop ms' (walk (top v) (0x3D3D ∷ passed [] g.t) stop (slice stop (length s) s)) r' ms''
     run-behind stop r ms'' f e = subst (λ z. RunIs (length s) 0 0 stop ms' (walk (top v) (0x3D3D ∷ passed [] g.t) stop (slice stop (length s) s)) z ms'') e (f (top v) (0x3D3D ∷ seen) refl context_behind)

@@ -22,16 +22,17 @@ use Rattle.studio_marks.proofs.Noted.{noted-length}
 use Rattle.studio_head.specs.Contexts.{Context}
 use Rattle.studio_head.proofs.Places.{few-is}
 use Rattle.studio_walk.specs.declared.Ran.{Ran}
-use Rattle.studio_walk.specs.Runs.{RunIs}
+use Rattle.studio_walk.specs.Runs.{RunIs, ran_to}
 use Rattle.studio_walk.proofs.Contexts.{context_next}
 use Rattle.studio_walk.proofs.Chunks.{clash}
 use Rattle.studio_walk.proofs.Parts.{bytes-slice}
 use Rattle.studio_check.proofs.Files.{figure-row, top_context}
 use Rattle.studio_scene.specs.Passed.{passed}
+use Rattle.std.specs.Prelude.{Result, Err}
 
 -- ---- what a run came to
 
-pub run-refused : (a : Answer Run) (stop o : ℕ) (y : Refusal) (ms ms' : List ℕ) → RunIs stop 0 0 o ms a (Ran.Refused y) ms' → a ≡ refused y
+pub run-refused : (a : Answer Run) (stop o : ℕ) (y : Refusal) (ms ms' : List ℕ) → RunIs stop 0 0 o ms a (Err y) ms' → a ≡ refused y
 run-refused (refused x) stop o y ms ms' h = cc
 run-refused (accepted t) stop o y ms ms' h = let q = h.0 in absurd (clash (cc))
 
@@ -42,17 +43,17 @@ pub record Read (p : Parent) (seen : List ℕ) (s : List ℕ) (o stop : ℕ) (ms
   pub size_is : size t ≡ stop - o
   pub marked : ms' ≡ marks_after o t ms
 
-pub run-read : (p : Parent) (seen s : List ℕ) (o stop : ℕ) (ms ms' : List ℕ) → Bytes s → stop ≤ length s → (next n k : ℕ) → RunIs stop 0 0 o ms (walk p seen o (slice o stop s)) (Ran.Done next n k) ms' → Read p seen s o stop ms ms'
+pub run-read : (p : Parent) (seen s : List ℕ) (o stop : ℕ) (ms ms' : List ℕ) → Bytes s → stop ≤ length s → (next n k : ℕ) → RunIs stop 0 0 o ms (walk p seen o (slice o stop s)) (ran_to next n k) ms' → Read p seen s o stop ms ms'
 run-read p seen s o stop ms ms' b l next n k h = go (walk p seen o (slice o stop s)) refl h (walk-tells p seen o (slice o stop s) (bytes-slice s o stop b))
   where
-    go : (a : Answer Run) → walk p seen o (slice o stop s) ≡ a → RunIs stop 0 0 o ms a (Ran.Done next n k) ms' → Tells p seen (slice o stop s) a → Read p seen s o stop ms ms'
+    go : (a : Answer Run) → walk p seen o (slice o stop s) ≡ a → RunIs stop 0 0 o ms a (ran_to next n k) ms' → Tells p seen (slice o stop s) a → Read p seen s o stop ms ms'
     go (refused x) e h w = absurd (clash (cc))
     go (accepted t) e h w = record { t = t; is = e; obeys = w.obeys; size_is = sym (length-bytes t) ∙ ap length w.is ∙ length-slice o stop s l; marked = h.1 }
 
 -- of the children of 4D4D
-pub top_read : (s : List ℕ) (v stop : ℕ) (r : Ran) (ms : List ℕ) →
+pub top_read : (s : List ℕ) (v stop : ℕ) (r : Result Ran Refusal) (ms : List ℕ) →
     ((p : Parent) (seen : List ℕ) → RuleIs p (leb 3 v) → Context p seen 0x00_1_0_5_0004_1 0 no_marks → RunIs stop 0 0 6 no_marks (walk p seen 6 (slice 6 stop s)) r ms) →
-    {r' : Ran} → r ≡ r' → RunIs stop 0 0 6 no_marks (walk (top v) [] 6 (slice 6 stop s)) r' ms
+    {r' : Result Ran Refusal} → r ≡ r' → RunIs stop 0 0 6 no_marks (walk (top v) [] 6 (slice 6 stop s)) r' ms
 top_read s v stop r ms h e = subst (λ z. RunIs stop 0 0 6 no_marks (walk (top v) [] 6 (slice 6 stop s)) z ms) e (h (top v) [] refl (top_context v _ figure-row))
 
 -- ---- the context behind it

@@ -11,15 +11,15 @@ use Rattle.studio_rules.specs.Walk.{file_conditions, length_field, ended, versio
 use Rattle.studio_marks.specs.Marks.{ShutIs}
 use Rattle.studio_walk.proofs.Chunks.{clash}
 use Rattle.studio_rescue_rules.specs.Rescue.{version_of, mend, mended}
-use Rattle.studio_rescue_around.specs.declared.Outside.{Outside}
+use Rattle.studio_rescue_around.specs.declared.Scene.{Scene}
 use Rattle.studio_rescue_around.specs.Around.{outside_of}
 
 module _ (s : List ℕ) where
-  pub whole-refused : (y : Refusal) (r : Result Unit Refusal) → r ≡ Err y → ShutIs (broken (file_conditions s (length_field s))) r → Outside.Beyond y ≡ outside_of s (mended s)
+  pub whole-refused : (y : Refusal) (r : Result Unit Refusal) → r ≡ Err y → ShutIs (broken (file_conditions s (length_field s))) r → Err y ≡ outside_of s (mended s)
   unfolding mended
   whole-refused y r e h = go (broken (file_conditions s (length_field s))) h
     where
-      go : (x : Option Refusal) → ShutIs x r → Outside.Beyond y ≡ outside_of s (unless x (ended (top (version_of s)) 0 (mend (version_of s) [] 6 (drop 6 s))))
+      go : (x : Option Refusal) → ShutIs x r → Err y ≡ outside_of s (unless x (ended (top (version_of s)) 0 (mend (version_of s) [] 6 (drop 6 s))))
       go (some x) h = cc
       go none h = absurd (clash (cc))
 

@@ -1,6 +1,6 @@
 -- What a call of the rescue answers and leaves in the lent rows: one for the cuts and one for the mended file.
 -- NO ROOM comes last, that of the cuts before that of the file.
-use Rattle.std.specs.Prelude.{◌≡◌, ℕ, ◌/◌, cond, List, [], ◌∷◌, leb, length}
+use Rattle.std.specs.Prelude.{Ok, ◌≡◌, ℕ, ◌/◌, cond, List, [], ◌∷◌, leb, length, Result, Err}
 use Rattle.shared_words.specs.declared.Refusal.{Refusal}
 use Rattle.shared_words.specs.declared.Refusal.TheVariants.{NoRoom}
 use Rattle.shared_words.specs.Bytes.{packed}
@@ -22,20 +22,24 @@ flat (c ∷ cs) = c.at ∷ c.number ∷ length c.piece ∷ flat cs
 abbrev pub cut_bytes : Encoding Cut ℕ
 cut_bytes = record { room = λ n. n / 12; encode = λ cs. packed 4 (flat cs) }
 
-abbrev pub call_of : {A : Type 0} → Encoding Cut A → Lent A → Rescued → Effect Mended (Lent A)
-call_of e rows (beyond r) = leaving (Mended.Refused r) rows
+-- so many cuts, and so many bytes of the mended file
+abbrev pub mended_answer : ℕ → ℕ → Result Mended Refusal
+mended_answer cuts size = Ok record { cuts = cuts; size = size }
+
+abbrev pub call_of : {A : Type 0} → Encoding Cut A → Lent A → Rescued → Effect (Result Mended Refusal) (Lent A)
+call_of e rows (beyond r) = leaving (Err r) rows
 call_of e rows (saved s cuts) =
     cond (leb (length cuts) (e.room (length rows.cuts)))
     (cond (leb (length s) (length rows.out))
-    (leaving (Mended.Written (length cuts) (length s)) record { cuts = filled (e.encode cuts) rows.cuts; out = filled s rows.out })
-    (leaving (Mended.Refused (NoRoom (length s))) rows))
-    (leaving (Mended.Refused (NoRoom (length cuts))) rows)
+    (leaving (mended_answer (length cuts) (length s)) record { cuts = filled (e.encode cuts) rows.cuts; out = filled s rows.out })
+    (leaving (Err (NoRoom (length s))) rows))
+    (leaving (Err (NoRoom (length cuts))) rows)
 
-unfoldable pub rescue_call : {A : Type 0} → Encoding Cut A → List ℕ → Lent A → Effect Mended (Lent A)
+unfoldable pub rescue_call : {A : Type 0} → Encoding Cut A → List ℕ → Lent A → Effect (Result Mended Refusal) (Lent A)
 rescue_call e s rows = call_of e rows (rescue s)
 
 -- A REFUSAL LEAVES WHAT IS LENT as it was
 abbrev pub RefusalLeaves : Type 1
 RefusalLeaves =
     (A : Type 0) (e : Encoding Cut A) (s : List ℕ) (rows : Lent A) (r : Refusal) →
-    (rescue_call e s rows).answer ≡ Mended.Refused r → rescue_call e s rows ≡ leaving (Mended.Refused r) rows
+    (rescue_call e s rows).answer ≡ Err r → rescue_call e s rows ≡ leaving (Err r) rows

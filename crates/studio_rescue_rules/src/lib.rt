@@ -2,11 +2,9 @@
 // call answers this.
 #![tactic(auto)]
 
-use shared_words::Refusal;
-
 // How many cuts there are, and how many bytes the mended file has.
 #[derive(Clone, Copy)]
-pub enum Mended {
-    Written { cuts: usize, size: usize },
-    Refused(Refusal),
+pub struct Mended {
+    pub cuts: usize,
+    pub size: usize,
 }

@@ -20,16 +20,16 @@ use Rattle.studio_walk.proofs.Chunks.{clash}
 use Rattle.studio_walk.proofs.Parts.{bytes-slice}
 use Rattle.studio_rescue_rules.specs.Rescue.{scene, Cut, Sifted, cutting, judged, sift, gone}
 use Rattle.studio_rescue_rules.specs.Call.{flat}
-use Rattle.studio_rescue_sift.specs.declared.Child.{Child}
 use Rattle.studio_rescue_sift.specs.Children.{span, child_of, FilledIs}
 use Rattle.studio_rescue_sift.proofs.Spans.{child-first, no-child}
+use Rattle.std.specs.Prelude.{Option, Some, None}
 
 -- ---- one child
 
 abbrev the_cut : ℕ → ℕ → List ℕ → Cut
 the_cut o n piece = record { at = o; number = n; piece = piece }
 
-cut_by : (a : Answer Run) (n o : ℕ) (piece : List ℕ) (x : Sifted) → Child.Cut n ≡ child_of a → judged o piece a x ≡ cutting (the_cut o n piece) x
+cut_by : (a : Answer Run) (n o : ℕ) (piece : List ℕ) (x : Sifted) → Some n ≡ child_of a → judged o piece a x ≡ cutting (the_cut o n piece) x
 cut_by (refused r) n o piece x e = let z : n ≡ number_of r = cc in rw z
 cut_by (accepted t) n o piece x e = absurd (clash (cc))
 
@@ -39,7 +39,7 @@ pub record KeptBefore (piece : List ℕ) (x y : Sifted) : Type 0 where
   pub bytes_are : bytes t ≡ piece
   pub is : y ≡ record { kept = t then x.kept; cuts = x.cuts }
 
-kept_by : (v : ℕ) (a : Answer Run) (o : ℕ) (piece : List ℕ) (x : Sifted) → Tells (scene v) [] piece a → Child.Kept ≡ child_of a → KeptBefore piece x (judged o piece a x)
+kept_by : (v : ℕ) (a : Answer Run) (o : ℕ) (piece : List ℕ) (x : Sifted) → Tells (scene v) [] piece a → ◌≡◌ {A = Option ℕ} None (child_of a) → KeptBefore piece x (judged o piece a x)
 kept_by v (refused r) o piece x g e = absurd (clash (cc))
 kept_by v (accepted t) o piece x g e = record { t = t; bytes_are = g.is; is = refl }
 
@@ -56,12 +56,12 @@ module _ (v : ℕ) (s : List ℕ) (from to : ℕ) (ends : to ≤ length s) where
     pub stays : stop ≤ to
 
   module _ (at stop : ℕ) (h : Here at stop) where
-    pub cut-here : (n : ℕ) → Child.Cut n ≡ child_of (walk (scene v) [] at (slice at stop s)) → rest at ≡ cutting (the_cut at n (slice at stop s)) (rest stop)
+    pub cut-here : (n : ℕ) → Some n ≡ child_of (walk (scene v) [] at (slice at stop s)) → rest at ≡ cutting (the_cut at n (slice at stop s)) (rest stop)
     cut-here n e =
         child-first v s at to stop h.more ends h.stop_is h.stays ∙
         cut_by (walk (scene v) [] at (slice at stop s)) n at (slice at stop s) (rest stop) e
 
-    pub kept_here : Bytes s → Child.Kept ≡ child_of (walk (scene v) [] at (slice at stop s)) → KeptBefore (slice at stop s) (rest stop) (rest at)
+    pub kept_here : Bytes s → ◌≡◌ {A = Option ℕ} None (child_of (walk (scene v) [] at (slice at stop s))) → KeptBefore (slice at stop s) (rest stop) (rest at)
     kept_here b e =
         subst (KeptBefore (slice at stop s) (rest stop)) (sym (child-first v s at to stop h.more ends h.stop_is h.stays))
         (kept_by v (walk (scene v) [] at (slice at stop s)) at (slice at stop s) (rest stop) (walk-tells (scene v) [] at (slice at stop s) (bytes-slice s at stop b)) e)
@@ -83,7 +83,7 @@ module _ (v : ℕ) (s : List ℕ) (from to : ℕ) (ends : to ≤ length s) where
   counting_start o = record { past = omega arith; before = o; counts = omega arith; bytes_lost = omega arith; few = omega arith; near = omega arith }
 
   module _ (at stop count lost : ℕ) (c : Counting at count lost) (h : Here at stop) where
-    pub counting_cut : (n : ℕ) → Child.Cut n ≡ child_of (walk (scene v) [] at (slice at stop s)) → Counting stop (count + 1) (lost + (stop - at))
+    pub counting_cut : (n : ℕ) → Some n ≡ child_of (walk (scene v) [] at (slice at stop s)) → Counting stop (count + 1) (lost + (stop - at))
     counting_cut n e =
         let q = cut-here at stop h n e in
         let m = h.goes in
@@ -99,7 +99,7 @@ module _ (v : ℕ) (s : List ℕ) (from to : ℕ) (ends : to ≤ length s) where
           near = omega arith;
         }
 
-    pub counting_kept : Bytes s → Child.Kept ≡ child_of (walk (scene v) [] at (slice at stop s)) → Counting stop count lost
+    pub counting_kept : Bytes s → ◌≡◌ {A = Option ℕ} None (child_of (walk (scene v) [] at (slice at stop s))) → Counting stop count lost
     counting_kept b e =
         let k = kept_here at stop h b e in
         let m = h.goes in
@@ -154,7 +154,7 @@ module _ (v : ℕ) (s : List ℕ) (from to : ℕ) (ends : to ≤ length s) where
 
   module _ (cuts₀ : List ℕ) (into : ℕ) (out₀ cuts out : List ℕ) (at row next : ℕ) (f : Filling cuts₀ into out₀ cuts out at row next) where
     module _ (stop : ℕ) (h : Here at stop) where
-      module _ (n : ℕ) (e : Child.Cut n ≡ child_of (walk (scene v) [] at (slice at stop s))) where
+      module _ (n : ℕ) (e : Some n ≡ child_of (walk (scene v) [] at (slice at stop s))) where
         flat-is : flat (rest at).cuts ≡ at ∷ n ∷ (stop - at) ∷ flat (rest stop).cuts
         flat-is =
             ap (λ (x : Sifted). flat x.cuts) (cut-here at stop h n e) ∙
@@ -185,7 +185,7 @@ module _ (v : ℕ) (s : List ℕ) (from to : ℕ) (ends : to ≤ length s) where
               kept_put = f.kept_put;
             }
 
-      module _ (b : Bytes s) (e : Child.Kept ≡ child_of (walk (scene v) [] at (slice at stop s))) where
+      module _ (b : Bytes s) (e : ◌≡◌ {A = Option ℕ} None (child_of (walk (scene v) [] at (slice at stop s)))) where
         k : KeptBefore (slice at stop s) (rest stop) (rest at)
         k = kept_here at stop h b e
 

@@ -13,12 +13,13 @@ use Rattle.studio_rules.specs.Walk.{header_conditions, length_field, walk}
 use Rattle.shared_numbers.specs.Numbers.{long_at}
 use Rattle.shared_numbers.proofs.Slices.{drop-slice, take-slice, long-slice}
 use Rattle.studio_head.specs.declared.Header.{Header}
-use Rattle.studio_head.specs.Heads.{HeaderIs}
+use Rattle.studio_head.specs.Heads.{HeaderIs, header_of}
 use Rattle.studio_head.proofs.Opens.{header-fault, header_read}
 use Rattle.studio_rescue_rules.specs.Rescue.{scene, judged, sifted, nothing, sift}
 use Rattle.studio_rescue_rules.proofs.Fuel.{sift_nil, sift_cons}
 use Rattle.studio_rescue_rules.proofs.Sift.{bad-header}
 use Rattle.studio_rescue_sift.specs.Children.{span_by, span}
+use Rattle.std.specs.Prelude.{Err}
 
 module _ (v o x : ℕ) (u : List ℕ) where
   abbrev s : List ℕ
@@ -56,14 +57,14 @@ module _ (s : List ℕ) (at end : ℕ) (h : at < end) (l : end ≤ length s) whe
   abbrev bad : Option Refusal
   bad = broken (header_conditions at (slice at end s) (length_field (slice at end s)))
 
-  pub ends-with-all : (y : Refusal) → HeaderIs s at (broken (header_conditions at (slice at end s) (length_field (slice at end s)))) (Header.Fault y) → end ≡ at + span at (slice at end s)
+  pub ends-with-all : (y : Refusal) → HeaderIs s at (broken (header_conditions at (slice at end s) (length_field (slice at end s)))) (Err y) → end ≡ at + span at (slice at end s)
   unfolding span
   ends-with-all y i =
       let e : bad ≡ some y = header-fault s at end h l bad y i in
       let n : end ≡ at + length (slice at end s) = omega (arith, length-slice at end s l) in
       n ∙ ap (λ (r : Option Refusal). at + span_by (slice at end s) r) (sym e)
 
-  pub ends-by-length : (id past : ℕ) → 6 ≤ end - at → HeaderIs s at (broken (header_conditions at (slice at end s) (length_field (slice at end s)))) (Header.Is id past) → past ≡ at + span at (slice at end s)
+  pub ends-by-length : (id past : ℕ) → 6 ≤ end - at → HeaderIs s at (broken (header_conditions at (slice at end s) (length_field (slice at end s)))) (header_of id past) → past ≡ at + span at (slice at end s)
   unfolding span
   ends-by-length id past m i =
       let r = header_read s at end h l bad id past i in

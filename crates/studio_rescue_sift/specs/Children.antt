@@ -1,6 +1,6 @@
 -- The children of 3D3D one by one, as code meets them.
-use Rattle.std.specs.Prelude.{◌≡◌, ℕ, ◌+◌, ◌*◌, ◌≤◌, List, length}
-use Rattle.std.proofs.Math.Option.{Option, none, some}
+use Rattle.std.specs.Prelude.{◌≡◌, ℕ, ◌+◌, ◌*◌, ◌≤◌, List, length, Option, Some, None}
+use Rattle.std.proofs.Math.Option.{Option as Maybe, none, some}
 use Rattle.std.proofs.Math.Seq.{slice}
 use Rattle.shared_words.specs.declared.Refusal.{Refusal}
 use Rattle.shared_words.specs.Refusals.{limit, number_of}
@@ -13,12 +13,11 @@ use Rattle.studio_rules.specs.Walk.{header_conditions, length_field}
 use Rattle.studio_lookup.specs.Slots.{slots}
 use Rattle.studio_rescue_rules.specs.Rescue.{Cut, Sifted, sift, gone}
 use Rattle.studio_rescue_rules.specs.Call.{flat}
-use Rattle.studio_rescue_sift.specs.declared.Child.{Child}
 use Rattle.studio_rescue_sift.specs.declared.Cuts.{Cuts}
 
 -- how many bytes are judged together at the start of s, by the first condition of the header there that is broken: those of
 -- the child, or all
-abbrev pub span_by : List ℕ → Option Refusal → ℕ
+abbrev pub span_by : List ℕ → Maybe Refusal → ℕ
 span_by s none = length_field s
 span_by s (some r) = length s
 
@@ -26,9 +25,9 @@ unfoldable pub span : ℕ → List ℕ → ℕ
 span o s = span_by s (broken (header_conditions o s (length_field s)))
 
 -- a child by the answer to it alone
-abbrev pub child_of : Answer Run → Child
-child_of (refused r) = Child.Cut (number_of r)
-child_of (accepted t) = Child.Kept
+abbrev pub child_of : Answer Run → Option ℕ
+child_of (refused r) = Some (number_of r)
+child_of (accepted t) = None
 
 abbrev pub cuts_of : List Cut → Cuts
 cuts_of cuts = record { count = length cuts; gone = gone cuts }

@@ -12,7 +12,6 @@ ghost use Rattle.studio_rescue_sift.specs.Children.{span, child_of, cuts_of, Wit
 
 use shared_copy::put_part;
 use shared_numbers::{long_at, put_long};
-use studio_walk::Ran;
 
 // Where the child at a position ends: by its length, or where all of them end, if its header is bad.
 fn end_of(file: &[u8], at: usize, end: usize) -> usize
@@ -33,31 +32,20 @@ fn end_of(file: &[u8], at: usize, end: usize) -> usize
     at + len
 }
 
-// A child judged: it is cut, with the number of its refusal, or kept.
-#[derive(Clone, Copy)]
-enum Child {
-    Cut(u32),
-    Kept,
-}
-
-// The child from at to stop, in a file of a version.
-fn judge(file: &[u8], table: &[u64; 128], version: u32, at: usize, stop: usize) -> Child
+// The number of the refusal for which the child from at to stop is cut, in a file of a version; none, where it is kept.
+fn judge(file: &[u8], table: &[u64; 128], version: u32, at: usize, stop: usize) -> Option<u32>
     requires { Within file.now table.now at stop }
     ensures { result ≡ child_of (walk (scene version) [] at (slice at stop file.now)) }
 {
     // an unlisted child is kept, and to see that takes no walk
     if studio_head::pass_over(file, table, at, stop) == stop {
-        return Child::Kept;
+        return None;
     }
     let row = studio_lookup::row(table, 0x3D3D);
     let mut marks = [0u32; 6];
     match studio_walk::run(file, table, row, 0, 3 <= version, at, stop, &mut marks) {
-        Ran::Refused(r) => Child::Cut(shared_refusals::number(r)),
-        Ran::Done {
-            next: _,
-            records: _,
-            skipped: _,
-        } => Child::Kept,
+        Err(r) => Some(shared_refusals::number(r)),
+        Ok(_) => None,
     }
 }
 
@@ -76,14 +64,15 @@ pub fn count(file: &[u8], table: &[u64; 128], version: u32, from: usize, to: usi
     let mut at = from;
     let mut count = 0usize;
     let mut gone = 0usize;
+    // a `while`: each child's length tells where the next begins
     while at < to {
         let stop = end_of(file, at, to);
         match judge(file, table, version, at, stop) {
-            Child::Cut(_) => {
+            Some(_) => {
                 count += 1;
                 gone += stop - at;
             }
-            Child::Kept => {}
+            None => {}
         }
         at = stop;
     }
@@ -118,13 +107,14 @@ pub fn fill(
     let mut child = from;
     let mut row = 0usize;
     let mut next = at;
+    // a `while`: each child's length tells where the next begins
     while child < to {
         let stop = end_of(file, child, to);
         match judge(file, table, version, child, stop) {
-            Child::Cut(number) => {
+            Some(number) => {
                 row = put_cut(child, number, stop - child, row, cuts);
             }
-            Child::Kept => {
+            None => {
                 next = put_part(file, child, stop - child, next, out);
             }
         }

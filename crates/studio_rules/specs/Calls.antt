@@ -11,6 +11,8 @@ use Rattle.shared_words.specs.declared.Refusal.TheVariants.{NoRoom, Empty}
 use Rattle.studio_rules.specs.declared.Counts.{Counts}
 use Rattle.studio_rules.specs.declared.Sizes.{Sizes}
 use Rattle.studio_rules.specs.declared.Boxed.{Boxed}
+use Rattle.studio_rules.specs.declared.Corner.{Corner}
+use Rattle.studio_rules.specs.declared.BoundingBox.{BoundingBox}
 use Rattle.studio_rules.specs.Layout.{Run, figure}
 use Rattle.shared_words.specs.Conditions.{Answer, refused, accepted}
 use Rattle.studio_rules.specs.Walk.{verdict}
@@ -119,13 +121,16 @@ unfoldable pub name_call : List ℕ → ℕ → Result Span Refusal
 name_call s mesh = of_mesh Err name_of mesh (verdict s)
 
 -- the box, and its centre
-abbrev pub around_of : Mesh → Boxed
-around_of m =
-    cond (eqb m.vertex_count 0) (Boxed.Refused Empty)
-    (Boxed.Around (bounding_box_of m.vertex_count m.vertices) (centre_of (bounding_box_of m.vertex_count m.vertices)))
+abbrev pub box_answer : BoundingBox → Corner → Result Boxed Refusal
+box_answer box centre = Ok record { around = box; centre = centre }
 
-unfoldable pub box_call : List ℕ → ℕ → Boxed
-box_call s mesh = of_mesh Boxed.Refused around_of mesh (verdict s)
+abbrev pub around_of : Mesh → Result Boxed Refusal
+around_of m =
+    cond (eqb m.vertex_count 0) (Err Empty)
+    (box_answer (bounding_box_of m.vertex_count m.vertices) (centre_of (bounding_box_of m.vertex_count m.vertices)))
+
+unfoldable pub box_call : List ℕ → ℕ → Result Boxed Refusal
+box_call s mesh = of_mesh Err around_of mesh (verdict s)
 
 -- ---- all things of one kind that a figure has, into a row whose room is counted in whole things
 

@@ -60,7 +60,7 @@ names_fit p id own = name_fits (shape id) own
 abbrev pub own_data_exact : OwnRule
 own_data_exact p id own = eqb (own_size (shape id) p.own own) (length own)
 
--- floats of 4110 and 4140 are neither infinite nor not-a_number
+-- floats of 4110 and 4140 are neither infinite nor not-a-number
 abbrev pub numbers_finite : OwnRule
 numbers_finite p id own = only 0x4110 id (every finite (vertex_numbers own)) && only 0x4140 id (every finite (mapping_numbers own))
 

@@ -4,14 +4,13 @@ use Rattle.shared_words.specs.declared.Refusal.{Refusal}
 use Rattle.std.specs.Prelude.{◌≡◌, ℕ, List, [], ◌∷◌, ◌++◌, length, take, drop, set, replicate, Result, Ok, Err}
 use Rattle.shared_words.specs.declared.Refusal.TheVariants.{NoSuchMesh}
 use Rattle.studio_rules.specs.declared.Corner.{Corner}
-use Rattle.studio_rules.specs.declared.Boxed.{Boxed}
 use Rattle.shared_words.specs.Refusals.{code_of}
 use Rattle.shared_words.specs.Conditions.{Answer, refused, accepted}
 use Rattle.studio_rules.specs.Walk.{verdict}
 use Rattle.studio_rules.specs.Gives.{list, flat, Mesh, meshes}
 use Rattle.shared_words.specs.Floats.{float}
 use Rattle.studio_rules.specs.Encodings.{flat_records}
-use Rattle.studio_rules.specs.Calls.{check_call, list_call, name_call, box_call}
+use Rattle.studio_rules.specs.Calls.{check_call, list_call, name_call, box_call, box_answer}
 use Rattle.studio_rules.specs.Layout.{Run}
 
 -- an answer as the paper writes it: a refusal's number and place; or the counts of headers, own data and skipped bytes
@@ -121,7 +120,7 @@ pub record Samples : Type 0 where
   pub p8_list : list_in (verdict triangle) ≡ triangle_list
   pub p8_name : name_call triangle 0 ≡ Ok record { offset = 18; size = 1 }
   pub p8_one_mesh : name_call triangle 7 ≡ Err (NoSuchMesh 1)
-  pub p8_box : box_call triangle 0 ≡ Boxed.Around record { low = point 0 0; high = point one one } (point 0x3F00_0000 0x3F00_0000)
+  pub p8_box : box_call triangle 0 ≡ box_answer record { low = point 0 0; high = point one one } (point 0x3F00_0000 0x3F00_0000)
   pub p8_tables : tables_in (verdict triangle) ≡ (0 ∷ 0 ∷ 0 ∷ one ∷ 0 ∷ 0 ∷ 0 ∷ one ∷ 0 ∷ [], 0 ∷ 1 ∷ 2 ∷ []) ∷ []
   pub p12-length : length p12 ≡ 96
   -- the mesh at 30, and with it its vertices and its faces

@@ -1,8 +1,8 @@
 -- What holds of the numbers in an answer besides what they are: they fit 32 bits, and floats are numbers. (It follows from
 -- the answers' definitions; a caller that gives the numbers out needs it.)
-use Rattle.studio_rules.specs.declared.Counts.{Counts}
-use Rattle.studio_rules.specs.declared.Sizes.{Sizes}
 use Rattle.studio_rules.specs.declared.Span.{Span}
+use Rattle.studio_rules.specs.declared.Sizes.{Sizes}
+use Rattle.studio_rules.specs.declared.Counts.{Counts}
 use Rattle.shared_words.specs.declared.Refusal.{Refusal}
 use Rattle.std.specs.Prelude.{◌≡◌, true, not, ◌+◌, ◌≤◌, ◌<◌, ◌^◌, T, Float, Result, Ok, Err}
 use Rattle.std.specs.Float.{binary32}
@@ -36,6 +36,6 @@ pub record Numbers (c : Corner) : Type 0 where
   pub y : Number c.y
   pub z : Number c.z
 
-abbrev pub BoxNumbers : Boxed → Type 0
-BoxNumbers (Boxed.Around b c) = Numbers b.low × Numbers b.high × Numbers c
-BoxNumbers (Boxed.Refused r) = Unit
+abbrev pub BoxNumbers : Result Boxed Refusal → Type 0
+BoxNumbers (Ok b) = Numbers b.around.low × Numbers b.around.high × Numbers b.centre
+BoxNumbers (Err r) = Unit

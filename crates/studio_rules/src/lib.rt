@@ -2,8 +2,6 @@
 // figure answers with them.
 #![tactic(auto)]
 
-use shared_words::Refusal;
-
 // One known chunk in the list. `next` is the number of the first record behind it and all that it holds.
 #[repr(C)]
 #[derive(Clone, Copy)]
@@ -56,9 +54,9 @@ pub struct BoundingBox {
     pub high: Corner,
 }
 
-// The answer of a mesh's box: the box and its centre.
+// The box of a mesh, and its centre.
 #[derive(Clone, Copy)]
-pub enum Boxed {
-    Around(BoundingBox, Corner),
-    Refused(Refusal),
+pub struct Boxed {
+    pub around: BoundingBox,
+    pub centre: Corner,
 }

@@ -34,12 +34,10 @@ pub fn all_finite(s: &[u8], at: usize, n: usize) -> bool
     ensures { result ≡ every finite (numbers 4 n (drop at s.now)) }
 {
     let mut good = true;
-    let mut i = 0usize;
-    while i < n {
+    for i in 0..n {
         if !is_finite(load_long(s, at + 4 * i)) {
             good = false;
         }
-        i += 1;
     }
     good
 }
@@ -50,12 +48,10 @@ pub fn words_below(s: &[u8], at: usize, n: usize, limit: u32) -> bool
     ensures { result ≡ all_below limit (numbers 2 n (drop at s.now)) }
 {
     let mut good = true;
-    let mut i = 0usize;
-    while i < n {
+    for i in 0..n {
         if limit <= word_at(s, at + 2 * i) {
             good = false;
         }
-        i += 1;
     }
     good
 }
@@ -84,12 +80,10 @@ pub fn corners_below(s: &[u8], at: usize, n: usize, limit: u32) -> bool
     ensures { result ≡ all_below limit (corners n (drop at s.now)) }
 {
     let mut good = true;
-    let mut i = 0usize;
-    while i < n {
+    for i in 0..n {
         if !face_below(s, at + 8 * i, limit) {
             good = false;
         }
-        i += 1;
     }
     good
 }

@@ -13,6 +13,7 @@ pub fn version(file: &[u8]) -> u32
 {
     let end = file.len();
     let mut at = 6usize;
+    // a `while`: each chunk's length tells where the next begins
     while at < end {
         let left = end - at;
         if left < 6 {

@@ -19,11 +19,12 @@ use Rattle.studio_head.specs.declared.Head.{Head}
 use Rattle.studio_walk.specs.declared.Ran.{Ran}
 use Rattle.studio_head.specs.Heads.{HeadIs, MarksAre, HeadWithin}
 use Rattle.studio_head.specs.Contexts.{Room, Context}
-use Rattle.studio_walk.specs.Runs.{ClosesBy, ChunkIs, RunIs}
+use Rattle.studio_walk.specs.Runs.{ClosesBy, ChunkIs, RunIs, ran_to}
 use Rattle.studio_walk.proofs.Contexts.{context_inside, own_bytes, bound_small}
 use Rattle.studio_walk.proofs.Parts.{bytes-slice, PartsAt, EnteredAt, step-parts}
 use Rattle.studio_walk.proofs.Chunks.{Entering, entering, Ran-well, run-refused, run-accepted, chunk-refused, chunk-closed}
 use Rattle.studio_walk.proofs.Runs.{run_ends}
+use Rattle.std.specs.Prelude.{Ok, Result, Err}
 
 -- a chunk that may have children was met at `at`, in a run of q up to end: what was found at its start
 pub record Opened (s : List ℕ) (at end : ℕ) (q : Parent) (seen ms ms₁ : List ℕ) (id row word from past : ℕ) : Type 0 where
@@ -31,13 +32,13 @@ pub record Opened (s : List ℕ) (at end : ℕ) (q : Parent) (seen ms ms₁ : Li
   pub ends : end ≤ length s
   pub small : length s < 2 ^ 32
   pub are_bytes : Bytes s
-  pub head : HeadIs q seen at (step q seen at (slice at end s)) (Head.Enter id row word from past)
+  pub head : HeadIs q seen at (step q seen at (slice at end s)) (Ok (Head.Enter id row word from past))
   pub marks : MarksAre at (step q seen at (slice at end s)) ms ms₁
-  pub within : HeadWithin at end (Head.Enter id row word from past)
+  pub within : HeadWithin at end (Ok (Head.Enter id row word from past))
 
 -- by what the code knows of it
 pub opened : (s : List ℕ) (at end count : ℕ) (q : Parent) (seen ms ms₁ : List ℕ) (id row word from past : ℕ) → at < end → Room end count s ms → Bytes s →
-    HeadIs q seen at (step q seen at (slice at end s)) (Head.Enter id row word from past) → MarksAre at (step q seen at (slice at end s)) ms ms₁ → HeadWithin at end (Head.Enter id row word from past) →
+    HeadIs q seen at (step q seen at (slice at end s)) (Ok (Head.Enter id row word from past)) → MarksAre at (step q seen at (slice at end s)) ms ms₁ → HeadWithin at end (Ok (Head.Enter id row word from past)) →
     Opened s at end q seen ms ms₁ id row word from past
 opened s at end count q seen ms ms₁ id row word from past o room b h m w =
     record { starts = o; ends = room.ends; small = omega (arith, room.short); are_bytes = b; head = h; marks = m; within = w }
@@ -66,7 +67,7 @@ module _ {s : List ℕ} {at end : ℕ} {q : Parent} {seen ms ms₁ : List ℕ} {
   marks_are = subst (λ (x : Step). MarksAre at x ms ms₁) ent.is o.marks
 
   -- back to the step and the marks as they are
-  whole : (z : Ran) → ChunkIs q seen at (enter id ent.own ent.kids ent.rest) z ms (noted (slot_of id) at ms) → ChunkIs q seen at (step q seen at (slice at end s)) z ms ms₁
+  whole : (z : Result Ran Refusal) → ChunkIs q seen at (enter id ent.own ent.kids ent.rest) z ms (noted (slot_of id) at ms) → ChunkIs q seen at (step q seen at (slice at end s)) z ms ms₁
   whole z h = subst (λ (x : Step). ChunkIs q seen at x z ms ms₁) (sym ent.is) (subst (ChunkIs q seen at (enter id ent.own ent.kids ent.rest) z ms) (sym marks_are) h)
 
   stays : past ≤ length s
@@ -76,25 +77,25 @@ module _ {s : List ℕ} {at end : ℕ} {q : Parent} {seen ms ms₁ : List ℕ} {
   begins = omega (arith, o.within.0)
 
   -- what the run of its children came to
-  pub record Children (r : Ran) (inner : List ℕ) : Type 0 where
+  pub record Children (r : Result Ran Refusal) (inner : List ℕ) : Type 0 where
     pub are : RunIs past 0 0 from no_marks (walk (inside q seen id ent.own) [] from (slice from past s)) r inner
 
   -- by what is known of that run in any context
-  pub children : {r z : Ran} {inner : List ℕ} {as_many : Bool} → RuleIs q as_many →
+  pub children : {r z : Result Ran Refusal} {inner : List ℕ} {as_many : Bool} → RuleIs q as_many →
       ((p : Parent) (before : List ℕ) → RuleIs p as_many → Context p before row word no_marks → RunIs past 0 0 from no_marks (walk p before from (slice from past s)) r inner) → r ≡ z → Children z inner
   children {inner = inner} rule h e =
-      record { are = subst (λ (x : Ran). RunIs past 0 0 from no_marks (walk (inside q seen id ent.own) [] from (slice from past s)) x inner) e (h (inside q seen id ent.own) [] rule inner_context) }
+      record { are = subst (λ (x : Result Ran Refusal). RunIs past 0 0 from no_marks (walk (inside q seen id ent.own) [] from (slice from past s)) x inner) e (h (inside q seen id ent.own) [] rule inner_context) }
 
   -- there are none
-  pub no-children : past ≤ from → Children (Ran.Done past 0 0) no_marks
+  pub no-children : past ≤ from → Children (ran_to past 0 0) no_marks
   no-children h = record { are = run_ends (inside q seen id ent.own) [] s from past 0 0 no_marks h }
 
-  pub enter-refused : {y : Refusal} {inner : List ℕ} → Children (Ran.Refused y) inner → ChunkIs q seen at (step q seen at (slice at end s)) (Ran.Refused y) ms ms₁
+  pub enter-refused : {y : Refusal} {inner : List ℕ} → Children (Err y) inner → ChunkIs q seen at (step q seen at (slice at end s)) (Err y) ms ms₁
   enter-refused {y} {inner} h =
-      whole (Ran.Refused y)
+      whole (Err y)
       (chunk-refused q seen at id ent.own ent.kids ent.rest ms past ent.past_is y (inner-walk ∙ run-refused q seen s at id from past ent.own o.are_bytes o.within.1 stays o.small begins _ y inner h.are))
 
-  module _ {next n k : ℕ} {inner : List ℕ} (h : Children (Ran.Done next n k) inner) where
+  module _ {next n k : ℕ} {inner : List ℕ} (h : Children (ran_to next n k) inner) where
     well : Ran-well q seen s at id from past ent.own o.are_bytes o.within.1 stays o.small begins (walk (inside q seen id ent.own) [] from (slice from past s)) n k inner
     well = run-accepted q seen s at id from past ent.own o.are_bytes o.within.1 stays o.small begins next n k inner h.are
 
@@ -105,7 +106,7 @@ module _ {s : List ℕ} {at end : ℕ} {q : Parent} {seen ms ms₁ : List ℕ} {
     enter-placed i = mesh-placed (inside q seen id ent.own) i well.t s from past inner well.kept
 
     -- what the end of the chunk was found to be
-    pub enter-closed : {as_many : Bool} → RuleIs q as_many → (r : Ran) → ClosesBy s id at as_many inner past n k r → ChunkIs q seen at (step q seen at (slice at end s)) r ms ms₁
+    pub enter-closed : {as_many : Bool} → RuleIs q as_many → (r : Result Ran Refusal) → ClosesBy s id at as_many inner past n k r → ChunkIs q seen at (step q seen at (slice at end s)) r ms ms₁
     enter-closed rule r closes =
         whole r
         (chunk-closed q seen at id ent.own ent.kids ent.rest ms past ent.past_is r well.t n k (inner-walk ∙ well.is) well.records_are well.skipped_are

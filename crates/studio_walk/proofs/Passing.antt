@@ -13,16 +13,18 @@ use Rattle.studio_head.specs.Passes.{Passes, none_yet, one_more}
 use Rattle.studio_walk.specs.declared.Ran.{Ran}
 use Rattle.studio_marks.specs.Marks.{RuleIs}
 use Rattle.studio_head.specs.Contexts.{Context}
-use Rattle.studio_walk.specs.Runs.{ChunkIs, ChunkWithin, RunIs}
+use Rattle.studio_walk.specs.Runs.{ChunkIs, ChunkWithin, RunIs, ran_to}
 use Rattle.studio_walk.proofs.Parts.{PartsAt, step-parts}
 use Rattle.studio_walk.proofs.Runs.{begun, skip-on, GoesOn, goes_on}
 use Rattle.studio_walk.proofs.Loop.{Sofar}
+use Rattle.std.specs.Prelude.{Result}
+use Rattle.shared_words.specs.declared.Refusal.{Refusal}
 
 passes-past : (p : Parent) (seen s : List ℕ) (at end o : ℕ) → Passes p seen s at end o → at ≤ o
 passes-past p seen s at end o none_yet = omega arith
 passes-past p seen s at end o (one_more o' id body rest h l e) = omega (arith, passes-past p seen s at end o' h)
 
-module _ (p : Parent) (seen s : List ℕ) (end records : ℕ) (ms : List ℕ) (b : Bytes s) (l : end ≤ length s) (r : Ran) (ms' : List ℕ) where
+module _ (p : Parent) (seen s : List ℕ) (end records : ℕ) (ms : List ℕ) (b : Bytes s) (l : end ≤ length s) (r : Result Ran Refusal) (ms' : List ℕ) where
   one-skipped : (o skips id : ℕ) (body rest : List ℕ) → o < end → step p seen o (slice o end s) ≡ pass id body rest →
       RunIs end records (skips + (6 + length body)) (o + (6 + length body)) ms (walk p seen (o + (6 + length body)) (slice (o + (6 + length body)) end s)) r ms' →
       RunIs end records skips o ms (walk p seen o (slice o end s)) r ms'
@@ -41,8 +43,8 @@ module _ (p : Parent) (seen s : List ℕ) (end records : ℕ) (ms : List ℕ) (b
 
 -- the run goes on behind a chunk that was done
 pub sofar_stepped : {s : List ℕ} {row word : ℕ} {as_many : Bool} {at end : ℕ} {ms₀ ms ms' : List ℕ} {p records skips : ℕ} (next n k : ℕ) → Bytes s → end ≤ length s → 1 ≤ at → p < end →
-    Sofar s row word as_many at end ms₀ ms p records skips → length ms' ≡ 6 → ChunkWithin p end (Ran.Done next n k) →
-    ((q : Parent) (seen : List ℕ) → RuleIs q as_many → Context q seen row word ms → ChunkIs q seen p (step q seen p (slice p end s)) (Ran.Done next n k) ms ms') →
+    Sofar s row word as_many at end ms₀ ms p records skips → length ms' ≡ 6 → ChunkWithin p end (ran_to next n k) →
+    ((q : Parent) (seen : List ℕ) → RuleIs q as_many → Context q seen row word ms → ChunkIs q seen p (step q seen p (slice p end s)) (ran_to next n k) ms ms') →
     Sofar s row word as_many at end ms₀ ms' next (records + n) (skips + k)
 sofar_stepped {s} {row} {word} {as_many} {at} {end} {ms₀} {ms} {ms'} {p} {records} {skips} next n k b l o h i six f came =
     let y = i.somewhere in

@@ -17,13 +17,10 @@ use studio_head::Head;
 
 // What a chunk or a run of chunks comes to: where it ends, how many records it has and how many bytes were skipped.
 #[derive(Clone, Copy)]
-pub enum Ran {
-    Refused(Refusal),
-    Done {
-        next: usize,
-        records: usize,
-        skipped: usize,
-    },
+pub struct Ran {
+    pub next: usize,
+    pub records: usize,
+    pub skipped: usize,
 }
 
 // A chunk at its end, which is stop: its children have so many records and skipped bytes, and left these marks.
@@ -36,19 +33,17 @@ fn close(
     records: usize,
     skipped: usize,
     marks: &[u32],
-) -> Ran
+) -> Result<Ran, Refusal>
     requires { (length marks.now ≡ 6) × (id ≡ 0x4100 → MeshPlaced file.now marks.now) × (records < 4294967296) }
     ensures is { ClosesBy file.now id at as_many marks.now stop records skipped result }
     ensures counts { ClosesWith stop records skipped result }
 {
-    match studio_marks::at_end(file, id, at, as_many, marks) {
-        Err(r) => Ran::Refused(r),
-        Ok(()) => Ran::Done {
-            next: stop,
-            records: records + 1,
-            skipped,
-        },
-    }
+    studio_marks::at_end(file, id, at, as_many, marks)?;
+    Ok(Ran {
+        next: stop,
+        records: records + 1,
+        skipped,
+    })
 }
 
 // The chunk at at, in a file in whose meshes mapping pairs are as many as vertices, or at most as many. Its children leave
@@ -63,25 +58,25 @@ fn chunk(
     at: usize,
     end: usize,
     marks: &mut [u32],
-) -> Ran
+) -> Result<Ran, Refusal>
     requires { (at < end) × (1 ≤ at) × Room end count file.now marks.old × SomeContext parent count as_many marks.old × (table.now ≡ slots) }
     ensures is { (p : Parent) (seen : List ℕ) → RuleIs p as_many → Context p seen parent count marks.old →
         ChunkIs p seen at (step p seen at (slice at end file.now)) result marks.old marks.new }
     ensures six { length marks.new ≡ 6 }
     ensures within { ChunkWithin at end result }
 {
-    match studio_head::look(file, table, parent, count, at, end, marks) {
-        Head::Fault(r) => Ran::Refused(r),
-        Head::Skip { stop } => Ran::Done {
+    let head = studio_head::look(file, table, parent, count, at, end, marks)?;
+    match head {
+        Head::Skip { stop } => Ok(Ran {
             next: stop,
             records: 0,
             skipped: stop - at,
-        },
-        Head::Leaf { stop } => Ran::Done {
+        }),
+        Head::Leaf { stop } => Ok(Ran {
             next: stop,
             records: 1,
             skipped: 0,
-        },
+        }),
         Head::Enter {
             id,
             row,
@@ -94,14 +89,17 @@ fn chunk(
             if from == stop {
                 return close(file, id, at, as_many, stop, 0, 0, &inner);
             }
-            match run(file, table, row, word, as_many, from, stop, &mut inner) {
-                Ran::Refused(r) => Ran::Refused(r),
-                Ran::Done {
-                    next: _,
-                    records,
-                    skipped,
-                } => close(file, id, at, as_many, stop, records, skipped, &inner),
-            }
+            let kids = run(file, table, row, word, as_many, from, stop, &mut inner)?;
+            close(
+                file,
+                id,
+                at,
+                as_many,
+                stop,
+                kids.records,
+                kids.skipped,
+                &inner,
+            )
         }
     }
 }
@@ -117,7 +115,7 @@ pub fn run(
     at: usize,
     end: usize,
     marks: &mut [u32],
-) -> Ran
+) -> Result<Ran, Refusal>
     requires { (at ≤ end) × (1 ≤ at) × Room end count file.now marks.old × SomeContext parent count as_many marks.old × (table.now ≡ slots) }
     ensures is { (p : Parent) (seen : List ℕ) → RuleIs p as_many → Context p seen parent count marks.old →
         RunIs end 0 0 at marks.old (walk p seen at (slice at end file.now)) result marks.new }
@@ -127,28 +125,21 @@ pub fn run(
     let mut p = at;
     let mut records = 0usize;
     let mut skipped = 0usize;
+    // a `while`: each chunk tells where the next begins
     while p < end {
-        match chunk(file, table, parent, count, as_many, p, end, marks) {
-            Ran::Refused(r) => return Ran::Refused(r),
-            Ran::Done {
-                next,
-                records: n,
-                skipped: k,
-            } => {
-                p = next;
-                records += n;
-                skipped += k;
-                // unlisted chunks often stand together: one loop over them costs less than a look at each
-                if n == 0 {
-                    p = studio_head::pass_over(file, table, next, end);
-                    skipped += p - next;
-                }
-            }
+        let met = chunk(file, table, parent, count, as_many, p, end, marks)?;
+        p = met.next;
+        records += met.records;
+        skipped += met.skipped;
+        // unlisted chunks often stand together: one loop over them costs less than a look at each
+        if met.records == 0 {
+            p = studio_head::pass_over(file, table, met.next, end);
+            skipped += p - met.next;
         }
     }
-    Ran::Done {
+    Ok(Ran {
         next: end,
         records,
         skipped,
-    }
+    })
 }

@@ -4,10 +4,10 @@ use Rattle.shared_words.specs.declared.Refusal.{Refusal}
 use Rattle.std.specs.Prelude.{Result}
 use mathlib.Core.Path.{◌≡◌, refl, ap, ◌∙◌}
 use mathlib.Core.List.{List}
-use Prim.Native.Nat.{ℕ, ◌+◌, ◌*◌, ◌-◌, ◌≤◌, ◌<◌}
+use Prim.Native.Nat.{ℕ, ◌<◌}
 use native.Mathlib.Omega.{arith}
 use lib.ListN.{length, set, length-set}
-use Rattle.shared_words.specs.Effects.{Effect, filled}
+use Rattle.shared_words.specs.Effects.{Effect}
 use Rattle.studio_rules.specs.declared.Record.{Record}
 use Rattle.studio_list_table.proofs.Outcome.{outcome, one_more, all_there}
 use Rattle.studio_list_table.proofs.list_records.Goals as goal
@@ -15,7 +15,7 @@ use Rattle.studio_list_table.proofs.list_records.Goals as goal
 pub loop-i-init : goal.loop-i-init
 loop-i-init c =
     let o = outcome {table = c.args.table.now} c.args.file.now c.list_beside-listed.ensures in
-    record { within = omega arith; fits = omega (arith, c.records_in-n.ensures, o.counted, o.table_fits); stands = λ p. refl }
+    record { fits = omega (arith, c.records_in-n.ensures, o.counted, o.table_fits); stands = λ p. refl }
 
 pub record_at-requires : goal.record_at-requires
 record_at-requires c =
@@ -26,7 +26,6 @@ pub loop-i-preserved : goal.loop-i-preserved
 loop-i-preserved c =
     let i = c.loop-i in
     record {
-      within = omega arith;
       fits = omega (arith, length-set i.table i.i c.record_at.result);
       stands = λ p.
           let h : i.i < length p.records = omega (arith, c.records_in-n.ensures, p.counted) in

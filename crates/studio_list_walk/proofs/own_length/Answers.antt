@@ -25,7 +25,7 @@ returns-in-0 c =
     let k = sym c.kind-kind.ensures ∙ c.in-0.is in
     let z = c.size-size.ensures.is in let both = found-shape a.file.now a.row x.requires.0 x.requires.1 (sym c.may_have_children.ensures ∙ c.if-not-may_have_children.false) c.fitting.result
     (λ around. rw (kind-fixed a.row k) (fixed-is a.file.now a.at a.stop (omega arith) (omega arith) (size_in a.row) around c.fitting.result (rw z at c.fitting.ensures)))
-    c.size_of.result c.size_of.ensures in record { is = both.0; within = both.1 }
+    c.unwrap_or.result c.unwrap_or.ensures in record { is = both.0; within = both.1 }
 
 pub returns-in-1 : goal.returns-in-1
 returns-in-1 c =
@@ -33,7 +33,7 @@ returns-in-1 c =
     let a = x.args in
     let k = sym c.kind-kind.ensures ∙ c.in-1.is in let both = found-shape a.file.now a.row x.requires.0 x.requires.1 (sym c.may_have_children.ensures ∙ c.if-not-may_have_children.false) c.name_size.result
     (λ around. rw (kind-name a.row k) (around-any name (λ x y body. refl) around (slice a.at a.stop a.file.now) c.name_size.result c.name_size.ensures))
-    c.size_of-in-1.result c.size_of-in-1.ensures in record { is = both.0; within = both.1 }
+    c.unwrap_or-in-1.result c.unwrap_or-in-1.ensures in record { is = both.0; within = both.1 }
 
 pub returns-in_default : goal.returns-in_default
 returns-in_default c =
@@ -45,4 +45,4 @@ returns-in_default c =
     let k : kind_in a.row ≡ 2 = two (kind_in a.row) i (λ z. omega arith) (λ z. omega arith) in
     let z = c.size-size.ensures.is in let both = found-shape a.file.now a.row x.requires.0 x.requires.1 h c.counted_size.result
     (λ around. rw (kind-counted a.row k) (around-any (counted (size_in a.row)) (λ x y body. refl) around (slice a.at a.stop a.file.now) c.counted_size.result (rw z at c.counted_size.ensures)))
-    c.size_of-in_default.result c.size_of-in_default.ensures in record { is = both.0; within = both.1 }
+    c.unwrap_or-in_default.result c.unwrap_or-in_default.ensures in record { is = both.0; within = both.1 }

@@ -1,4 +1,3 @@
-use Prim.Native.Nat.{◌-◌}
 use native.Mathlib.Omega.{arith}
 use Rattle.studio_names.proofs.Names.{name-here, name-on, name-nowhere, name-both}
 use Rattle.studio_names.proofs.name_size.Goals as goal
@@ -6,7 +5,7 @@ use Rattle.studio_names.proofs.name_size.Goals as goal
 pub loop-i-init : goal.loop-i-init
 loop-i-init c =
     let a = c.args in
-    name-both a.s.now a.at c.skip_blocks.result a.end c.skip_eights-i.result c.skip_blocks.ensures c.skip_eights-i.ensures
+    name-both a.s.now a.at c.skip_blocks.result a.end c.skip_eights-from.result c.skip_blocks.ensures c.skip_eights-from.ensures
 
 pub returns-then-s-i-eq0 : goal.returns-then-s-i-eq0
 returns-then-s-i-eq0 c =

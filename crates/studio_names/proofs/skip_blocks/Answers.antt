@@ -1,4 +1,3 @@
-use Prim.Native.Nat.{◌-◌}
 use native.Mathlib.Omega.{arith}
 use Rattle.studio_names.proofs.Names.{name-past}
 use Rattle.studio_names.proofs.skip_blocks.Goals as goal

@@ -1,5 +1,4 @@
 use mathlib.Core.Path.{◌≡◌}
-use Prim.Native.Nat.{◌-◌}
 use native.Mathlib.Omega.{arith}
 use Rattle.studio_names.proofs.Names.{name-eight}
 use Rattle.studio_names.proofs.skip_eights.Goals as goal

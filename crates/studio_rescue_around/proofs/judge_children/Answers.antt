@@ -8,6 +8,7 @@ use Rattle.studio_marks.specs.Marks.{no_marks}
 use Rattle.studio_check.proofs.Files.{figure-row, top_context}
 use Rattle.studio_rescue_around.proofs.Answers.{in_file_lem, before-refused, no-scene}
 use Rattle.studio_rescue_around.proofs.Contexts.{run-refused, run-read, top_read}
+use Rattle.std.proofs.lemmas.Result.{err_from_is_err_and}
 use Rattle.studio_rescue_around.proofs.judge_children.Goals as goal
 
 pub run-requires : goal.run-requires
@@ -24,10 +25,10 @@ returns-then-at-file c =
     let s = a.file.now in
     let x = c.requires in
     let r = c.run in
-    let g = c.in-Done in
+    let g = c.in_ok-run.field-0 in
     let i = in_file_lem a.version s a.at x.0 x.2 in
     let b = bytes-all s (λ i. omega (arith, c.type_inv.file i)) in
-    let w = run-read (top a.version) [] s 6 a.at no_marks r.new.marks b i.1 g.next g.records g.skipped (top_read s a.version a.at r.result r.new.marks r.ensures.is g.is) in
+    let w = run-read (top a.version) [] s 6 a.at no_marks r.new.marks b i.1 g.next g.records g.skipped (top_read s a.version a.at r.result r.new.marks r.ensures.is c.in_ok-run.was) in
     no-scene a.version s a.at x.0 x.2 w.t w.is c.if-at-file.true
 
 pub judge_behind-requires : goal.judge_behind-requires
@@ -36,10 +37,10 @@ judge_behind-requires c =
     let s = a.file.now in
     let x = c.requires in
     let r = c.run in
-    let g = c.in-Done in
+    let g = c.in_ok-run.field-0 in
     let i = in_file_lem a.version s a.at x.0 x.2 in
     let b = bytes-all s (λ i. omega (arith, c.type_inv.file i)) in
-    let w = run-read (top a.version) [] s 6 a.at no_marks r.new.marks b i.1 g.next g.records g.skipped (top_read s a.version a.at r.result r.new.marks r.ensures.is g.is) in
+    let w = run-read (top a.version) [] s 6 a.at no_marks r.new.marks b i.1 g.next g.records g.skipped (top_read s a.version a.at r.result r.new.marks r.ensures.is c.in_ok-run.was) in
     let n = c.if-at-file.false in (
       record {
         long = x.0;
@@ -56,11 +57,12 @@ judge_behind-requires c =
       omega (arith, i.1),
     )
 
-pub returns-in-Refused : goal.returns-in-Refused
-returns-in-Refused c =
+pub returns-in_err-run : goal.returns-in_err-run
+returns-in_err-run c =
     let a = c.args in
     let s = a.file.now in
     let x = c.requires in
     let r = c.run in
-    let g = c.in-Refused in
-    before-refused a.version s a.at x.0 x.2 g.r (run-refused _ a.at 6 g.r no_marks r.new.marks (top_read s a.version a.at r.result r.new.marks r.ensures.is g.is))
+    let y = err_from_is_err_and c.from_residual.result c.from_residual.ensures.1 in
+    rw (y.1, y.2)
+    (before-refused a.version s a.at x.0 x.2 _ (run-refused _ a.at 6 _ no_marks r.new.marks (top_read s a.version a.at r.result r.new.marks r.ensures.is c.in_err-run.was)))

@@ -38,16 +38,16 @@ overflow_add-gone c =
     let e = c.end_of-stop.ensures.within in
     omega (arith, i.near, i.past, e.0, e.1, g.ends, g.short)
 
-pub loop-at-smaller-in-Cut : goal.loop-at-smaller-in-Cut
-loop-at-smaller-in-Cut c = let e = c.end_of-stop.ensures.within in omega arith
+pub loop-at-smaller-in-Some : goal.loop-at-smaller-in-Some
+loop-at-smaller-in-Some c = let e = c.end_of-stop.ensures.within in omega arith
 
-pub loop-at-preserved-in-Cut : goal.loop-at-preserved-in-Cut
-loop-at-preserved-in-Cut c = λ l.
+pub loop-at-preserved-in-Some : goal.loop-at-preserved-in-Some
+loop-at-preserved-in-Some c = λ l.
     let a = c.args in
     let p = c.loop-at in
     let e = c.end_of-stop.ensures in
     counting_cut a.version a.file.now a.from a.to l p.at c.end_of-stop.result p.count p.gone (p.invariant l)
-    (record { more = c.loop-at-test.true; stop_is = e.is; goes = e.within.0; stays = e.within.1 }) _ c.in-Cut.ensures
+    (record { more = c.loop-at-test.true; stop_is = e.is; goes = e.within.0; stays = e.within.1 }) _ c.in-Some.ensures
 
 pub loop-at-smaller : goal.loop-at-smaller
 loop-at-smaller c = let e = c.end_of-stop.ensures.within in omega arith
@@ -59,7 +59,7 @@ loop-at-preserved c = λ l.
     let e = c.end_of-stop.ensures in
     let b = bytes-all a.file.now (λ i. omega (arith, c.type_inv.file i)) in
     counting_kept a.version a.file.now a.from a.to l p.at c.end_of-stop.result p.count p.gone (p.invariant l)
-    (record { more = c.loop-at-test.true; stop_is = e.is; goes = e.within.0; stays = e.within.1 }) b c.in-Kept.ensures
+    (record { more = c.loop-at-test.true; stop_is = e.is; goes = e.within.0; stays = e.within.1 }) b c.in-None.ensures
 
 pub returns : goal.returns
 returns c =

@@ -34,11 +34,11 @@ put_cut-row-requires c =
     let e = c.end_of-stop.ensures in
     let h : Here a.version s a.from a.to l p.child c.end_of-stop.result = record { more = c.loop-child-test.true; stop_is = e.is; goes = e.within.0; stays = e.within.1 } in
     let g = w.within in
-    let room = cut-room a.version s a.from a.to l a.cuts.now a.at a.out.now p.cuts p.out p.child p.row p.next (p.invariant l) c.end_of-stop.result h c.in-Cut.number c.in-Cut.ensures w.cuts-room in
+    let room = cut-room a.version s a.from a.to l a.cuts.now a.at a.out.now p.cuts p.out p.child p.row p.next (p.invariant l) c.end_of-stop.result h c.in-Some.number c.in-Some.ensures w.cuts-room in
     (room, omega (arith, h.goes, h.stays, g.ends, g.short), omega (arith, h.goes, h.stays, g.ends, g.short))
 
-pub overflow_sub-stop-in-Kept : goal.overflow_sub-stop-in-Kept
-overflow_sub-stop-in-Kept c = let e = c.end_of-stop.ensures.within in omega arith
+pub overflow_sub-stop-in-None : goal.overflow_sub-stop-in-None
+overflow_sub-stop-in-None c = let e = c.end_of-stop.ensures.within in omega arith
 
 pub put_part-next-requires : goal.put_part-next-requires
 put_part-next-requires c =
@@ -50,20 +50,20 @@ put_part-next-requires c =
     let e = c.end_of-stop.ensures in
     let h : Here a.version s a.from a.to l p.child c.end_of-stop.result = record { more = c.loop-child-test.true; stop_is = e.is; goes = e.within.0; stays = e.within.1 } in
     let b = bytes-all s (λ i. omega (arith, c.type_inv.file i)) in
-    (omega (arith, h.goes, h.stays, l), kept-room a.version s a.from a.to l a.cuts.now a.at a.out.now p.cuts p.out p.child p.row p.next (p.invariant l) c.end_of-stop.result h b c.in-Kept.ensures w.out_room)
+    (omega (arith, h.goes, h.stays, l), kept-room a.version s a.from a.to l a.cuts.now a.at a.out.now p.cuts p.out p.child p.row p.next (p.invariant l) c.end_of-stop.result h b c.in-None.ensures w.out_room)
 
-pub loop-child-smaller-in-Cut : goal.loop-child-smaller-in-Cut
-loop-child-smaller-in-Cut c = let e = c.end_of-stop.ensures.within in omega arith
+pub loop-child-smaller-in-Some : goal.loop-child-smaller-in-Some
+loop-child-smaller-in-Some c = let e = c.end_of-stop.ensures.within in omega arith
 
-pub loop-child-preserved-in-Cut : goal.loop-child-preserved-in-Cut
-loop-child-preserved-in-Cut c = λ l.
+pub loop-child-preserved-in-Some : goal.loop-child-preserved-in-Some
+loop-child-preserved-in-Some c = λ l.
     let a = c.args in
     let s = a.file.now in
     let p = c.loop-child in
     let e = c.end_of-stop.ensures in
     let h : Here a.version s a.from a.to l p.child c.end_of-stop.result = record { more = c.loop-child-test.true; stop_is = e.is; goes = e.within.0; stays = e.within.1 } in
     let q = c.put_cut-row in
-    filling_cut a.version s a.from a.to l a.cuts.now a.at a.out.now p.cuts p.out p.child p.row p.next (p.invariant l) c.end_of-stop.result h c.in-Cut.number c.in-Cut.ensures _ q.result q.auto.row q.ensures
+    filling_cut a.version s a.from a.to l a.cuts.now a.at a.out.now p.cuts p.out p.child p.row p.next (p.invariant l) c.end_of-stop.result h c.in-Some.number c.in-Some.ensures _ q.result q.auto.row q.ensures
 
 pub loop-child-smaller : goal.loop-child-smaller
 loop-child-smaller c = let e = c.end_of-stop.ensures.within in omega arith
@@ -77,7 +77,7 @@ loop-child-preserved c = λ l.
     let h : Here a.version s a.from a.to l p.child c.end_of-stop.result = record { more = c.loop-child-test.true; stop_is = e.is; goes = e.within.0; stays = e.within.1 } in
     let b = bytes-all s (λ i. omega (arith, c.type_inv.file i)) in
     let q = c.put_part-next in
-    filling_kept a.version s a.from a.to l a.cuts.now a.at a.out.now p.cuts p.out p.child p.row p.next (p.invariant l) c.end_of-stop.result h b c.in-Kept.ensures (omega (arith, c.requires.out_room)) _ q.result q.auto.out q.ensures
+    filling_kept a.version s a.from a.to l a.cuts.now a.at a.out.now p.cuts p.out p.child p.row p.next (p.invariant l) c.end_of-stop.result h b c.in-None.ensures (omega (arith, c.requires.out_room)) _ q.result q.auto.out q.ensures
 
 pub shape_of-cuts : goal.shape_of-cuts
 shape_of-cuts c = (c.loop-child.invariant c.requires.within.ends).cuts-long

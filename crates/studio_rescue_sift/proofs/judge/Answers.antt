@@ -27,16 +27,16 @@ run-requires c =
     let g = x.requires in
     (g.order, g.begins, record { ends = g.ends; short = g.short; word = omega arith; six = refl }, (scene v, [], refl, scene_context v _ w), g.table_is)
 
-pub returns-in-Refused : goal.returns-in-Refused
-returns-in-Refused c =
+pub returns-in-Err : goal.returns-in-Err
+returns-in-Err c =
     let a = c.args in
     let r = c.run in
-    let g = c.in-Refused in
+    let g = c.in-Err in
     child-cut a.at a.stop r.new.marks _ g.r c.number.result (run-of-one a.file.now a.version _ a.at a.stop c.row-row.ensures r.result r.new.marks r.ensures.is g.is) c.number.ensures.is
 
-pub returns-in-Done : goal.returns-in-Done
-returns-in-Done c =
+pub returns-in-Ok : goal.returns-in-Ok
+returns-in-Ok c =
     let a = c.args in
     let r = c.run in
-    let g = c.in-Done in
-    child-kept a.at a.stop r.new.marks _ g.next g.records g.skipped (run-of-one a.file.now a.version _ a.at a.stop c.row-row.ensures r.result r.new.marks r.ensures.is g.is)
+    let g = c.in-Ok.field-0 in
+    child-kept a.at a.stop r.new.marks _ g.next g.records g.skipped (run-of-one a.file.now a.version _ a.at a.stop c.row-row.ensures r.result r.new.marks r.ensures.is c.in-Ok.is)

@@ -1,7 +1,5 @@
-use mathlib.Core.Path.{◌≡◌, refl, sym, ◌∙◌}
+use mathlib.Core.Path.{refl, sym, ◌∙◌}
 use mathlib.Core.Logic.{inl, inr}
-use Prim.Native.Nat.{◌-◌}
-use native.Mathlib.Omega.{arith}
 use lib.Dec.{ltb}
 use Rattle.shared_words.specs.Lists.{every}
 use Rattle.studio_scan.proofs.Lists.{one_more, faces-more}
@@ -10,22 +8,15 @@ use Rattle.studio_scan.proofs.corners_below.Goals.{then-not-face_below, else-not
 
 pub loop-i-init : goal.loop-i-init
 unfolding every
-loop-i-init c = (omega arith, refl)
+loop-i-init c = refl
 
 pub loop-i-preserved : goal.loop-i-preserved
 loop-i-preserved c =
     let l = c.loop-i in
     let a = c.args in
-    let v = sym c.face_below.ensures in (
-      omega arith,
-      one_more (λ x. ltb x a.limit) _ _ _ (faces-more a.s.now a.at l.i) l.good c.if-not-face_below.good l.invariant.1
-          (elim c.if-not-face_below.branch [
-            | then-not-face_below w ↦ inl (v ∙ w.if-not-face_below.true, w.good-is)
-            | else-not-face_below w ↦ inr (v ∙ w.if-not-face_below.false, w.good-is)
-          ]),
-    )
-
-pub returns : goal.returns
-returns c =
-    let e : c.loop-i.i ≡ c.args.n = omega arith in
-    rw (← e) c.loop-i.invariant.1
+    let v = sym c.face_below.ensures in
+    one_more (λ x. ltb x a.limit) _ _ _ (faces-more a.s.now a.at l.i) l.good c.if-not-face_below.good l.invariant
+    (elim c.if-not-face_below.branch [
+      | then-not-face_below w ↦ inl (v ∙ w.if-not-face_below.true, w.good-is)
+      | else-not-face_below w ↦ inr (v ∙ w.if-not-face_below.false, w.good-is)
+    ])
