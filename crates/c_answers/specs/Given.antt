@@ -1,7 +1,7 @@
 -- Answers of a few numbers, four bytes each: the answer is how many there are, or 15 with that; and what is left in the
 -- lent bytes.
-use Rattle.studio_rules.specs.declared.Counts.{Counts}
 use Rattle.studio_rules.specs.declared.Span.{Span}
+use Rattle.studio_rules.specs.declared.Counts.{Counts}
 use Rattle.std.specs.Prelude.{ℕ, cond, List, [], ◌∷◌, leb, length, Result, Ok, Err}
 use Rattle.shared_words.specs.declared.Refusal.{Refusal}
 use Rattle.shared_words.specs.declared.Refusal.TheVariants.{NoRoom}
@@ -33,6 +33,6 @@ name_given out (Ok span) = given out (span.offset ∷ span.size ∷ [])
 name_given out (Err r) = untouched out r
 
 -- the low corner of a box, the high one, and the centre
-abbrev pub box_given : List ℕ → Boxed → Effect ℕ (List ℕ)
-box_given out (Boxed.Around box centre) = given out (nine box centre)
-box_given out (Boxed.Refused r) = untouched out r
+abbrev pub box_given : List ℕ → Result Boxed Refusal → Effect ℕ (List ℕ)
+box_given out (Ok b) = given out (nine b.around b.centre)
+box_given out (Err r) = untouched out r

@@ -8,6 +8,7 @@ use Rattle.shared_words.specs.Effects.{leaving}
 use Rattle.studio_rules.specs.declared.Boxed.{Boxed}
 use Rattle.studio_rules.specs.declared.Corner.{Corner}
 use Rattle.c_answers.specs.Given.{counts_given, name_given, box_given}
+use Rattle.studio_rules.specs.Calls.{box_answer}
 
 abbrev pub triangle : Result Counts Refusal
 triangle = Ok record { records = 6; headers = 36; own = 50; skipped = 0 }
@@ -16,8 +17,8 @@ triangle = Ok record { records = 6; headers = 36; own = 50; skipped = 0 }
 abbrev pub point : ℕ → ℕ → Corner
 point x y = record { x = float x; y = float y; z = float 0 }
 
-abbrev pub box : Boxed
-box = Boxed.Around record { low = point 0 0; high = point 0x3F80_0000 0x3F80_0000 } (point 0x3F00_0000 0x3F00_0000)
+abbrev pub box : Result Boxed Refusal
+box = box_answer record { low = point 0 0; high = point 0x3F80_0000 0x3F80_0000 } (point 0x3F00_0000 0x3F00_0000)
 
 -- 1, one half and 0, least byte first
 abbrev pub one : List ℕ

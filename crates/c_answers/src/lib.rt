@@ -19,10 +19,8 @@ fn put_numbers(numbers: &[u32], out: &mut [u8])
     ensures { out.new ≡ filled (packed 4 numbers.now) out.old }
 {
     let mut next = 0usize;
-    let mut i = 0usize;
-    while i < numbers.len() {
-        next = put_long(numbers[i], next, out);
-        i += 1;
+    for number in numbers {
+        next = put_long(*number, next, out);
     }
 }
 
@@ -73,24 +71,24 @@ pub fn give_name(named: Result<Span, Refusal>, out: &mut [u8]) -> u64
 }
 
 // The low corner, the high corner and the centre of a box.
-pub fn give_box(boxed: Boxed, out: &mut [u8]) -> u64
+pub fn give_box(boxed: Result<Boxed, Refusal>, out: &mut [u8]) -> u64
     requires { BoxNumbers boxed }
     ensures answer { result ≡ (box_given out.old boxed).answer }
     ensures out { out.new ≡ (box_given out.old boxed).rows }
 {
     match boxed {
-        Boxed::Refused(r) => refusal_code(r),
-        Boxed::Around(b, centre) => {
+        Err(r) => refusal_code(r),
+        Ok(Boxed { around, centre }) => {
             let nine = [
-                f32::to_bits(b.low.x),
-                f32::to_bits(b.low.y),
-                f32::to_bits(b.low.z),
-                f32::to_bits(b.high.x),
-                f32::to_bits(b.high.y),
-                f32::to_bits(b.high.z),
-                f32::to_bits(centre.x),
-                f32::to_bits(centre.y),
-                f32::to_bits(centre.z),
+                around.low.x.to_bits(),
+                around.low.y.to_bits(),
+                around.low.z.to_bits(),
+                around.high.x.to_bits(),
+                around.high.y.to_bits(),
+                around.high.z.to_bits(),
+                centre.x.to_bits(),
+                centre.y.to_bits(),
+                centre.z.to_bits(),
             ];
             give_numbers(&nine, out)
         }

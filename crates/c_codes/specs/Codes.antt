@@ -1,7 +1,7 @@
 -- An answer as the one number for C of include/tds.h. An answer proper is below 2^32, so it is never mistaken for a refusal: crate
 -- claim_numbers proves it of every call.
-use Rattle.studio_rules.specs.declared.Counts.{Counts}
 use Rattle.studio_rules.specs.declared.Sizes.{Sizes}
+use Rattle.studio_rules.specs.declared.Counts.{Counts}
 use Rattle.std.specs.Prelude.{ℕ, ◌+◌, ◌-◌, ◌*◌, ◌^◌, min, Result, Ok, Err}
 use Rattle.shared_words.specs.declared.Refusal.{Refusal}
 use Rattle.shared_words.specs.Refusals.{number_of, place_of}
@@ -25,7 +25,7 @@ abbrev pub numbers_or : Result Sizes Refusal → ℕ
 numbers_or (Ok n) = 2 * n.pairs
 numbers_or (Err r) = refusal_code r
 
--- for the writer the size
-abbrev pub size_or : Result ℕ Refusal → ℕ
-size_or (Ok n) = n
-size_or (Err r) = refusal_code r
+-- for the others the count: of entries, objects, parts, meshes, numbers filled; for the writers the size
+abbrev pub count_or : Result ℕ Refusal → ℕ
+count_or (Ok n) = n
+count_or (Err r) = refusal_code r

@@ -1,7 +1,7 @@
 -- Worked numbers: what C gets for a few answers, in hexadecimal, where the upper half of a refusal is its number.
 use Rattle.std.specs.Prelude.{◌≡◌, Ok, Err}
 use Rattle.shared_words.specs.declared.Refusal.TheVariants.{TooLong, Trailing, Name, Index, NoRoom, NoMaterial, Changed}
-use Rattle.c_codes.specs.Codes.{refusal_code, records_or, sizes_or, numbers_or, size_or}
+use Rattle.c_codes.specs.Codes.{refusal_code, records_or, sizes_or, numbers_or, count_or}
 
 pub record Worked : Type 0 where
   -- refusals of the table's first and last line, of P5, and of a place in the last byte that a file can have
@@ -20,5 +20,5 @@ pub record Worked : Type 0 where
   pub most : sizes_or (Ok record { vertices = 0xFFFF; faces = 0xFFFE; pairs = 0xFFFF }) ≡ 0xFFFE_FFFF
   -- a mapping of three pairs
   pub six_numbers : numbers_or (Ok record { vertices = 3; faces = 1; pairs = 3 }) ≡ 6
-  pub written : size_or (Ok 86) ≡ 86
-  pub no-room_to_write : size_or (Err (NoRoom 86)) ≡ 0xF_0000_0056
+  pub written : count_or (Ok 86) ≡ 86
+  pub no-room_to_write : count_or (Err (NoRoom 86)) ≡ 0xF_0000_0056

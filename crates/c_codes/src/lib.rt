@@ -3,12 +3,13 @@
 
 ghost use Rattle.std.specs.Prelude.{◌≡◌};
 ghost use Rattle.studio_rules.specs.Within.{SizesWithin};
-ghost use Rattle.c_codes.specs.Codes.{refusal_code, records_or, sizes_or, numbers_or, size_or};
+ghost use Rattle.c_codes.specs.Codes.{refusal_code, records_or, sizes_or, numbers_or, count_or};
 
 use shared_words::Refusal;
 use studio_rules::{Counts, Sizes};
 
-// A refusal. Only the writer can have a place beyond 32 bits; it is answered as the largest.
+// A refusal, its number and place in one as every function of tds answers C. Only the writer can have a place beyond 32 bits; it is
+// answered as the largest.
 pub fn refusal_code(r: Refusal) -> u64
     ensures { result ≡ refusal_code r }
 {
@@ -25,10 +26,7 @@ pub fn refusal_code(r: Refusal) -> u64
 pub fn checked_code(checked: Result<Counts, Refusal>) -> u64
     ensures { result ≡ records_or checked }
 {
-    match checked {
-        Ok(counts) => counts.records as u64,
-        Err(r) => refusal_code(r),
-    }
+    checked.map_or_else(refusal_code, |counts| counts.records as u64)
 }
 
 // The vertices plus 65,536 times the faces, or a refusal.
@@ -36,10 +34,10 @@ pub fn tabled_code(tabled: Result<Sizes, Refusal>) -> u64
     requires { SizesWithin tabled }
     ensures { result ≡ sizes_or tabled }
 {
-    match tabled {
-        Ok(sizes) => sizes.vertices as u64 + 65536 * (sizes.faces as u64),
-        Err(r) => refusal_code(r),
-    }
+    tabled.map_or_else(
+        refusal_code,
+        |sizes| sizes.vertices as u64 + 65536 * (sizes.faces as u64),
+    )
 }
 
 // How many numbers a mapping has, or a refusal.
@@ -47,18 +45,12 @@ pub fn mapped_code(tabled: Result<Sizes, Refusal>) -> u64
     requires { SizesWithin tabled }
     ensures { result ≡ numbers_or tabled }
 {
-    match tabled {
-        Ok(sizes) => 2 * (sizes.pairs as u64),
-        Err(r) => refusal_code(r),
-    }
+    tabled.map_or_else(refusal_code, |sizes| 2 * (sizes.pairs as u64))
 }
 
-// The size of what was written, or a refusal.
-pub fn written_code(written: Result<usize, Refusal>) -> u64
-    ensures { result ≡ size_or written }
+// A count or a size, or a refusal.
+pub fn count_code(count: Result<usize, Refusal>) -> u64
+    ensures { result ≡ count_or count }
 {
-    match written {
-        Ok(size) => size as u64,
-        Err(r) => refusal_code(r),
-    }
+    count.map_or_else(refusal_code, |n| n as u64)
 }

@@ -5,14 +5,12 @@ ghost use Rattle.std.specs.Prelude.{◌≡◌};
 ghost use Rattle.c_rescue.specs.Codes.{cuts_or};
 
 use c_codes::refusal_code;
+use shared_words::Refusal;
 use studio_rescue_rules::Mended;
 
 // The count of cuts, or a refusal.
-pub fn mended_code(mended: Mended) -> u64
+pub fn mended_code(mended: Result<Mended, Refusal>) -> u64
     ensures { result ≡ cuts_or mended }
 {
-    match mended {
-        Mended::Written { cuts, size: _ } => cuts as u64,
-        Mended::Refused(r) => refusal_code(r),
-    }
+    mended.map_or_else(refusal_code, |done| done.cuts as u64)
 }

@@ -11,8 +11,5 @@ use shared_words::Refusal;
 pub fn judged_code(judged: Result<(), Refusal>) -> u64
     ensures { result ≡ one_or judged }
 {
-    match judged {
-        Ok(()) => 1,
-        Err(r) => refusal_code(r),
-    }
+    judged.map_or_else(refusal_code, |_| 1)
 }

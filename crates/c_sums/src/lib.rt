@@ -7,8 +7,8 @@ ghost use Rattle.slip_sums.specs.Passes.{sums_call, match_of};
 ghost use Rattle.c_sums.specs.Numbers.{SumsProper, sums_or, zero_or, Handed, number_of, sum_in, with_part_number, join_numbers};
 
 use c_codes::refusal_code;
-use slip_sums::Sum;
 use shared_words::Refusal;
+use slip_sums::Sum;
 
 // ---- of a whole file
 
@@ -16,10 +16,7 @@ fn sums_code(summed: Result<Sum, Refusal>) -> u64
     requires { SumsProper summed }
     ensures { result ≡ sums_or summed }
 {
-    match summed {
-        Ok(sum) => sum.first + 256 * sum.second,
-        Err(r) => refusal_code(r),
-    }
+    summed.map_or_else(refusal_code, |sum| sum.first + 256 * sum.second)
 }
 
 // The sums of a file, for making an entry, or a refusal.
@@ -32,10 +29,7 @@ pub fn file_sums(file: &[u8]) -> u64
 fn matched_code(matched: Result<(), Refusal>) -> u64
     ensures { result ≡ zero_or matched }
 {
-    match matched {
-        Ok(()) => 0,
-        Err(r) => refusal_code(r),
-    }
+    matched.map_or_else(refusal_code, |_| 0)
 }
 
 fn against_entry(sum: Sum, len: u32, sums: u32) -> u64
@@ -53,7 +47,7 @@ pub fn file_matches(file: &[u8], len: u32, sums: u32) -> u64
     against_entry(slip_sums::sums(file), len, sums)
 }
 
-// ---- part by part, where a part is known by one number
+// ---- part by part, where a part is known by one number: C keeps no more of it between tds_sum_add and tds_sum_matches
 
 fn number_of(sum: Sum) -> u64
     requires { Handed sum }

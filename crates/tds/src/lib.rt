@@ -13,10 +13,9 @@ ghost use Rattle.studio_write.specs.Write.{write_call};
 ghost use Rattle.studio_figure_rules.specs.Described.{write_flat};
 ghost use Rattle.studio_figure_rows.specs.Rows.{flat};
 ghost use Rattle.c_version.specs.Version.{version};
-ghost use Rattle.c_codes.specs.Codes.{records_or, sizes_or, numbers_or, size_or};
+ghost use Rattle.c_codes.specs.Codes.{records_or, sizes_or, numbers_or, count_or};
 ghost use Rattle.c_answers.specs.Given.{counts_given, name_given, box_given};
 ghost use Rattle.c4d_rules.specs.Calls.{object_bytes, two_rows as object_rows, c4d_check_call, c4d_list_call};
-ghost use Rattle.c_c4d.specs.Codes.{objects_or};
 ghost use Rattle.slip_sums.specs.Fletcher.{sum_of};
 ghost use Rattle.slip_sums.specs.Passes.{sums_call, match_of};
 ghost use Rattle.slip_rules.specs.Calls.{byte_row, slip_read_call, given_bytes, slip_write_call};
@@ -24,18 +23,16 @@ ghost use Rattle.cob_rules.specs.Calls.{check_call as cob_check_call, list_call 
 ghost use Rattle.cob_rules.specs.Calls.{tables_call as cob_tables_call, record_bytes as cob_records};
 ghost use Rattle.cob_tables.specs.Rows.{rows as cob_rows};
 ghost use Rattle.cob_meshes_rules.specs.Calls.{mesh_bytes as cob_mesh_bytes, meshes_call as cob_meshes_call};
-ghost use Rattle.c_slip.specs.Codes.{entries_or};
 ghost use Rattle.c_stick.specs.Codes.{one_or};
 ghost use Rattle.stick_rules.specs.Records.{judge_call};
 ghost use Rattle.stick_evidence.specs.Evidence.{file_call, more_call};
-ghost use Rattle.c_counted.specs.Codes.{counted_or};
 ghost use Rattle.studio_rescue_rules.specs.Call.{cut_bytes, rescue_call};
 ghost use Rattle.studio_rescue.specs.Parts.{rescue_rows};
 ghost use Rattle.c_rescue.specs.Codes.{cuts_or};
-ghost use Rattle.c_cob.specs.Codes.{count_or};
 ghost use Rattle.c_sums.specs.Numbers.{sums_or, zero_or, sum_in, with_part_number, join_numbers};
 
 use c_codes::checked_code;
+use studio_figure_rows::FlatRows;
 use studio_rules::Record;
 
 // The version of the library.
@@ -122,28 +119,28 @@ pub extern "C" fn tds_box(file: &[u8], mesh: u32, out: &mut [u8]) -> u64
 // The count of parts whose fathers and depths now stand in the front of the slice, 8 bytes each, or a refusal.
 #[unsafe(no_mangle)]
 pub extern "C" fn tds_parts(file: &[u8], parts: &mut [u8]) -> u64
-    ensures answer { result ≡ counted_or (parts_call part_bytes file.now parts.old).answer }
+    ensures answer { result ≡ count_or (parts_call part_bytes file.now parts.old).answer }
     ensures parts { parts.new ≡ (parts_call part_bytes file.now parts.old).rows }
 {
-    c_counted::counted_code(studio_parts::parts_bytes(file, parts))
+    c_codes::count_code(studio_parts::parts_bytes(file, parts))
 }
 
 // The count of meshes, whose eight numbers each now stand in the front of the slice, or a refusal.
 #[unsafe(no_mangle)]
 pub extern "C" fn tds_meshes(file: &[u8], meshes: &mut [u8]) -> u64
-    ensures answer { result ≡ counted_or (meshes_call mesh_bytes file.now meshes.old).answer }
+    ensures answer { result ≡ count_or (meshes_call mesh_bytes file.now meshes.old).answer }
     ensures meshes { meshes.new ≡ (meshes_call mesh_bytes file.now meshes.old).rows }
 {
-    c_counted::counted_code(studio_meshes::meshes_bytes(file, meshes))
+    c_codes::count_code(studio_meshes::meshes_bytes(file, meshes))
 }
 
 // The count of meshes, whose boxes and centres, nine floats each, now stand in the front of the slice, or a refusal.
 #[unsafe(no_mangle)]
 pub extern "C" fn tds_boxes(file: &[u8], boxes: &mut [u8]) -> u64
-    ensures answer { result ≡ counted_or (boxes_call box_bytes file.now boxes.old).answer }
+    ensures answer { result ≡ count_or (boxes_call box_bytes file.now boxes.old).answer }
     ensures boxes { boxes.new ≡ (boxes_call box_bytes file.now boxes.old).rows }
 {
-    c_counted::counted_code(studio_meshes::boxes_bytes(file, boxes))
+    c_codes::count_code(studio_meshes::boxes_bytes(file, boxes))
 }
 
 // The count of cuts that now stand in the front of the first slice, 12 bytes each, the mended file in the front of the second, or a
@@ -160,10 +157,10 @@ pub extern "C" fn tds_rescue(file: &[u8], cuts: &mut [u8], out: &mut [u8]) -> u6
 // The size of the figure that now stands in the front of out, or a refusal.
 #[unsafe(no_mangle)]
 pub extern "C" fn tds_write(name: &[u8], vertices: &[f32], corners: &[u16], out: &mut [u8]) -> u64
-    ensures answer { result ≡ size_or (write_call name.now vertices.now corners.now out.old).answer }
+    ensures answer { result ≡ count_or (write_call name.now vertices.now corners.now out.old).answer }
     ensures out { out.new ≡ (write_call name.now vertices.now corners.now out.old).rows }
 {
-    c_codes::written_code(studio_write::write(name, vertices, corners, out))
+    c_codes::count_code(studio_write::write(name, vertices, corners, out))
 }
 
 // The size of the figure with many objects and materials that now stands in the front of out, or a refusal.
@@ -180,14 +177,23 @@ pub extern "C" fn tds_write_figure(
     colours: &[u8],
     out: &mut [u8],
 ) -> u64
-    ensures answer { result ≡ size_or (write_flat (flat names.now objects.now vertices.now corners.now
+    ensures answer { result ≡ count_or (write_flat (flat names.now objects.now vertices.now corners.now
         smoothing.now groups.now faces.now materials.now colours.now) out.old).answer }
     ensures out { out.new ≡ (write_flat (flat names.now objects.now vertices.now corners.now
         smoothing.now groups.now faces.now materials.now colours.now) out.old).rows }
 {
-    c_codes::written_code(studio_figure::write_figure(
-        names, objects, vertices, corners, smoothing, groups, faces, materials, colours, out,
-    ))
+    let rows = FlatRows {
+        names,
+        objects,
+        vertices,
+        corners,
+        smoothing,
+        groups,
+        faces,
+        materials,
+        colours,
+    };
+    c_codes::count_code(studio_figure::write_figure(&rows, out))
 }
 
 // ---- the slip of a stick: the checksum of a file
@@ -237,19 +243,19 @@ pub extern "C" fn tds_sum_matches(sum: u64, len: u32, sums: u32) -> u64
 // The count of entries that now stand in the front of the slice, 16 bytes each, or a refusal.
 #[unsafe(no_mangle)]
 pub extern "C" fn tds_slip_read(slip: &[u8], entries: &mut [u8]) -> u64
-    ensures answer { result ≡ entries_or (slip_read_call byte_row slip.now entries.old).answer }
+    ensures answer { result ≡ count_or (slip_read_call byte_row slip.now entries.old).answer }
     ensures entries { entries.new ≡ (slip_read_call byte_row slip.now entries.old).rows }
 {
-    c_slip::found_code(slip_read::read(slip, entries))
+    c_codes::count_code(slip_read::read(slip, entries))
 }
 
 // The size of the slip that now stands in the front of out, or a refusal.
 #[unsafe(no_mangle)]
 pub extern "C" fn tds_slip_write(names: &[u8], entries: &[u8], out: &mut [u8]) -> u64
-    ensures answer { result ≡ size_or (slip_write_call names.now (given_bytes entries.now) out.old).answer }
+    ensures answer { result ≡ count_or (slip_write_call names.now (given_bytes entries.now) out.old).answer }
     ensures out { out.new ≡ (slip_write_call names.now (given_bytes entries.now) out.old).rows }
 {
-    c_codes::written_code(slip_write::write(names, entries, out))
+    c_codes::count_code(slip_write::write(names, entries, out))
 }
 
 // ---- Cinema 4D figures
@@ -257,21 +263,21 @@ pub extern "C" fn tds_slip_write(names: &[u8], entries: &[u8], out: &mut [u8]) -
 // The count of objects, or a refusal.
 #[unsafe(no_mangle)]
 pub extern "C" fn tds_c4d_check(file: &[u8]) -> u64
-    ensures { result ≡ objects_or (c4d_check_call file.now) }
+    ensures { result ≡ count_or (c4d_check_call file.now) }
 {
-    c_c4d::found_code(c4d_check::check(file))
+    c_codes::count_code(c4d_check::check(file))
 }
 
 // The count of objects that now stand in the front of the first slice, 12 bytes each, their materials in the front of the
 // second, or a refusal.
 #[unsafe(no_mangle)]
 pub extern "C" fn tds_c4d_list(file: &[u8], objects: &mut [u8], materials: &mut [u8]) -> u64
-    ensures answer { result ≡ objects_or (c4d_list_call object_bytes (number_bytes 4) file.now objects.old
+    ensures answer { result ≡ count_or (c4d_list_call object_bytes (number_bytes 4) file.now objects.old
         materials.old).answer }
     ensures rows { object_rows objects.new materials.new ≡
         (c4d_list_call object_bytes (number_bytes 4) file.now objects.old materials.old).rows }
 {
-    c_c4d::found_code(c4d_list::list(file, objects, materials))
+    c_codes::count_code(c4d_list::list(file, objects, materials))
 }
 
 // ---- Caligari figures
@@ -281,7 +287,7 @@ pub extern "C" fn tds_c4d_list(file: &[u8], objects: &mut [u8], materials: &mut 
 pub extern "C" fn tds_cob_check(file: &[u8]) -> u64
     ensures { result ≡ count_or (cob_check_call file.now) }
 {
-    c_cob::answered_code(cob_check::check(file))
+    c_codes::count_code(cob_check::check(file))
 }
 
 // The count of records that now stand in the front of the slice, 24 bytes each, or a refusal.
@@ -290,7 +296,7 @@ pub extern "C" fn tds_cob_list(file: &[u8], records: &mut [u8]) -> u64
     ensures answer { result ≡ count_or (cob_list_call cob_records file.now records.old).answer }
     ensures records { records.new ≡ (cob_list_call cob_records file.now records.old).rows }
 {
-    c_cob::answered_code(cob_list::list(file, records))
+    c_codes::count_code(cob_list::list(file, records))
 }
 
 // 2, where the counts of vertices and of faces now stand in the front of the slice, four bytes each; or a refusal.
@@ -299,7 +305,7 @@ pub extern "C" fn tds_cob_sizes(file: &[u8], mesh: u32, sizes: &mut [u8]) -> u64
     ensures answer { result ≡ count_or (cob_sizes_call (number_bytes 4) file.now mesh sizes.old).answer }
     ensures sizes { sizes.new ≡ (cob_sizes_call (number_bytes 4) file.now mesh sizes.old).rows }
 {
-    c_cob::answered_code(cob_tables::sizes(file, mesh, sizes))
+    c_codes::count_code(cob_tables::sizes(file, mesh, sizes))
 }
 
 // The count of vertices that now stand in the front of the first slice, and corners in the second, or a refusal.
@@ -315,7 +321,7 @@ pub extern "C" fn tds_cob_tables(
     ensures rows { cob_rows vertices.new corners.new ≡
         (cob_tables_call (number_bytes 4) file.now mesh (cob_rows vertices.old corners.old)).rows }
 {
-    c_cob::answered_code(cob_tables::tables(file, mesh, vertices, corners))
+    c_codes::count_code(cob_tables::tables(file, mesh, vertices, corners))
 }
 
 // The count of meshes, whose eight numbers each now stand in the front of the slice, or a refusal.
@@ -324,7 +330,7 @@ pub extern "C" fn tds_cob_meshes(file: &[u8], meshes: &mut [u8]) -> u64
     ensures answer { result ≡ count_or (cob_meshes_call cob_mesh_bytes file.now meshes.old).answer }
     ensures meshes { meshes.new ≡ (cob_meshes_call cob_mesh_bytes file.now meshes.old).rows }
 {
-    c_cob::answered_code(cob_meshes::meshes(file, meshes))
+    c_codes::count_code(cob_meshes::meshes(file, meshes))
 }
 
 // ---- a stick

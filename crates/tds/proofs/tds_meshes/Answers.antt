@@ -1,7 +1,7 @@
 -- The answer about all meshes, as a number; the slice is as it left it.
 use mathlib.Core.Path.{ap, ◌∙◌}
-use Rattle.c_counted.specs.Codes.{counted_or}
+use Rattle.c_codes.specs.Codes.{count_or}
 use Rattle.tds.proofs.tds_meshes.Goals as goal
 
 pub returns : goal.returns
-returns c = record { answer = c.counted_code.ensures ∙ ap counted_or c.meshes_bytes.ensures.answer; meshes = c.meshes_bytes.ensures.filled }
+returns c = record { answer = c.count_code.ensures ∙ ap count_or c.meshes_bytes.ensures.answer; meshes = c.meshes_bytes.ensures.filled }
