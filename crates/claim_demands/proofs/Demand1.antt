@@ -12,7 +12,6 @@ use Rattle.shared_words.specs.Picked.{pick_mesh}
 use Rattle.studio_rules.specs.declared.Record.{Record}
 use Rattle.shared_words.specs.declared.Refusal.{Refusal}
 use Rattle.shared_words.specs.declared.Refusal.TheVariants.{NoRoom, NoSuchMesh, Empty}
-use Rattle.studio_rules.specs.declared.Boxed.{Boxed}
 use Rattle.studio_rules.specs.Layout.{Run, figure, bytes}
 use Rattle.shared_words.specs.Conditions.{Answer, refused, accepted, broken}
 use Rattle.studio_rules.specs.Walk.{verdict}
@@ -24,7 +23,6 @@ use Rattle.studio_counted.proofs.All.{all-parts}
 use Rattle.studio_meshes_rules.specs.Standing.{standing}
 use Rattle.studio_meshes_rules.specs.Calls.{meshes_call}
 use Rattle.studio_meshes_rules.specs.Boxes.{boxes_call}
-use Rattle.studio_rescue_rules.specs.declared.Mended.{Mended}
 use Rattle.studio_rescue_rules.specs.Rescue.{Cut, Rescued, beyond, saved, rescue}
 use Rattle.studio_rescue_rules.specs.Call.{Lent, call_of, rescue_call}
 use Rattle.studio_write_judge.specs.Judged.{judged}
@@ -42,17 +40,9 @@ use Rattle.cob_rules.specs.Calls.{check_call as cob_check_call, give, list_call 
 use Rattle.c4d_rules.specs.Walk.{verdict as c4d_verdict}
 use Rattle.c4d_rules.specs.Calls.{objects_call, c4d_check_call, c4d_list_call}
 use Rattle.claim_demands.specs.Demand1.{Answered, AnsweredOn, around, mended, good, Demand1}
-use Rattle.claim_demands.proofs.Refused.{Apart, apart, refuses, leaves}
+use Rattle.claim_demands.proofs.Refused.{apart, refuses, leaves}
 use Rattle.claim_demands.proofs.Formats.{summed, matched, slip-given, slip-written, cob_leaves, cob_checked, cob_given, cob_listed, cob_tabled, cob_all, cob_by_mesh, c4d_checked, c4d_listed}
 use Rattle.shared_words.proofs.Bools.{by_test}
-
--- ---- an answer is no two refusals
-
-box-apart : Apart Boxed.Refused
-box-apart r q e = cc
-
-mended-apart : Apart Mended.Refused
-mended-apart r q e = cc
 
 -- ---- what holds of each line of a fold holds of the fold
 
@@ -93,17 +83,17 @@ all_things things e row (accepted kids) =
     by_test (AnsweredOn Ok Err row) (leb (length (things kids)) (e.room (length row)))
     (inl (length (things kids), refl)) (leaves Ok Err apart row (NoRoom (length (things kids))))
 
-boxed : (m : Mesh) → Answered around Boxed.Refused (around_of m)
-boxed m = by_test (Answered around Boxed.Refused) (eqb m.vertex_count 0) (refuses around Boxed.Refused box-apart Empty) (inl (_, refl))
+boxed : (m : Mesh) → Answered around Err (around_of m)
+boxed m = by_test (Answered around Err) (eqb m.vertex_count 0) (refuses around Err apart Empty) (inl (_, refl))
 
-rescued : {A : Type 0} (e : Encoding Cut A) (rows : Lent A) (x : Rescued) → AnsweredOn mended Mended.Refused rows (call_of e rows x)
-rescued e rows (beyond r) = leaves mended Mended.Refused mended-apart rows r
+rescued : {A : Type 0} (e : Encoding Cut A) (rows : Lent A) (x : Rescued) → AnsweredOn mended Err rows (call_of e rows x)
+rescued e rows (beyond r) = leaves mended Err apart rows r
 rescued e rows (saved s cuts) =
-    by_test (AnsweredOn mended Mended.Refused rows) (leb (length cuts) (e.room (length rows.cuts)))
-    (by_test (AnsweredOn mended Mended.Refused rows) (leb (length s) (length rows.out))
+    by_test (AnsweredOn mended Err rows) (leb (length cuts) (e.room (length rows.cuts)))
+    (by_test (AnsweredOn mended Err rows) (leb (length s) (length rows.out))
     (inl ((length cuts, length s), refl))
-    (leaves mended Mended.Refused mended-apart rows (NoRoom (length s))))
-    (leaves mended Mended.Refused mended-apart rows (NoRoom (length cuts)))
+    (leaves mended Err apart rows (NoRoom (length s))))
+    (leaves mended Err apart rows (NoRoom (length cuts)))
 
 written : (file out : List ℕ) (w : Result ℕ Refusal) → AnsweredOn Ok Err out (writing file out w)
 written file out (Err r) = leaves Ok Err apart out r
@@ -129,7 +119,7 @@ demand1 = record {
   name = λ s mesh.
       by-mesh (Answered Ok Err) Err name_of (refuses Ok Err apart) (λ m. inl (_, refl)) mesh (verdict s);
   box = λ s mesh.
-      by-mesh (Answered around Boxed.Refused) Boxed.Refused around_of (refuses around Boxed.Refused box-apart) boxed mesh (verdict s);
+      by-mesh (Answered around Err) Err around_of (refuses around Err apart) boxed mesh (verdict s);
   rescue = λ e s rows. rescued e rows (rescue s);
   write = λ name vertices corners out. written (bare_bytes name vertices corners) out (judged name vertices corners (length out));
   figure = λ rows out. written (bytes (figure (layout (described rows)))) out (judged_flat rows (length out));

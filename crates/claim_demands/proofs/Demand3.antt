@@ -11,7 +11,6 @@ use borrow.Author.Tests.{le-leb, lt-leb}
 use Rattle.shared_words.specs.declared.Refusal.{Refusal}
 use Rattle.shared_words.specs.declared.Refusal.TheVariants.{NoSuchMesh}
 use Rattle.shared_words.specs.Picked.{pick_mesh}
-use Rattle.studio_rules.specs.declared.Boxed.{Boxed}
 use Rattle.studio_rules.specs.Layout.{figure, bytes}
 use Rattle.shared_words.specs.Conditions.{accepted}
 use Rattle.studio_rules.specs.Walk.{verdict}
@@ -87,7 +86,7 @@ module _ (m : Marked) (s s' : List ℕ) (v : verdict s ≡ accepted (without m))
             (λ old new h. rw (h.vertices-same, h.corners-same, h.mapping_same, h.vertex-count-same, h.face-count-same, h.pair_count_same)) mesh;
         parts_same = λ e row. rw (v, v', d.parts_same);
         box-same =
-            of-one-mesh Boxed.Refused around_of (λ old new. new ≡ old) (λ r. refl) (λ old new h. rw (h.vertex-count-same, h.vertices-same));
+            of-one-mesh Err around_of (λ old new. new ≡ old) (λ r. refl) (λ old new h. rw (h.vertex-count-same, h.vertices-same));
         name-moved =
             of-one-mesh Err name_of (NameMoved (put_in m)) (λ r. refl) (λ old new h. (h.name-grows, h.name-length-same));
       }

@@ -11,13 +11,13 @@ use Rattle.shared_words.specs.Refusals.{Code, code_of, Numbered}
 use Rattle.shared_words.specs.Encodings.{Encoding}
 use Rattle.shared_words.specs.Effects.{Effect}
 use Rattle.studio_rules.specs.Gives.{Mesh, Part}
-use Rattle.studio_rules.specs.Calls.{check_call, list_call, Rows, Tables, tables_call, name_call, box_call, parts_call}
+use Rattle.studio_rules.specs.Calls.{check_call, list_call, Rows, Tables, tables_call, name_call, box_call, parts_call, box_answer}
 use Rattle.studio_meshes_rules.specs.Standing.{Standing}
 use Rattle.studio_meshes_rules.specs.Calls.{meshes_call}
 use Rattle.studio_meshes_rules.specs.Boxes.{boxes_call}
 use Rattle.studio_rescue_rules.specs.declared.Mended.{Mended}
 use Rattle.studio_rescue_rules.specs.Rescue.{Cut}
-use Rattle.studio_rescue_rules.specs.Call.{Lent, rescue_call}
+use Rattle.studio_rescue_rules.specs.Call.{Lent, rescue_call, mended_answer}
 use Rattle.studio_write.specs.Write.{write_call}
 use Rattle.studio_figure_rules.specs.Described.{Flat, write_flat}
 use Rattle.slip_sums.specs.declared.Sum.{Sum}
@@ -51,12 +51,12 @@ AnsweredOn {X} accept refuse lent e =
     ((x : X) × (e.answer ≡ accept x)) ⊎ ((c : Code) × RefusedWith refuse e.answer c × (e.rows ≡ lent))
 
 -- a box and its centre, as one
-abbrev pub around : BoundingBox × Corner → Boxed
-around b = Boxed.Around b.0 b.1
+abbrev pub around : BoundingBox × Corner → Result Boxed Refusal
+around b = box_answer b.0 b.1
 
 -- how many cuts and how many bytes, as one
-abbrev pub mended : ℕ × ℕ → Mended
-mended x = Mended.Written x.0 x.1
+abbrev pub mended : ℕ × ℕ → Result Mended Refusal
+mended x = mended_answer x.0 x.1
 
 -- nothing is wrong with a stick
 abbrev pub good : Unit {0} → Result Unit Refusal
@@ -79,8 +79,8 @@ pub record Demand1 : Type 1 where
   pub boxes : {A : Type 0} (e : Encoding Mesh A) (s : List ℕ) (row : List A) →
       AnsweredOn Ok Err row (boxes_call e s row)
   pub name : (s : List ℕ) (mesh : ℕ) → Answered Ok Err (name_call s mesh)
-  pub box : (s : List ℕ) (mesh : ℕ) → Answered around Boxed.Refused (box_call s mesh)
-  pub rescue : {A : Type 0} (e : Encoding Cut A) (s : List ℕ) (rows : Lent A) → AnsweredOn mended Mended.Refused rows (rescue_call e s rows)
+  pub box : (s : List ℕ) (mesh : ℕ) → Answered around Err (box_call s mesh)
+  pub rescue : {A : Type 0} (e : Encoding Cut A) (s : List ℕ) (rows : Lent A) → AnsweredOn mended Err rows (rescue_call e s rows)
   pub write : (name : List ℕ) (vertices : List Float) (corners out : List ℕ) →
       AnsweredOn Ok Err out (write_call name vertices corners out)
   pub figure : (rows : Flat) (out : List ℕ) → AnsweredOn Ok Err out (write_flat rows out)

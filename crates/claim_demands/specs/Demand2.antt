@@ -7,7 +7,6 @@ use Rattle.std.proofs.Math.ListN.{get_elem?}
 use Rattle.studio_rules.specs.declared.Record.{Record}
 use Rattle.studio_rules.specs.declared.Counts.{Counts}
 use Rattle.studio_rules.specs.declared.Sizes.{Sizes}
-use Rattle.studio_rules.specs.declared.Boxed.{Boxed}
 use Rattle.shared_words.specs.Bytes.{Bytes}
 use Rattle.studio_rules.specs.Layout.{Run, figure}
 use Rattle.studio_rules.specs.Rules.{Meets}
@@ -15,7 +14,7 @@ use Rattle.studio_rules.specs.Gives.{record_count, list, Mesh, meshes, Part, par
 use Rattle.studio_rules.specs.Box.{bounding_box_of, centre_of}
 use Rattle.shared_words.specs.Encodings.{Encoding}
 use Rattle.shared_words.specs.Effects.{leaving, filled}
-use Rattle.studio_rules.specs.Calls.{counts_of, check_call, list_call, Rows, Tables, fits, sizes_of, rows_with, tables_call, name_call, box_call, parts_call}
+use Rattle.studio_rules.specs.Calls.{counts_of, check_call, list_call, Rows, Tables, fits, sizes_of, rows_with, tables_call, name_call, box_call, parts_call, box_answer}
 use Rattle.studio_meshes_rules.specs.Standing.{Standing, standing}
 use Rattle.studio_meshes_rules.specs.Calls.{meshes_call}
 use Rattle.studio_write.specs.ReadsBack.{WrittenReadsBack}
@@ -48,7 +47,7 @@ pub record Given (s : List ℕ) (kids : Run) : Type 1 where
   pub name-is : (mesh : ℕ) (m : Mesh) → get_elem? (meshes kids) mesh ≡ some m →
       name_call s mesh ≡ Ok record { offset = m.name_at; size = m.name_length }
   pub box-is : (mesh : ℕ) (m : Mesh) → get_elem? (meshes kids) mesh ≡ some m → 0 < m.vertex_count →
-      box_call s mesh ≡ Boxed.Around (bounding_box_of m.vertex_count m.vertices) (centre_of (bounding_box_of m.vertex_count m.vertices))
+      box_call s mesh ≡ box_answer (bounding_box_of m.vertex_count m.vertices) (centre_of (bounding_box_of m.vertex_count m.vertices))
 
 -- ---- the demand
 

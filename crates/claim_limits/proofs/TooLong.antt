@@ -18,9 +18,8 @@ use Rattle.studio_rules.specs.Layout.{Run, size}
 use Rattle.studio_rules.specs.Walk.{walk, version_in, top, figure_at, verdict}
 use Rattle.studio_rules.specs.Calls.{check_of, check_call}
 use Rattle.studio_scene.specs.Passed.{passed}
-use Rattle.studio_rescue_rules.specs.declared.Mended.{Mended}
 use Rattle.studio_rescue_rules.specs.Rescue.{version_of, scene, Cut, Rescued, beyond, saved, mended, rescue_of, rescue}
-use Rattle.studio_rescue_rules.specs.Call.{Lent, call_of, rescue_call}
+use Rattle.studio_rescue_rules.specs.Call.{Lent, call_of, rescue_call, mended_answer}
 use Rattle.studio_rescue_rules.specs.Theorems.{FaultInScene}
 use Rattle.studio_rescue_rules.proofs.First.{first-fault}
 use Rattle.cob_rules.specs.Walk.{Verdict, walk as cob_walk, verdict as cob_verdict}
@@ -79,12 +78,12 @@ rescue-back s (inr w) h =
     go (accepted after) e n = let q = sym (w.saves after e).1 ∙ h in let z : ◌≡◌ {A = ℕ} 0 1 = cc in omega arith
 
 module _ {A : Type 0} (e : Encoding Cut A) (rows : Lent A) where
-  called : (x : Rescued) → (call_of e rows x).answer ≡ Mended.Refused TooLong → x ≡ beyond TooLong
+  called : (x : Rescued) → (call_of e rows x).answer ≡ Err TooLong → x ≡ beyond TooLong
   called (beyond r) h = let z : r ≡ TooLong = cc in ap beyond z
   called (saved file cuts) h = go (leb (length cuts) (e.room (length rows.cuts))) (leb (length file) (length rows.out)) h
     where
-      go : (a b : Bool) → (cond a (cond b (leaving (Mended.Written (length cuts) (length file)) record { cuts = filled (e.encode cuts) rows.cuts; out = filled file rows.out })
-          (leaving (Mended.Refused (NoRoom (length file))) rows)) (leaving (Mended.Refused (NoRoom (length cuts))) rows)).answer ≡ Mended.Refused TooLong → saved file cuts ≡ beyond TooLong
+      go : (a b : Bool) → (cond a (cond b (leaving (mended_answer (length cuts) (length file)) record { cuts = filled (e.encode cuts) rows.cuts; out = filled file rows.out })
+          (leaving (Err (NoRoom (length file))) rows)) (leaving (Err (NoRoom (length cuts))) rows)).answer ≡ Err TooLong → saved file cuts ≡ beyond TooLong
       go true true q = let z : ◌≡◌ {A = ℕ} 0 1 = cc in absurd (omega arith)
       go true false q = let z : ◌≡◌ {A = ℕ} 0 1 = cc in absurd (omega arith)
       go false b q = let z : ◌≡◌ {A = ℕ} 0 1 = cc in absurd (omega arith)

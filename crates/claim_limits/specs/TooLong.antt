@@ -6,7 +6,6 @@ use Rattle.shared_words.specs.Bytes.{Bytes}
 use Rattle.shared_words.specs.Encodings.{Encoding}
 use Rattle.shared_words.specs.Refusals.{limit}
 use Rattle.studio_rules.specs.Calls.{check_call}
-use Rattle.studio_rescue_rules.specs.declared.Mended.{Mended}
 use Rattle.studio_rescue_rules.specs.Rescue.{Cut}
 use Rattle.studio_rescue_rules.specs.Call.{Lent, rescue_call}
 use Rattle.cob_rules.specs.Calls.{check_call as cob_check_call}
@@ -15,6 +14,6 @@ use Rattle.c4d_rules.specs.Calls.{c4d_check_call}
 pub record TooLongExactly : Type 1 where
   pub figure : (s : List ℕ) → (check_call s ≡ Err TooLong) ↔ (limit < length s)
   pub rescue : {A : Type 0} (e : Encoding Cut A) (s : List ℕ) → Bytes s → (rows : Lent A) →
-      ((rescue_call e s rows).answer ≡ Mended.Refused TooLong) ↔ (limit < length s)
+      ((rescue_call e s rows).answer ≡ Err TooLong) ↔ (limit < length s)
   pub caligari : (s : List ℕ) → (cob_check_call s ≡ Err TooLong) ↔ (limit < length s)
   pub cinema : (s : List ℕ) → (c4d_check_call s ≡ Err TooLong) ↔ (limit < length s)

@@ -21,7 +21,7 @@ use Rattle.cob_rules.specs.Calls.{check_of, check_call, give, list_of, list_call
 use Rattle.cob_meshes_rules.specs.Standing.{Standing, standing}
 use Rattle.cob_meshes_rules.specs.Calls.{meshes_of, meshes_call}
 use Rattle.cob_meshes_rules.proofs.Same.{as_many}
-use Rattle.c_cob.specs.Codes.{count_or}
+use Rattle.c_codes.specs.Codes.{count_or}
 use Rattle.claim_numbers.specs.Caligari.{CountTold, CaligariTold}
 use Rattle.claim_numbers.proofs.Tells.{tells}
 use Rattle.claim_numbers.proofs.Conditions.{AnswerTo, and-accepted}

@@ -11,7 +11,7 @@ use Rattle.c4d_rules.specs.Layout.{Layout}
 use Rattle.c4d_rules.specs.Walk.{verdict}
 use Rattle.c4d_rules.specs.Gives.{Object, objects}
 use Rattle.c4d_rules.specs.Calls.{room_conditions, check_of, objects_of, list_of, objects_call, c4d_check_call, c4d_list_call}
-use Rattle.c_c4d.specs.Codes.{objects_or}
+use Rattle.c_codes.specs.Codes.{count_or}
 use Rattle.claim_numbers.specs.Cinema.{ObjectsTold, CinemaTold}
 use Rattle.claim_numbers.proofs.Tells.{tells}
 use Rattle.claim_numbers.proofs.Conditions.{AnswerTo, unless-met, and-accepted}
@@ -31,7 +31,7 @@ within s = and-accepted FewIn limit (verdict s) (verdict_to s) (few s)
 
 -- ---- the calls
 
-check_told : (a : Answer Layout) → AnswerTo limit FewIn a → ObjectsTold (check_of a) (objects_or (check_of a))
+check_told : (a : Answer Layout) → AnswerTo limit FewIn a → ObjectsTold (check_of a) (count_or (check_of a))
 check_told (refused r) h = tells r h
 check_told (accepted l) h = omega arith
 
@@ -40,7 +40,7 @@ objects-few n m (refused r) h = h
 objects-few n m (accepted l) h = unless-met Few limit (room_conditions n m (objects l)) (accepted (objects l)) (search rules) (λ _. h)
 
 list-told : {A B : Type 0} (e : Encoding Object A) (m : Encoding ℕ B) (os : List A) (ms : List B) (a : Answer (List Object)) → AnswerTo limit Few a →
-    ObjectsTold (list_of e m os ms a).answer (objects_or (list_of e m os ms a).answer)
+    ObjectsTold (list_of e m os ms a).answer (count_or (list_of e m os ms a).answer)
 list-told e m os ms (refused r) h = tells r h
 list-told e m os ms (accepted rs) h = omega arith
 

@@ -21,9 +21,8 @@ use Rattle.slip_rules.specs.Slip.{bytes}
 use Rattle.slip_rules.specs.Rules.{most_entries}
 use Rattle.slip_rules.specs.Walk.{Entries, verdict}
 use Rattle.slip_rules.specs.Calls.{read_of, slip_read_call, entries_from, write_conditions, write_of, slip_write_call}
-use Rattle.c_codes.specs.Codes.{size_or}
+use Rattle.c_codes.specs.Codes.{count_or}
 use Rattle.c_sums.specs.Numbers.{sums_or, zero_or}
-use Rattle.c_slip.specs.Codes.{entries_or}
 use Rattle.claim_numbers.specs.Slips.{SumsTold, MatchTold, EntriesTold, SizeTold, SlipsTold}
 use Rattle.claim_numbers.proofs.Tells.{tells}
 use Rattle.claim_numbers.proofs.Conditions.{Ends, AnswerTo}
@@ -42,14 +41,14 @@ match_told sum l first second =
 
 -- ---- the slip
 
-read_told : (e : Encoding Numbers ℕ) (row : List ℕ) (a : Entries) → AnswerTo most (Few most_entries) a → EntriesTold (read_of e row a).answer (entries_or (read_of e row a).answer)
+read_told : (e : Encoding Numbers ℕ) (row : List ℕ) (a : Entries) → AnswerTo most (Few most_entries) a → EntriesTold (read_of e row a).answer (count_or (read_of e row a).answer)
 read_told e row (refused r) h = tells r (omega arith)
 read_told e row (accepted es) h =
     let n = h.count in
-    by_test (λ (x : Effect (Result ℕ Refusal) (List ℕ)). EntriesTold x.answer (entries_or x.answer)) (leb (length es) (e.room (length row))) (omega arith)
+    by_test (λ (x : Effect (Result ℕ Refusal) (List ℕ)). EntriesTold x.answer (count_or x.answer)) (leb (length es) (e.room (length row))) (omega arith)
     (tells (NoRoom (length es)) (omega arith))
 
-write-told : (new out : List ℕ) (r : Option Refusal) → Ends most (length new ≤ most) r → SizeTold (write_of new out r).answer (size_or (write_of new out r).answer)
+write-told : (new out : List ℕ) (r : Option Refusal) → Ends most (length new ≤ most) r → SizeTold (write_of new out r).answer (count_or (write_of new out r).answer)
 write-told new out none h = omega arith
 write-told new out (some r) h = tells r (omega arith)
 

@@ -1,7 +1,7 @@
 -- What C is told of a stick, and of the evidence for a file.
 use Rattle.shared_words.specs.declared.Refusal.{Refusal}
 use Rattle.std.specs.Prelude.{Result, Ok, Err}
-use mathlib.Core.Path.{◌≡◌, refl}
+use mathlib.Core.Path.{refl}
 use mathlib.Core.Logic.{inl, inr}
 use mathlib.Core.List.{List}
 use Prim.Native.Nat.{ℕ}
@@ -9,7 +9,6 @@ use native.Mathlib.Omega.{arith}
 use lib.Dec.{eqb}
 use lib.ListN.{length}
 use Rattle.shared_words.specs.declared.Refusal.TheVariants.{NoRoom}
-use Rattle.shared_words.specs.Effects.{Effect}
 use Rattle.shared_words.proofs.Bools.{by_test}
 use Rattle.stick_rules.specs.Records.{record_size, judge_call}
 use Rattle.stick_evidence.specs.Evidence.{put_in_item, ending, file_numbers, numbers_of_more}

@@ -1,8 +1,8 @@
 -- What C is told of 3D Studio figures: the bounds on what is accepted make an answer proper, and those on places let a refusal be
 -- read off.
-use Rattle.studio_rules.specs.declared.Counts.{Counts}
-use Rattle.studio_rules.specs.declared.Sizes.{Sizes}
 use Rattle.studio_rules.specs.declared.Span.{Span}
+use Rattle.studio_rules.specs.declared.Sizes.{Sizes}
+use Rattle.studio_rules.specs.declared.Counts.{Counts}
 use Rattle.std.specs.Prelude.{Result, Ok, Err}
 use mathlib.Core.Path.{◌≡◌, refl, sym, subst}
 use mathlib.Core.Bool.{Bool, true, false, cond}
@@ -44,9 +44,8 @@ use Rattle.studio_figure_rules.specs.Judged.{size_of, conditions}
 use Rattle.studio_figure_rules.specs.Described.{Flat, fit_conditions, described, judged_flat, write_flat}
 use Rattle.studio_figure_rules.proofs.Ready.{met_append, each}
 use Rattle.studio_write.specs.Write.{writing, write_call}
-use Rattle.c_codes.specs.Codes.{refusal_code, records_or, sizes_or, numbers_or, size_or}
+use Rattle.c_codes.specs.Codes.{refusal_code, records_or, sizes_or, numbers_or, count_or}
 use Rattle.c_answers.specs.Given.{untouched, given, counts_given, name_given, box_given}
-use Rattle.c_counted.specs.Codes.{counted_or}
 use Rattle.studio_rescue_rules.specs.declared.Mended.{Mended}
 use Rattle.studio_rescue_rules.specs.Rescue.{Cut, Rescued, beyond, saved, rescue}
 use Rattle.studio_rescue_rules.specs.Call.{Lent, call_of, rescue_call}
@@ -78,10 +77,10 @@ list-told {A} e row (accepted kids) h =
 -- ---- all parts, all meshes, and all boxes
 
 all_told : {X A : Type 0} (things : Run → List X) (e : Encoding X A) (row : List A) → ((kids : Run) → length (things kids) ≤ size (figure kids)) → (a : Answer Run) → Within a →
-    CountedTold (all_of things e row a).answer (counted_or (all_of things e row a).answer)
+    CountedTold (all_of things e row a).answer (count_or (all_of things e row a).answer)
 all_told things e row few (refused r) h = tells r h
 all_told {X} {A} things e row few (accepted kids) h =
-    by_test (λ (x : Effect (Result ℕ Refusal) (List A)). CountedTold x.answer (counted_or x.answer)) (leb (length (things kids)) (e.room (length row)))
+    by_test (λ (x : Effect (Result ℕ Refusal) (List A)). CountedTold x.answer (count_or x.answer)) (leb (length (things kids)) (e.room (length row)))
     (omega (arith, few kids)) (tells (NoRoom (length (things kids))) (omega (arith, few kids)))
 
 -- ---- the rescue
@@ -89,7 +88,7 @@ all_told {X} {A} things e row few (accepted kids) h =
 rescue-told : {A : Type 0} (e : Encoding Cut A) (rows : Lent A) (x : Rescued) → RescueWithin x → RescueTold (call_of e rows x).answer (cuts_or (call_of e rows x).answer)
 rescue-told e rows (beyond r) h = tells r h
 rescue-told {A} e rows (saved s cuts) h =
-    let T : Effect Mended (Lent A) → Type 0 = λ x. RescueTold x.answer (cuts_or x.answer) in
+    let T : Effect (Result Mended Refusal) (Lent A) → Type 0 = λ x. RescueTold x.answer (cuts_or x.answer) in
     by_test T (leb (length cuts) (e.room (length rows.cuts))) (by_test T (leb (length s) (length rows.out)) (omega (arith, h.0)) (tells (NoRoom (length s)) h.1)) (tells (NoRoom (length cuts)) h.0)
 
 -- ---- one mesh
@@ -143,18 +142,18 @@ counts-told out (accepted kids) h =
 box-told : (out : List ℕ) (m : Mesh) → BoxTold out (around_of m) (box_given out (around_of m))
 box-told out m =
     let b = bounding_box_of m.vertex_count m.vertices in
-    by_test (λ (x : Boxed). BoxTold out x (box_given out x)) (eqb m.vertex_count 0) (tells Empty (omega arith), refl)
+    by_test (λ (x : Result Boxed Refusal). BoxTold out x (box_given out x)) (eqb m.vertex_count 0) (tells Empty (omega arith), refl)
     (few-told out (nine b (centre_of b)) (omega arith))
 
 -- ---- the writer
 
 write-told : (name : List ℕ) (vertices : List Float) (corners out file : List ℕ) →
-    WriteTold (writing file out (judged name vertices corners (length out))).answer (size_or (writing file out (judged name vertices corners (length out))).answer)
+    WriteTold (writing file out (judged name vertices corners (length out))).answer (count_or (writing file out (judged name vertices corners (length out))).answer)
 unfolding judged
 write-told name vertices corners out file = go (broken (write_conditions name vertices corners (length out))) refl
   where
     go : (r : Option Refusal) → broken (write_conditions name vertices corners (length out)) ≡ r →
-        WriteTold (writing file out (answer_of (figure_size name vertices corners) r)).answer (size_or (writing file out (answer_of (figure_size name vertices corners) r)).answer)
+        WriteTold (writing file out (answer_of (figure_size name vertices corners) r)).answer (count_or (writing file out (answer_of (figure_size name vertices corners) r)).answer)
     go (some r) e = capped r
     go none e =
         let t = met _ e in
@@ -162,11 +161,11 @@ write-told name vertices corners out file = go (broken (write_conditions name ve
         omega arith
 
 -- what the writer of figures with materials writes is within the limit too
-figure-told : (r : Flat) (out file : List ℕ) → WriteTold (writing file out (judged_flat r (length out))).answer (size_or (writing file out (judged_flat r (length out))).answer)
+figure-told : (r : Flat) (out file : List ℕ) → WriteTold (writing file out (judged_flat r (length out))).answer (count_or (writing file out (judged_flat r (length out))).answer)
 unfolding judged_flat
 figure-told r out file = go (broken (fit_conditions r ++ conditions (described r) (length out))) refl
   where
-    go : (x : Option Refusal) → broken (fit_conditions r ++ conditions (described r) (length out)) ≡ x → WriteTold (writing file out (answer_of (size_of (described r)) x)).answer (size_or (writing file out (answer_of (size_of (described r)) x)).answer)
+    go : (x : Option Refusal) → broken (fit_conditions r ++ conditions (described r) (length out)) ≡ x → WriteTold (writing file out (answer_of (size_of (described r)) x)).answer (count_or (writing file out (answer_of (size_of (described r)) x)).answer)
     go (some x) e = capped x
     go none e =
         let l = (each (described r) (length out) (met_append (fit_conditions r) (conditions (described r) (length out)) (met (fit_conditions r ++ conditions (described r) (length out)) e)).1).within-limit in
@@ -190,10 +189,10 @@ studio_told = record {
       mesh-told (λ (x : Result Span Refusal). NameTold out x (name_given out x)) Err name_of (λ r h. (tells r h, refl)) mesh (verdict s) (verdict-within s)
       (λ kids v m g. few-told out (m.name_at ∷ m.name_length ∷ []) (omega arith));
   box = λ s mesh out.
-      mesh-told (λ (x : Boxed). BoxTold out x (box_given out x)) Boxed.Refused around_of (λ r h. (tells r h, refl)) mesh (verdict s) (verdict-within s)
+      mesh-told (λ (x : Result Boxed Refusal). BoxTold out x (box_given out x)) Err around_of (λ r h. (tells r h, refl)) mesh (verdict s) (verdict-within s)
       (λ kids v m g. box-told out m);
   parts = λ {A} e s row.
-      subst (λ (x : Effect (Result ℕ Refusal) (List A)). CountedTold x.answer (counted_or x.answer)) (sym (all-parts e s row)) (all_told parts e row (λ kids. omega (arith, parts-few kids, count_small (figure kids))) (verdict s) (verdict-within s));
+      subst (λ (x : Effect (Result ℕ Refusal) (List A)). CountedTold x.answer (count_or x.answer)) (sym (all-parts e s row)) (all_told parts e row (λ kids. omega (arith, parts-few kids, count_small (figure kids))) (verdict s) (verdict-within s));
   meshes = λ e s row. all_told standing e row (λ kids. standing-few 0 0 0 (figure kids)) (verdict s) (verdict-within s);
   boxes = λ e s row. all_told meshes e row meshes-few (verdict s) (verdict-within s);
   rescue = λ e s b rows. rescue-told e rows (rescue s) (rescue-within s b);

@@ -6,7 +6,7 @@ use Rattle.cob_rules.specs.declared.Record.{Record}
 use Rattle.cob_rules.specs.Calls.{check_call, list_call, sizes_call, Rows, tables_call}
 use Rattle.cob_meshes_rules.specs.Standing.{Standing}
 use Rattle.cob_meshes_rules.specs.Calls.{meshes_call}
-use Rattle.c_cob.specs.Codes.{count_or}
+use Rattle.c_codes.specs.Codes.{count_or}
 use Rattle.claim_numbers.specs.Tells.{Proper, Tells}
 
 abbrev pub CountTold : Result ℕ Refusal → ℕ → Type 0

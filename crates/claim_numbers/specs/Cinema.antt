@@ -4,7 +4,7 @@ use Rattle.std.specs.Prelude.{List, ℕ, Result, Ok, Err}
 use Rattle.shared_words.specs.Encodings.{Encoding}
 use Rattle.c4d_rules.specs.Gives.{Object}
 use Rattle.c4d_rules.specs.Calls.{c4d_check_call, c4d_list_call}
-use Rattle.c_c4d.specs.Codes.{objects_or}
+use Rattle.c_codes.specs.Codes.{count_or}
 use Rattle.claim_numbers.specs.Tells.{Proper, Tells}
 
 abbrev pub ObjectsTold : Result ℕ Refusal → ℕ → Type 0
@@ -12,6 +12,6 @@ ObjectsTold (Ok count) n = Proper n
 ObjectsTold (Err r) n = Tells r n
 
 pub record CinemaTold : Type 1 where
-  pub check : (s : List ℕ) → ObjectsTold (c4d_check_call s) (objects_or (c4d_check_call s))
+  pub check : (s : List ℕ) → ObjectsTold (c4d_check_call s) (count_or (c4d_check_call s))
   pub list : {A B : Type 0} (e : Encoding Object A) (m : Encoding ℕ B) (s : List ℕ) (os : List A) (ms : List B) →
-      ObjectsTold (c4d_list_call e m s os ms).answer (objects_or (c4d_list_call e m s os ms).answer)
+      ObjectsTold (c4d_list_call e m s os ms).answer (count_or (c4d_list_call e m s os ms).answer)

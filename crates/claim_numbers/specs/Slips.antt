@@ -6,9 +6,8 @@ use Rattle.slip_sums.specs.declared.Sum.{Sum}
 use Rattle.slip_sums.specs.Passes.{sums_call, match_of}
 use Rattle.slip_rules.specs.declared.Numbers.{Numbers}
 use Rattle.slip_rules.specs.Calls.{slip_read_call, Given, slip_write_call}
-use Rattle.c_codes.specs.Codes.{size_or}
+use Rattle.c_codes.specs.Codes.{count_or}
 use Rattle.c_sums.specs.Numbers.{sums_or, zero_or}
-use Rattle.c_slip.specs.Codes.{entries_or}
 use Rattle.claim_numbers.specs.Tells.{Proper, Tells}
 
 -- ---- by the answer of the call
@@ -34,6 +33,6 @@ SizeTold (Err r) n = Tells r n
 pub record SlipsTold : Type 0 where
   pub sums : (file : List ℕ) → SumsTold (sums_call file) (sums_or (sums_call file))
   pub matches : (sum : Sum) (l first second : ℕ) → MatchTold (match_of sum l first second) (zero_or (match_of sum l first second))
-  pub read : (e : Encoding Numbers ℕ) (s row : List ℕ) → EntriesTold (slip_read_call e s row).answer (entries_or (slip_read_call e s row).answer)
+  pub read : (e : Encoding Numbers ℕ) (s row : List ℕ) → EntriesTold (slip_read_call e s row).answer (count_or (slip_read_call e s row).answer)
   pub write : (names : List ℕ) (given : Given) (out : List ℕ) →
-      SizeTold (slip_write_call names given out).answer (size_or (slip_write_call names given out).answer)
+      SizeTold (slip_write_call names given out).answer (count_or (slip_write_call names given out).answer)

@@ -1,8 +1,8 @@
 -- What C is told of 3D Studio figures, and what stands in the slices of those calls that give out a few numbers. Nothing is asked of the file, but for the tables and the rescue that it is bytes. Only the
 -- writers can have a place of more than 32 bits, which is told as the largest.
-use Rattle.studio_rules.specs.declared.Counts.{Counts}
-use Rattle.studio_rules.specs.declared.Sizes.{Sizes}
 use Rattle.studio_rules.specs.declared.Span.{Span}
+use Rattle.studio_rules.specs.declared.Sizes.{Sizes}
+use Rattle.studio_rules.specs.declared.Counts.{Counts}
 use Rattle.std.specs.Prelude.{◌≡◌, ◌⊎◌, List, [], ◌∷◌, ℕ, ◌/◌, ◌≤◌, ◌<◌, Float, length, Result, Ok, Err}
 use Rattle.shared_words.specs.declared.Refusal.{Refusal}
 use Rattle.shared_words.specs.declared.Refusal.TheVariants.{NoRoom}
@@ -18,9 +18,8 @@ use Rattle.studio_meshes_rules.specs.Calls.{meshes_call}
 use Rattle.studio_meshes_rules.specs.Boxes.{nine, boxes_call}
 use Rattle.studio_figure_rules.specs.Described.{Flat, write_flat}
 use Rattle.studio_write.specs.Write.{write_call}
-use Rattle.c_codes.specs.Codes.{records_or, sizes_or, numbers_or, size_or}
+use Rattle.c_codes.specs.Codes.{records_or, sizes_or, numbers_or, count_or}
 use Rattle.c_answers.specs.Given.{counts_given, name_given, box_given}
-use Rattle.c_counted.specs.Codes.{counted_or}
 use Rattle.studio_rescue_rules.specs.declared.Mended.{Mended}
 use Rattle.studio_rescue_rules.specs.Rescue.{Cut}
 use Rattle.studio_rescue_rules.specs.Call.{Lent, rescue_call}
@@ -45,9 +44,9 @@ abbrev pub WriteTold : Result ℕ Refusal → ℕ → Type 0
 WriteTold (Ok size) n = Proper n
 WriteTold (Err r) n = TellsCapped r n
 
-abbrev pub RescueTold : Mended → ℕ → Type 0
-RescueTold (Mended.Written cuts size) n = Proper n
-RescueTold (Mended.Refused r) n = Tells r n
+abbrev pub RescueTold : Result Mended Refusal → ℕ → Type 0
+RescueTold (Ok m) n = Proper n
+RescueTold (Err r) n = Tells r n
 
 -- ---- by the answer of the call, where numbers go into a slice `out` of its own; e is what C gets, and what then stands in the slice
 
@@ -69,9 +68,9 @@ abbrev pub NameTold : List ℕ → Result Span Refusal → Effect ℕ (List ℕ)
 NameTold out (Ok span) e = GivenOn out (span.offset ∷ span.size ∷ []) e
 NameTold out (Err r) e = ToldOn out r e
 
-abbrev pub BoxTold : List ℕ → Boxed → Effect ℕ (List ℕ) → Type 0
-BoxTold out (Boxed.Around box centre) e = GivenOn out (nine box centre) e
-BoxTold out (Boxed.Refused r) e = ToldOn out r e
+abbrev pub BoxTold : List ℕ → Result Boxed Refusal → Effect ℕ (List ℕ) → Type 0
+BoxTold out (Ok b) e = GivenOn out (nine b.around b.centre) e
+BoxTold out (Err r) e = ToldOn out r e
 
 -- ---- every call
 
@@ -87,13 +86,13 @@ pub record StudioTold : Type 1 where
   pub counts : (s out : List ℕ) → CountsTold out (check_call s) (counts_given out (check_call s))
   pub name : (s : List ℕ) (mesh : ℕ) (out : List ℕ) → NameTold out (name_call s mesh) (name_given out (name_call s mesh))
   pub box : (s : List ℕ) (mesh : ℕ) (out : List ℕ) → BoxTold out (box_call s mesh) (box_given out (box_call s mesh))
-  pub parts : {A : Type 0} (e : Encoding Part A) (s : List ℕ) (row : List A) → CountedTold (parts_call e s row).answer (counted_or (parts_call e s row).answer)
+  pub parts : {A : Type 0} (e : Encoding Part A) (s : List ℕ) (row : List A) → CountedTold (parts_call e s row).answer (count_or (parts_call e s row).answer)
   pub meshes : {A : Type 0} (e : Encoding Standing A) (s : List ℕ) (row : List A) →
-      CountedTold (meshes_call e s row).answer (counted_or (meshes_call e s row).answer)
+      CountedTold (meshes_call e s row).answer (count_or (meshes_call e s row).answer)
   pub boxes : {A : Type 0} (e : Encoding Mesh A) (s : List ℕ) (row : List A) →
-      CountedTold (boxes_call e s row).answer (counted_or (boxes_call e s row).answer)
+      CountedTold (boxes_call e s row).answer (count_or (boxes_call e s row).answer)
   pub rescue : {A : Type 0} (e : Encoding Cut A) (s : List ℕ) → Bytes s → (rows : Lent A) →
       RescueTold (rescue_call e s rows).answer (cuts_or (rescue_call e s rows).answer)
   pub write : (name : List ℕ) (vertices : List Float) (corners out : List ℕ) →
-      WriteTold (write_call name vertices corners out).answer (size_or (write_call name vertices corners out).answer)
-  pub figure : (rows : Flat) (out : List ℕ) → WriteTold (write_flat rows out).answer (size_or (write_flat rows out).answer)
+      WriteTold (write_call name vertices corners out).answer (count_or (write_call name vertices corners out).answer)
+  pub figure : (rows : Flat) (out : List ℕ) → WriteTold (write_flat rows out).answer (count_or (write_flat rows out).answer)

@@ -13,7 +13,6 @@ use Rattle.shared_words.specs.Lists.{every, All}
 use Rattle.shared_words.specs.Floats.{finite}
 use Rattle.shared_words.proofs.Lists.{all_append}
 use Rattle.shared_words.proofs.Numbers.{length-numbers}
-use Rattle.studio_rules.specs.declared.Boxed.{Boxed}
 use Rattle.studio_rules.specs.declared.Corner.{Corner}
 use Rattle.studio_rules.specs.declared.BoundingBox.{BoundingBox}
 use Rattle.studio_rules.specs.OwnData.{count}
@@ -21,12 +20,14 @@ use Rattle.studio_rules.specs.Layout.{Run, end, skip, known, figure, size, child
 use Rattle.studio_rules.specs.Rules.{Parent, inside, file, version, Obeys, Meets}
 use Rattle.studio_rules.specs.Gives.{Mesh, one_mesh, mesh_of, meshes_of, meshes}
 use Rattle.studio_rules.specs.Box.{bounding_box_of, centre_of}
-use Rattle.studio_rules.specs.Calls.{around_of, box_call}
+use Rattle.studio_rules.specs.Calls.{around_of, box_call, box_answer}
 use Rattle.studio_mesh_find.proofs.Parts.{vertices-finite}
 use Rattle.studio_mesh_box.specs.Around.{Around}
 use Rattle.studio_mesh_box.proofs.Around.{box-is-around}
 use Rattle.claim_places.specs.Boxes.{BoxesAround}
 use Rattle.claim_places.proofs.Names.{picked, mesh-found}
+use Rattle.std.specs.Prelude.{Err, Result}
+use Rattle.studio_rules.specs.declared.Boxed.{Boxed}
 
 -- three finite numbers a vertex
 pub record Drawn (m : Mesh) : Type 0 where
@@ -56,17 +57,19 @@ pub all_drawn : (s : List ℕ) (kids : Run) → Meets s kids → All Drawn (mesh
 all_drawn s kids m = meshes_drawn (file (version kids)) [] 0 0 0 (figure kids) m.chunks
 
 -- an answer that is a box is that of the mesh, which has vertices
-box_of : (m : Mesh) (box : BoundingBox) (centre : Corner) → around_of m ≡ Boxed.Around box centre →
+box_of : (m : Mesh) (box : BoundingBox) (centre : Corner) → around_of m ≡ box_answer box centre →
     (0 < m.vertex_count) × (bounding_box_of m.vertex_count m.vertices ≡ box) × (centre ≡ centre_of box)
 box_of m box centre h = go (eqb m.vertex_count 0) refl h
   where
     b : BoundingBox
     b = bounding_box_of m.vertex_count m.vertices
 
-    same : Boxed.Around b (centre_of b) ≡ Boxed.Around box centre → (b ≡ box) × (centre_of b ≡ centre)
-    same e = (cc, cc)
+    same : box_answer b (centre_of b) ≡ box_answer box centre → (b ≡ box) × (centre_of b ≡ centre)
+    same e =
+        let r : ◌≡◌ {A = Boxed} record { around = b; centre = centre_of b } record { around = box; centre = centre } = cc in
+        (ap (λ (x : Boxed). x.around) r, ap (λ (x : Boxed). x.centre) r)
 
-    go : (t : Bool) → eqb m.vertex_count 0 ≡ t → cond t (Boxed.Refused Empty) (Boxed.Around b (centre_of b)) ≡ Boxed.Around box centre →
+    go : (t : Bool) → eqb m.vertex_count 0 ≡ t → cond t (Err Empty) (box_answer b (centre_of b)) ≡ box_answer box centre →
         (0 < m.vertex_count) × (b ≡ box) × (centre ≡ centre_of box)
     go true e q = let z : ◌≡◌ {A = ℕ} 0 1 = cc in absurd (omega arith)
     go false e q =
@@ -77,7 +80,7 @@ box_of m box centre h = go (eqb m.vertex_count 0) refl h
 pub boxes_around : BoxesAround
 unfolding box_call
 boxes_around s b number box centre h =
-    let f = mesh-found s b Boxed.Refused around_of number (Boxed.Around box centre) never h in
+    let f = mesh-found s b Err around_of number (box_answer box centre) never h in
     let m = f.2 in
     let d = picked Drawn (meshes f.0) number m.0 (all_drawn s f.0 f.1) m.1 in
     let k = box_of m.0 box centre m.2 in
@@ -90,5 +93,5 @@ boxes_around s b number box centre h =
       centre_is = k.2;
     }
   where
-    never : (r : Refusal) → Boxed.Refused r ≡ Boxed.Around box centre → ⊥
+    never : (r : Refusal) → ◌≡◌ {A = Result Boxed Refusal} (Err r) (box_answer box centre) → ⊥
     never r e = let z : ◌≡◌ {A = ℕ} 0 1 = cc in omega arith

@@ -3,14 +3,13 @@ use Rattle.std.specs.Prelude.{◌≡◌, List, ℕ}
 use Rattle.std.proofs.Math.Option.{some}
 use Rattle.std.proofs.Math.ListN.{get_elem?}
 use Rattle.shared_words.specs.Bytes.{Bytes}
-use Rattle.studio_rules.specs.declared.Boxed.{Boxed}
 use Rattle.studio_rules.specs.declared.Corner.{Corner}
 use Rattle.studio_rules.specs.declared.BoundingBox.{BoundingBox}
 use Rattle.studio_rules.specs.Layout.{Run}
 use Rattle.studio_rules.specs.Rules.{Meets}
 use Rattle.studio_rules.specs.Gives.{Mesh, meshes}
 use Rattle.studio_rules.specs.Box.{centre_of}
-use Rattle.studio_rules.specs.Calls.{box_call}
+use Rattle.studio_rules.specs.Calls.{box_call, box_answer}
 use Rattle.studio_mesh_box.specs.Around.{Around}
 
 -- mesh number `number` of the file s, which meets the rules, and its box
@@ -24,4 +23,4 @@ pub record BoxOfMesh (s : List ℕ) (number : ℕ) (box : BoundingBox) (centre :
   pub centre_is : centre ≡ centre_of box
 
 abbrev pub BoxesAround : Type 0
-BoxesAround = (s : List ℕ) → Bytes s → (number : ℕ) (box : BoundingBox) (centre : Corner) → box_call s number ≡ Boxed.Around box centre → BoxOfMesh s number box centre
+BoxesAround = (s : List ℕ) → Bytes s → (number : ℕ) (box : BoundingBox) (centre : Corner) → box_call s number ≡ box_answer box centre → BoxOfMesh s number box centre

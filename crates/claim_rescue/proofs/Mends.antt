@@ -20,13 +20,13 @@ use Rattle.studio_rules.specs.declared.Counts.{Counts}
 use Rattle.studio_rules.specs.Layout.{Run, offset_of}
 use Rattle.studio_rules.specs.Walk.{verdict}
 use Rattle.studio_rules.specs.Calls.{counts_of, check_of, check_call}
-use Rattle.studio_rescue_rules.specs.declared.Mended.{Mended}
 use Rattle.studio_rescue_rules.specs.Rescue.{Cut, Rescued, beyond, saved, mended, rescue_of, rescue}
-use Rattle.studio_rescue_rules.specs.Call.{Lent, call_of, rescue_call}
+use Rattle.studio_rescue_rules.specs.Call.{Lent, call_of, rescue_call, mended_answer}
 use Rattle.studio_rescue_rules.specs.Theorems.{FaultInScene}
 use Rattle.studio_rescue_rules.proofs.Theorems.{result-accepted, accepted_unchanged, cuts_restore, cuts_fail, around-kept}
 use Rattle.studio_rescue_rules.proofs.First.{first-fault}
 use Rattle.claim_rescue.specs.Mends.{Mends, GoesOn, RescueOfCall}
+use Rattle.studio_rescue_rules.specs.declared.Mended.{Mended}
 
 -- ---- the check's answer is the verdict's
 
@@ -49,16 +49,17 @@ module _ {A : Type 0} (e : Encoding Cut A) (rows : Lent A) (count size : ℕ) wh
     pub file-long : length file ≡ size
     pub leaves : (call_of e rows x).rows ≡ record { cuts = filled (e.encode cuts) rows.cuts; out = filled file rows.out }
 
-  taken : (x : Rescued) → (call_of e rows x).answer ≡ Mended.Written count size → Taken x
+  taken : (x : Rescued) → (call_of e rows x).answer ≡ mended_answer count size → Taken x
   taken (beyond r) h = let z : ◌≡◌ {A = ℕ} 0 1 = cc in absurd (omega arith)
   taken (saved file cuts) h = go (leb (length cuts) (e.room (length rows.cuts))) (leb (length file) (length rows.out)) refl refl
     where
       go : (a b : Bool) → leb (length cuts) (e.room (length rows.cuts)) ≡ a → leb (length file) (length rows.out) ≡ b → Taken (saved file cuts)
       go true true p q =
-          let w : Mended.Written (length cuts) (length file) ≡ Mended.Written count size = rw (p, q) at h in
-          record { cuts = cuts; file = file; is = refl; cuts-counted = cc; file-long = cc; leaves = rw (p, q) }
-      go true false p q = let w : Mended.Refused (NoRoom (length file)) ≡ Mended.Written count size = rw (p, q) at h in let z : ◌≡◌ {A = ℕ} 0 1 = cc in absurd (omega arith)
-      go false b p q = let w : Mended.Refused (NoRoom (length cuts)) ≡ Mended.Written count size = rw p at h in let z : ◌≡◌ {A = ℕ} 0 1 = cc in absurd (omega arith)
+          let w : mended_answer (length cuts) (length file) ≡ mended_answer count size = rw (p, q) at h in
+          let r : ◌≡◌ {A = Mended} record { cuts = length cuts; size = length file } record { cuts = count; size = size } = cc in
+          record { cuts = cuts; file = file; is = refl; cuts-counted = ap (λ (x : Mended). x.cuts) r; file-long = ap (λ (x : Mended). x.size) r; leaves = rw (p, q) }
+      go true false p q = let w : Err (NoRoom (length file)) ≡ mended_answer count size = rw (p, q) at h in let z : ◌≡◌ {A = ℕ} 0 1 = cc in absurd (omega arith)
+      go false b p q = let w : Err (NoRoom (length cuts)) ≡ mended_answer count size = rw p at h in let z : ◌≡◌ {A = ℕ} 0 1 = cc in absurd (omega arith)
 
 -- ---- the theorem
 
@@ -92,7 +93,7 @@ unfolding rescue
 rescue-same s r h = ap (rescue_of s) h
 
 by-fault : {A : Type 0} (e : Encoding Cut A) (s : List ℕ) (rows : Lent A) (r : Refusal) → verdict s ≡ refused r → (mended s ≡ verdict s) ⊎ FaultInScene s →
-    (rescue_call e s rows ≡ leaving (Mended.Refused r) rows) ⊎ GoesOn e s rows r
+    (rescue_call e s rows ≡ leaving (Err r) rows) ⊎ GoesOn e s rows r
 by-fault e s rows r v (inl same) = inl (same-call e s rows (beyond r) (rescue-same s r (same ∙ v)))
 by-fault e s rows r v (inr f) =
     let a = f.answered in

@@ -12,9 +12,8 @@ use Rattle.studio_rules.specs.Layout.{size}
 use Rattle.studio_rules.specs.Walk.{length_field, walk, top}
 use Rattle.studio_rules.specs.Calls.{check_call}
 use Rattle.studio_scene.specs.Passed.{passed}
-use Rattle.studio_rescue_rules.specs.declared.Mended.{Mended}
 use Rattle.studio_rescue_rules.specs.Rescue.{version_of, Cut}
-use Rattle.studio_rescue_rules.specs.Call.{Lent, rescue_call}
+use Rattle.studio_rescue_rules.specs.Call.{Lent, rescue_call, mended_answer}
 use Rattle.studio_rescue_rules.specs.Theorems.{Restored, Failed, SameAround, FaultInScene}
 
 -- of the file s so many cuts and so many bytes were answered
@@ -44,14 +43,14 @@ pub record GoesOn {A : Type 0} (e : Encoding Cut A) (s : List ℕ) (rows : Lent 
   pub fault-is : scene.fault ≡ r
   pub behind : (q : Refusal) →
       walk (top (version_of s)) (0x3D3D ∷ passed [] scene.before) (6 + size scene.before + (6 + length scene.body)) scene.back ≡ refused q →
-      rescue_call e s rows ≡ leaving (Mended.Refused q) rows
+      rescue_call e s rows ≡ leaving (Err q) rows
 
 pub record RescueOfCall : Type 1 where
   pub mends : {A : Type 0} (e : Encoding Cut A) (s : List ℕ) → Bytes s → (rows : Lent A) (count bytes : ℕ) →
-      (rescue_call e s rows).answer ≡ Mended.Written count bytes → Mends e s rows count bytes
+      (rescue_call e s rows).answer ≡ mended_answer count bytes → Mends e s rows count bytes
   -- AN ACCEPTED FILE COMES BACK UNCHANGED, with no cuts
   pub unchanged : {A : Type 0} (e : Encoding Cut A) (s : List ℕ) → Bytes s → (rows : Lent A) (counts : Counts) → check_call s ≡ Ok counts → length s ≤ length rows.out →
-      rescue_call e s rows ≡ leaving (Mended.Written 0 (length s)) record { cuts = filled (e.encode []) rows.cuts; out = filled s rows.out }
+      rescue_call e s rows ≡ leaving (mended_answer 0 (length s)) record { cuts = filled (e.encode []) rows.cuts; out = filled s rows.out }
   -- THE FIRST FAULT outside 3D3D's children is answered with its own number, and the rows are as they were
   pub first-fault : {A : Type 0} (e : Encoding Cut A) (s : List ℕ) → Bytes s → (rows : Lent A) (r : Refusal) → check_call s ≡ Err r →
-      (rescue_call e s rows ≡ leaving (Mended.Refused r) rows) ⊎ GoesOn e s rows r
+      (rescue_call e s rows ≡ leaving (Err r) rows) ⊎ GoesOn e s rows r

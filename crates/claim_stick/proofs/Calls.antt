@@ -18,9 +18,7 @@ use Rattle.shared_numbers.proofs.Slices.{drop-take}
 use Rattle.studio_rules.specs.Calls.{check_call}
 use Rattle.cob_rules.specs.Calls.{check_call as cob_check_call}
 use Rattle.c4d_rules.specs.Calls.{c4d_check_call}
-use Rattle.c_codes.specs.Codes.{records_or}
-use Rattle.c_cob.specs.Codes.{count_or}
-use Rattle.c_c4d.specs.Codes.{objects_or}
+use Rattle.c_codes.specs.Codes.{records_or, count_or}
 use Rattle.c_sums.specs.Numbers.{with_part_number, sum_by_parts}
 use Rattle.claim_numbers.specs.Tells.{Tells}
 use Rattle.claim_numbers.specs.Studio.{CheckTold}
@@ -70,10 +68,10 @@ c4d_fits (Err r) n t = told-fits r n t
 answer-fits : (k : ℕ) (s : List ℕ) → answer_of k s < 256 ^ 8
 answer-fits k s = go (eqb k 1) (eqb k 2) (eqb k 3)
   where
-    go : (a b c : Bool) → cond a (records_or (check_call s)) (cond b (count_or (cob_check_call s)) (cond c (objects_or (c4d_check_call s)) 0)) < 256 ^ 8
+    go : (a b c : Bool) → cond a (records_or (check_call s)) (cond b (count_or (cob_check_call s)) (cond c (count_or (c4d_check_call s)) 0)) < 256 ^ 8
     go true b c = studio_fits (check_call s) (records_or (check_call s)) (told.studio.check s)
     go false true c = cob_fits (cob_check_call s) (count_or (cob_check_call s)) (told.caligari.check s)
-    go false false true = c4d_fits (c4d_check_call s) (objects_or (c4d_check_call s)) (told.cinema.check s)
+    go false false true = c4d_fits (c4d_check_call s) (count_or (c4d_check_call s)) (told.cinema.check s)
     go false false false = omega arith
 
 sum_fits : (n : ℕ) (part : List ℕ) → with_part_number n part < 256 ^ 8

@@ -1,7 +1,6 @@
 -- A pass, of the three calls.
-use mathlib.Core.Path.{◌≡◌, refl, sym, ap, ◌∙◌, subst}
-use mathlib.Core.Bool.{true}
-use mathlib.Core.List.{List, [], ◌∷◌, ◌++◌, flatten}
+use mathlib.Core.Path.{◌≡◌, sym, ap, ◌∙◌, subst}
+use mathlib.Core.List.{List, [], ◌∷◌}
 use mathlib.Core.Option.{some}
 use Prim.Native.Nat.{ℕ, zero, suc, ◌+◌, ◌<◌}
 use native.Mathlib.Omega.{arith}
@@ -12,16 +11,15 @@ use Rattle.shared_words.specs.Conditions.{accepted}
 use Rattle.slip_sums.specs.Fletcher.{sum_of}
 use Rattle.slip_rules.specs.Slip.{Entry}
 use Rattle.slip_rules.specs.Rules.{Meets}
-use Rattle.slip_rules.specs.Walk.{Entries, verdict}
+use Rattle.slip_rules.specs.Walk.{verdict}
 use Rattle.slip_rules.proofs.Verdict.{accepted_exactly}
-use Rattle.stick_rules.specs.Items.{Item, is_file}
+use Rattle.stick_rules.specs.Items.{Item}
 use Rattle.stick_rules.specs.Judge.{manifest, entry_of}
-use Rattle.stick_rules.specs.Records.{item_no, items_from, item_count, items_in}
-use Rattle.claim_sums.specs.Damage.{turn}
+use Rattle.stick_rules.specs.Records.{item_no, items_from, item_count}
 use Rattle.claim_sums.proofs.Turned.{one_bit}
 use Rattle.claim_stick.specs.Evidence.{EvidenceOf, OfFile}
-use Rattle.claim_stick.specs.Verified.{entry_sum, VerifiedFile, Verified}
-use Rattle.claim_stick.specs.Calls.{GatheredOf, ByCalls, PassOfCalls, TurnedBitNeverPasses}
+use Rattle.claim_stick.specs.Verified.{entry_sum, VerifiedFile}
+use Rattle.claim_stick.specs.Calls.{GatheredOf, PassOfCalls, TurnedBitNeverPasses}
 use Rattle.claim_stick.proofs.Verified.{pass-is_verified}
 use Rattle.claim_stick.proofs.Calls.{calls_gather}
 

@@ -35,9 +35,7 @@ use Rattle.slip_rules.specs.Slip.{Entry, behind_name, entry_bytes, all_bytes}
 use Rattle.slip_rules.specs.Rules.{remember, AllLawful, Meets}
 use Rattle.slip_rules.specs.Walk.{Entries, verdict as slip_verdict}
 use Rattle.slip_rules.proofs.Verdict.{accepted_exactly as slip-exactly}
-use Rattle.c_codes.specs.Codes.{refusal_code, records_or}
-use Rattle.c_cob.specs.Codes.{count_or}
-use Rattle.c_c4d.specs.Codes.{objects_or}
+use Rattle.c_codes.specs.Codes.{refusal_code, records_or, count_or}
 use Rattle.c_sums.specs.Numbers.{part_number}
 use Rattle.c_sums.proofs.Numbers.{number_by_parts}
 use Rattle.shared_words.specs.declared.Refusal.TheVariants.{Unchecked}
@@ -76,11 +74,11 @@ cob_meets s h = go (cob_verdict s) refl h
     go (refused r) q h = refusal_large r h
     go (accepted l) q h = (l, (cob_exactly s l).0 q)
 
-c4d_meets : (s : List ℕ) → objects_or (c4d_check_call s) < 2 ^ 32 → (l : C4dLayout) × MeetsC4d s l
+c4d_meets : (s : List ℕ) → count_or (c4d_check_call s) < 2 ^ 32 → (l : C4dLayout) × MeetsC4d s l
 unfolding c4d_check_call
 c4d_meets s h = go (c4d_verdict s) refl h
   where
-    go : (a : Answer C4dLayout) → c4d_verdict s ≡ a → objects_or (c4d_check_of a) < 2 ^ 32 → (l : C4dLayout) × MeetsC4d s l
+    go : (a : Answer C4dLayout) → c4d_verdict s ≡ a → count_or (c4d_check_of a) < 2 ^ 32 → (l : C4dLayout) × MeetsC4d s l
     go (refused r) q h = refusal_large r h
     go (accepted l) q h = (l, (c4d_exactly s l).0 q)
 

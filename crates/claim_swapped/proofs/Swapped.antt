@@ -6,7 +6,6 @@ use native.Mathlib.Omega.{arith}
 use mathlib.Core.List.{List, [], ◌++◌, map, append_assoc, append-nil}
 use lib.ListN.{length, length-append, length-map}
 use Rattle.shared_words.specs.declared.Refusal.{Refusal}
-use Rattle.studio_rules.specs.declared.Boxed.{Boxed}
 use Rattle.studio_rules.specs.Layout.{Run, figure, header, size, bytes, known, ◌then◌}
 use Rattle.studio_rules.specs.Rules.{version, Meets}
 use Rattle.studio_rules.specs.Walk.{verdict}
@@ -145,7 +144,7 @@ module _ (before t u after : Run) (w : Swapped t u) where
   renumbered s s' i i' e e' = record {
     tables-same = λ t m rows. rw (e, e') (asked (λ r. leaving (Err r) rows) (tables_of t rows) (λ m. refl) m);
     name-same = λ m. rw (e, e') (letters-of s' (by_swap before w m) (accepted new) ∙ asked-name s s' i i' m ∙ sym (letters-of s m (accepted old)));
-    box-same = λ m. rw (e, e') (asked Boxed.Refused around_of (λ m. refl) m);
+    box-same = λ m. rw (e, e') (asked Err around_of (λ m. refl) m);
   }
 
   pub swap_meets : (s : List ℕ) → Meets s old → SameFigure (by_swap before w) s (file_of before u after) new
