@@ -21,7 +21,11 @@ next_place-q-requires c =
 
 pub put_object-next-requires : goal.put_object-next-requires
 put_object-next-requires c =
-    record { at = (c.loop-i.invariant.1, c.next_place-q.ensures, c.requires.by_index.0 c.loop-i.i (omega arith)); i_in_bounds = omega (arith, c.loop-i.invariant.2, c.requires.n_in_bounds, total_inside (object_bytes c.args.rows.now.objects.now c.args.rows.now.groups.now) c.loop-i.i c.args.n (omega arith)) }
+    record {
+      at = (c.loop-i.invariant.1, c.next_place-q.ensures, c.requires.by_index.0 c.loop-i.i (omega arith));
+      i_in_bounds =
+          omega (arith, c.loop-i.invariant.2, c.requires.n_in_bounds, total_inside (object_bytes c.args.rows.now.objects.now c.args.rows.now.groups.now) c.loop-i.i c.args.n (omega arith));
+    }
 
 pub loop-i-preserved : goal.loop-i-preserved
 loop-i-preserved c =

@@ -19,7 +19,12 @@ judge_object_indices-requires c =
     let l = c.loop-i in
     let s = sum_inside 5 4 a.objects.now l.i a.n (omega arith) in
     let t = sum_inside 5 2 a.objects.now l.i a.n (omega arith) in
-    let u = sum-up 2 1 a.groups.now (l.group + entry 5 4 a.objects.now l.i) (sum_to 5 4 a.objects.now a.n) (omega (arith, l.invariant.1)) in record { i_in_bounds = (omega arith, l.invariant.0, omega (arith, l.invariant.0)); group_value = (l.invariant.1, omega (arith, l.invariant.1)); face_value = (l.invariant.2, omega arith) }
+    let u = sum-up 2 1 a.groups.now (l.group + entry 5 4 a.objects.now l.i) (sum_to 5 4 a.objects.now a.n) (omega (arith, l.invariant.1)) in
+    record {
+      i_in_bounds = (omega arith, l.invariant.0, omega (arith, l.invariant.0));
+      group_value = (l.invariant.1, omega (arith, l.invariant.1));
+      face_value = (l.invariant.2, omega arith);
+    }
 
 pub returns-in_err-judge_object_indices : goal.returns-in_err-judge_object_indices
 returns-in_err-judge_object_indices c =
