@@ -11,14 +11,12 @@ ghost use Rattle.studio_figure_judge.specs.Judged.{groups_at, text_asked, same_a
 use shared_words::Refusal;
 use studio_figure_names::{Question, first_unnamed, judge_differ, judge_names};
 use studio_figure_objects::{
-    judge_counts, judge_floats, judge_indices, materials_size, objects_size,
+    ANY, judge_counts, judge_floats, judge_indices, materials_size, objects_size,
 };
 use studio_figure_rows::{FlatRows, sum};
 
-// The longest file, and more than any sum of lengths of rows.
+// The longest file.
 const LIMIT: usize = 1048576;
-
-const ANY: usize = 0x7FFF_FFFF_FFFF_FFFF;
 
 // 9, or 24: the names of the objects, then those of the materials.
 fn judge_text(
