@@ -7,6 +7,8 @@ ghost use Rattle.std.specs.Prelude.{◌≡◌, ◌+◌, ◌*◌, ◌<◌, ◌≤
 ghost use Rattle.shared_words.specs.Lists.{same};
 ghost use Rattle.shared_name_tree.specs.Names.{name_of, held, mixed, next_of, Holds, Ready, Landed, Grown};
 
+use shared_names::same_bytes;
+
 // How far a search has come: the bits that are left, with a 1 above them, and how many bytes were taken.
 #[derive(Clone, Copy)]
 struct Turn {
@@ -50,7 +52,7 @@ fn is_at(names: &[u8], nodes: &[u32], k: usize, name: &[u8]) -> bool
 {
     let at = nodes[4 * k] as usize;
     let end = at + nodes[4 * k + 1] as usize;
-    &names[at..end] == name
+    same_bytes(&names[at..end], name)
 }
 
 // The search for a name, from the first node: the free link where it ended, or none where it came to the name.
