@@ -12,7 +12,7 @@ ghost use Rattle.c4d_rules.specs.Calls.{object_bytes, two_rows, c4d_list_call};
 ghost use Rattle.c4d_list.specs.Filled.{Fillable, FilledIs};
 
 use c4d_check::read;
-use shared_numbers::put_long;
+use shared_numbers::{put_long, put_word};
 use shared_words::Refusal;
 
 // Puts the three numbers of an object, and answers the position behind them.
@@ -32,7 +32,9 @@ fn put_materials(notes: &[u32], from: usize, to: usize, at: usize, row: &mut [u8
 {
     let mut behind = at;
     for number in &notes[from..to] {
-        behind = put_long(*number, behind, row);
+        // in two halves: a loop over whole numbers would be compiled to memcpy of the C library, which the library does without
+        let high = put_word((*number % 65536) as u16, behind, row);
+        behind = put_word((*number / 65536) as u16, high, row);
     }
     behind
 }

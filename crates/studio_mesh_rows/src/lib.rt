@@ -9,6 +9,7 @@ ghost use Rattle.studio_rules.specs.OwnData.{corners};
 ghost use Rattle.shared_words.specs.Floats.{float};
 ghost use Rattle.shared_words.specs.Effects.{filled};
 
+use shared_copy::put_part;
 use shared_numbers::{float_at, long_at, put_long, put_word, word_at};
 
 // The n floats at a position, into the front of a row.
@@ -39,7 +40,7 @@ pub fn fill_float_bytes(s: &[u8], at: usize, n: usize, row: &mut [u8])
     requires { (at + 4 * n ≤ length s.now) × (4 * n ≤ length row.old) }
     ensures { row.new ≡ filled (packed 4 (numbers 4 n (drop at s.now))) row.old }
 {
-    row[..4 * n].copy_from_slice(&s[at..at + 4 * n]);
+    put_part(s, at, 4 * n, 0, row);
 }
 
 // The bytes of the corners of the n faces at a position, into the front of a row: six of the eight of each face. The first

@@ -11,6 +11,7 @@ ghost use Rattle.shared_numbers.specs.Put.{Put};
 ghost use Rattle.studio_write_judge.specs.Judged.{triples, finite_float, judged};
 ghost use Rattle.studio_write_bytes.specs.Bare.{face_words, name_data, vertex_data, face_data, bare_bytes};
 
+use shared_copy::put_part;
 use shared_numbers::{put_long, put_word};
 
 // The header of a chunk.
@@ -26,8 +27,7 @@ pub fn put_name(name: &[u8], at: usize, out: &mut [u8]) -> usize
     requires { at + length name.now + 1 ≤ length out.old }
     ensures { Put out.old at (name_data name.now) out.new result }
 {
-    let end = at + name.len();
-    out[at..end].copy_from_slice(name);
+    let end = put_part(name, 0, name.len(), at, out);
     out[end] = 0;
     end + 1
 }

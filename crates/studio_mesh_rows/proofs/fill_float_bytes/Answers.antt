@@ -1,11 +1,10 @@
 -- The bytes of the floats are those that stand in the file.
-use mathlib.Core.Path.{◌≡◌}
-use Prim.Native.Nat.{◌+◌, ◌-◌, ◌*◌, ◌≤◌}
+use Prim.Native.Nat.{◌*◌, ◌≤◌}
 use native.Mathlib.Omega.{arith}
 use lib.ListN.{length, drop, length-drop}
-use lib.Seq.{length-take-le}
 use Rattle.shared_words.proofs.Numbers.{numbers-bytes}
 use Rattle.shared_words.proofs.Bytes.{bytes_drop, bytes-all}
+use Rattle.shared_numbers.proofs.Put.{put_front}
 use Rattle.studio_mesh_rows.proofs.fill_float_bytes.Goals as goal
 
 pub returns : goal.returns
@@ -15,5 +14,4 @@ returns c =
     let f = drop a.at s in
     let b = bytes-all s (λ i. omega (arith, c.type_inv.s i)) in
     let l : 4 * a.n ≤ length f = omega (arith, length-drop a.at s) in
-    let e : a.at + 4 * a.n - a.at ≡ 4 * a.n = omega arith in
-    rw (numbers-bytes 4 a.n f (bytes_drop a.at s b) l, length-take-le (4 * a.n) f l, c.copy_from_slice.ensures.after, e)
+    rw (numbers-bytes 4 a.n f (bytes_drop a.at s b) l) (put_front c.put_part.ensures)
