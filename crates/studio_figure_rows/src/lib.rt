@@ -96,6 +96,34 @@ impl<'a> FlatRows<'a> {
     ghost use Rattle.shared_words.specs.Conditions.{answered};
     ghost use Rattle.studio_figure_rows.specs.Given.{given};
     ghost use Rattle.studio_figure_rules.specs.Described.{fit_conditions};
+    ghost use Rattle.studio_figure_rows.specs.Rows.{flat};
+
+    // Any nine rows. What the types say of them is shown here, so that a caller has nothing to show.
+    pub fn new(
+        names: &'a [u8],
+        objects: &'a [u32],
+        vertices: &'a [f32],
+        corners: &'a [u16],
+        smoothing: &'a [u32],
+        groups: &'a [u32],
+        faces: &'a [u16],
+        materials: &'a [u32],
+        colours: &'a [u8],
+    ) -> FlatRows<'a>
+        ensures { given result ≡ flat names.now objects.now vertices.now corners.now smoothing.now groups.now faces.now materials.now colours.now }
+    {
+        FlatRows {
+            names,
+            objects,
+            vertices,
+            corners,
+            smoothing,
+            groups,
+            faces,
+            materials,
+            colours,
+        }
+    }
 
     // The first row, in the order of the description, whose length is not what it says.
     pub fn fits(&self) -> Result<(), Refusal>

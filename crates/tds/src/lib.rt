@@ -182,17 +182,9 @@ pub extern "C" fn tds_write_figure(
     ensures out { out.new ≡ (write_flat (flat names.now objects.now vertices.now corners.now
         smoothing.now groups.now faces.now materials.now colours.now) out.old).rows }
 {
-    let rows = FlatRows {
-        names,
-        objects,
-        vertices,
-        corners,
-        smoothing,
-        groups,
-        faces,
-        materials,
-        colours,
-    };
+    let rows = FlatRows::new(
+        names, objects, vertices, corners, smoothing, groups, faces, materials, colours,
+    );
     c_codes::count_code(studio_figure::write_figure(&rows, out))
 }
 

@@ -1,6 +1,5 @@
 -- `studio_figure_rows::FlatRows::fits` meets its contract: its tests are the conditions in their order.
 use mathlib.Core.Path.{refl, sym, ◌∙◌}
-use native.Mathlib.Omega.{arith}
 use borrow.Author.Tests.{eq-eqb, ne_eqb}
 use Rattle.studio_figure_rows.specs.Given.{given}
 use Rattle.studio_figure_rows.proofs.Fitting.{misfit, fitting}
